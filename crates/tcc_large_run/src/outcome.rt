@@ -56,11 +56,11 @@ impl Outcome {
         rt: &(impl Threads + Sync),
         alloc: Global,
         snapshot: &Snapshot,
-        options: Options,
+        options: &Options,
         gate: &G,
     ) -> Result<Outcome, NoMemory>
         requires small { KeepsLimits snapshot.now }
-        ensures { IfOk result (IsOutcome options.level snapshot.now) }
+        ensures { IfOk result (IsOutcome options.now.level snapshot.now) }
     {
         match explain(rt, alloc, snapshot, options.level, options.workers, gate) {
             Ok(answer) => Ok(Outcome::Answered(answer)),
@@ -90,10 +90,10 @@ impl Outcome {
         rt: &(impl Threads + Sync),
         alloc: Global,
         snapshot: &LargeSnapshot,
-        options: Options,
+        options: &Options,
         gate: &G,
     ) -> Result<Outcome, NoMemory>
-        ensures { IfOk result (IsOutcome options.level snapshot.now) }
+        ensures { IfOk result (IsOutcome options.now.level snapshot.now) }
     {
         if let Some(small) = snapshot.small_copy(alloc)? {
             return Outcome::of_small(rt, alloc, &small, options, gate);

@@ -39,13 +39,13 @@ fn say<W: Write, N: Write, G: Watcher>(
     rt: &(impl Threads + Sync),
     alloc: Global,
     snapshot: &LargeSnapshot,
-    options: Options,
+    options: &Options,
     watcher: &G,
     out: &mut W,
     notes: &mut N,
 ) -> Result<Last, u8>
-    ensures { MatchResult result (SaysLast options snapshot.now (W.contents out.old) (W.contents out.new))
-        (EndsAnswering options snapshot.now (W.contents out.old) (W.contents out.new)) }
+    ensures { MatchResult result (SaysLast options.now snapshot.now (W.contents out.old) (W.contents out.new))
+        (EndsAnswering options.now snapshot.now (W.contents out.old) (W.contents out.new)) }
 {
     watcher.begin(Stage::Deciding);
     let decided = Outcome::of(rt, alloc, snapshot, options, watcher);
@@ -69,7 +69,7 @@ fn say_last<W: Write, N: Write, G: Watcher>(
     alloc: Global,
     snapshot: &LargeSnapshot,
     last: Option<Last>,
-    options: Options,
+    options: &Options,
     watcher: &G,
     out: &mut W,
     notes: &mut N,
@@ -77,8 +77,8 @@ fn say_last<W: Write, N: Write, G: Watcher>(
     ensures said { IfSome last (λ last. last.transactions ≡ transaction_count snapshot.now → (W.contents out.new ≡ W.contents out.old)
         × (result ≡ Ok last)) }
     ensures due { IfSome last (λ last. last.transactions ≢ transaction_count snapshot.now)
-        → MatchResult result (SaysLast options snapshot.now (W.contents out.old) (W.contents out.new))
-        (EndsAnswering options snapshot.now (W.contents out.old) (W.contents out.new)) }
+        → MatchResult result (SaysLast options.now snapshot.now (W.contents out.old) (W.contents out.new))
+        (EndsAnswering options.now snapshot.now (W.contents out.old) (W.contents out.new)) }
 {
     if let Some(last) = last {
         if last.transactions == snapshot.transactions() {
@@ -115,15 +115,15 @@ fn answer_all<R: Read + Drop, W: Write, N: Write, G: Watcher>(
     rt: &(impl Threads + Sync),
     alloc: Global,
     recording: &mut LargeRecording<R>,
-    options: Options,
+    options: &Options,
     watcher: &G,
     out: &mut W,
     notes: &mut N,
 ) -> Result<Last, u8>
     ensures answers { (bytes : List ℕ) → IsRecording Large R.remaining recording.old [] (answers_of bytes) → IsWithin R.remaining recording.old.rows (records_of bytes)
         → fault_met recording.old.rows ≡ None
-        → MatchResult result (AllAnswered options bytes (W.contents out.old) (W.contents out.new))
-        (EndsEarly options bytes (W.contents out.old) (W.contents out.new)) }
+        → MatchResult result (AllAnswered options.now bytes (W.contents out.old) (W.contents out.new))
+        (EndsEarly options.now bytes (W.contents out.old) (W.contents out.new)) }
     ensures finished { (bytes : List ℕ) → IsRecording Large R.remaining recording.old [] (answers_of bytes)
         → IfOk result (λ _. recording.new.snapshot ≡ finished bytes) }
 {
@@ -163,12 +163,12 @@ fn send_slice<W: Write, S: Write, N: Write, G: Watcher>(
     snapshot: &LargeSnapshot,
     links: &[Link],
     file: &mut S,
-    options: Options,
+    options: &Options,
     watcher: &G,
     out: &mut W,
     notes: &mut N,
 ) -> Result<(), u8>
-    ensures { SendsSlice options snapshot.now result (W.contents out.old) (W.contents out.new) (S.contents file.old) (S.contents file.new) }
+    ensures { SendsSlice options.now snapshot.now result (W.contents out.old) (W.contents out.new) (S.contents file.old) (S.contents file.new) }
 {
     watcher.begin(Stage::Slicing);
     let made = slice_text(alloc, snapshot, options.level, links);
@@ -192,12 +192,12 @@ fn write_slice<W: Write, S: Write, N: Write, G: Watcher>(
     snapshot: &LargeSnapshot,
     outcome: &Outcome,
     slice: &mut Option<S>,
-    options: Options,
+    options: &Options,
     watcher: &G,
     out: &mut W,
     notes: &mut N,
 ) -> Result<(), u8>
-    ensures { WritesSlice options snapshot.now (outcome_said options outcome.now) result (W.contents out.old) (W.contents out.new) (option_map S.contents slice.old)
+    ensures { WritesSlice options.now snapshot.now (outcome_said options.now outcome.now) result (W.contents out.old) (W.contents out.new) (option_map S.contents slice.old)
         (option_map S.contents slice.new) }
 {
     let Some(links) = outcome.links() else {
@@ -216,12 +216,12 @@ fn conclude<W: Write, S: Write, N: Write, G: Watcher>(
     snapshot: &LargeSnapshot,
     last: Last,
     slice: &mut Option<S>,
-    options: Options,
+    options: &Options,
     watcher: &G,
     out: &mut W,
     notes: &mut N,
 ) -> u8
-    ensures { Concludes options snapshot.now (outcome_said options last.outcome) (W.contents out.old) (W.contents out.new) (option_map S.contents slice.old)
+    ensures { Concludes options.now snapshot.now (outcome_said options.now last.outcome) (W.contents out.old) (W.contents out.new) (option_map S.contents slice.old)
         (option_map S.contents slice.new) result }
 {
     let status = last.outcome.status(options.required);
@@ -251,12 +251,12 @@ fn run_recording<R: Read + Drop, W: Write, S: Write, N: Write, G: Watcher>(
     out: &mut W,
     slice: &mut Option<S>,
     notes: &mut N,
-    options: Options,
+    options: &Options,
     watcher: &G,
 ) -> u8
     ensures { (bytes : List ℕ) → IsRecording Large R.remaining recording.old [] (answers_of bytes) → IsWithin R.remaining recording.old.rows (records_of bytes)
         → fault_met recording.old.rows ≡ None
-        → IsLargeRun options bytes (W.contents out.old) (W.contents out.new) (option_map S.contents slice.old) (option_map S.contents slice.new) result }
+        → IsLargeRun options.now bytes (W.contents out.old) (W.contents out.new) (option_map S.contents slice.old) (option_map S.contents slice.new) result }
 {
     match answer_all(rt, alloc, recording, options, watcher, out, notes) {
         Ok(last) => conclude(
@@ -305,7 +305,7 @@ pub fn run_large<R: Read + Drop, W: Write, S: Write, N: Write, G: Watcher>(
                 out,
                 slice,
                 notes,
-                options,
+                &options,
                 watcher,
             )
         }

@@ -52,16 +52,16 @@ fn renew<W: Write, G: Gate>(
     alloc: Global,
     snapshot: &Snapshot,
     last: Option<Last>,
-    options: Options,
+    options: &Options,
     gate: &G,
     out: &mut W,
 ) -> Result<Last, u8>
-    requires earlier { IfSome last (Follows options.level snapshot.now) }
+    requires earlier { IfSome last (Follows options.now.level snapshot.now) }
     ensures again { IfSome last (λ last. last.transactions ≡ transaction_count snapshot.now → (W.contents out.new ≡ W.contents out.old) × (result ≡ Ok last)) }
     ensures anew { IfSome last (λ last. last.transactions ≢ transaction_count snapshot.now)
-        → MatchResult result (λ next. (W.contents out.new ≡ W.contents out.old) × IsFor options.level snapshot.now next)
-        (Prints (W.contents out.old) (W.contents out.new) (memory_line options.json) Status.Memory) }
-    ensures earlier { IfOk result (Follows options.level snapshot.now) }
+        → MatchResult result (λ next. (W.contents out.new ≡ W.contents out.old) × IsFor options.now.level snapshot.now next)
+        (Prints (W.contents out.old) (W.contents out.new) (memory_line options.now.json) Status.Memory) }
+    ensures earlier { IfOk result (Follows options.now.level snapshot.now) }
 {
     let transactions = snapshot.transactions();
     let mut earlier = None;
@@ -88,16 +88,16 @@ fn answer_seal<W: Write, N: Write, G: Gate>(
     alloc: Global,
     snapshot: &Snapshot,
     last: Option<Last>,
-    options: Options,
+    options: &Options,
     gate: &G,
     out: &mut W,
     notes: &mut N,
 ) -> Result<Last, u8>
-    requires earlier { IfSome last (Follows options.level snapshot.now) }
-    ensures earlier { IfOk result (Follows options.level snapshot.now) }
-    ensures said { IsStill options.level snapshot.now last
-        → MatchResult result (SaysLast options snapshot.now (W.contents out.old) (W.contents out.new))
-        (EndsAnswering options snapshot.now (W.contents out.old) (W.contents out.new)) }
+    requires earlier { IfSome last (Follows options.now.level snapshot.now) }
+    ensures earlier { IfOk result (Follows options.now.level snapshot.now) }
+    ensures said { IsStill options.now.level snapshot.now last
+        → MatchResult result (SaysLast options.now snapshot.now (W.contents out.old) (W.contents out.new))
+        (EndsAnswering options.now snapshot.now (W.contents out.old) (W.contents out.new)) }
 {
     let said = renew(rt, alloc, snapshot, last, options, gate, out)?;
     said.outcome.send(alloc, options.json, out)?;
@@ -112,17 +112,17 @@ fn answer_last<W: Write, N: Write, G: Gate>(
     alloc: Global,
     snapshot: &Snapshot,
     last: Option<Last>,
-    options: Options,
+    options: &Options,
     gate: &G,
     out: &mut W,
     notes: &mut N,
 ) -> Result<Option<Answer>, u8>
-    requires earlier { IfSome last (Follows options.level snapshot.now) }
+    requires earlier { IfSome last (Follows options.now.level snapshot.now) }
     ensures said { IfSome last (λ last. last.transactions ≡ transaction_count snapshot.now → (W.contents out.new ≡ W.contents out.old)
         × (result ≡ Ok (answer_in last.outcome))) }
     ensures due { IfSome last (λ last. last.transactions ≢ transaction_count snapshot.now)
-        → MatchResult result (AnswersKept options snapshot.now (W.contents out.old) (W.contents out.new))
-        (EndsAnswering options snapshot.now (W.contents out.old) (W.contents out.new)) }
+        → MatchResult result (AnswersKept options.now snapshot.now (W.contents out.old) (W.contents out.new))
+        (EndsAnswering options.now snapshot.now (W.contents out.old) (W.contents out.new)) }
 {
     let due = is_due(&last, snapshot.transactions());
     let last = renew(rt, alloc, snapshot, last, options, gate, out)?;
@@ -139,15 +139,15 @@ fn answer_all<R: Read + Drop, W: Write, N: Write, G: Gate>(
     rt: &(impl Threads + Sync),
     alloc: Global,
     recording: &mut Recording<R>,
-    options: Options,
+    options: &Options,
     gate: &G,
     out: &mut W,
     notes: &mut N,
 ) -> Result<Option<Answer>, u8>
     ensures { (bytes : List ℕ) → IsRecording Small R.remaining recording.old [] (answers_of bytes) → IsWithin R.remaining recording.old.rows (records_of bytes)
         → fault_met recording.old.rows ≡ None
-        → MatchResult result (AllAnswered options bytes (W.contents out.old) (W.contents out.new))
-        (EndsEarly options bytes (W.contents out.old) (W.contents out.new)) }
+        → MatchResult result (AllAnswered options.now bytes (W.contents out.old) (W.contents out.new))
+        (EndsEarly options.now bytes (W.contents out.old) (W.contents out.new)) }
 {
     let mut last: Option<Last> = None;
     'moments: for _turn in 0..u64::MAX {
@@ -182,13 +182,13 @@ fn answer_records<R: Read + Drop, W: Write, N: Write, G: Gate>(
     rt: &(impl Threads + Sync),
     alloc: Global,
     reader: R,
-    options: Options,
+    options: &Options,
     gate: &G,
     out: &mut W,
     notes: &mut N,
 ) -> Result<Option<Answer>, u8>
-    ensures { IfSome (R.remaining reader) (λ bytes. MatchResult result (AllAnswered options bytes (W.contents out.old) (W.contents out.new))
-        (EndsEarly options bytes (W.contents out.old) (W.contents out.new))) }
+    ensures { IfSome (R.remaining reader) (λ bytes. MatchResult result (AllAnswered options.now bytes (W.contents out.old) (W.contents out.new))
+        (EndsEarly options.now bytes (W.contents out.old) (W.contents out.new))) }
 {
     match Recording::new(alloc, reader) {
         Ok(recording) => {
@@ -216,11 +216,11 @@ fn conclude<W: Write, C: Write, N: Write>(
     alloc: Global,
     last: &Option<Answer>,
     file: &mut Option<C>,
-    options: Options,
+    options: &Options,
     out: &mut W,
     notes: &mut N,
 ) -> u8
-    ensures { Concludes options last.now (W.contents out.old) (W.contents out.new) (option_map C.contents file.old) (option_map C.contents file.new) result }
+    ensures { Concludes options.now last.now (W.contents out.old) (W.contents out.new) (option_map C.contents file.old) (option_map C.contents file.new) result }
 {
     if let Some(answer) = last {
         if send_certificate(answer, file).is_err() {
@@ -264,8 +264,8 @@ pub fn run_explain<R: Read + Drop, W: Write, C: Write, N: Write, G: Gate>(
     ensures { IfSome (R.remaining reader) (λ bytes. IsRun options bytes (W.contents out.old) (W.contents out.new) (option_map C.contents certificate.old)
         (option_map C.contents certificate.new) result) }
 {
-    match answer_records(rt, alloc, reader, options, gate, out, notes) {
-        Ok(last) => conclude(alloc, &last, certificate, options, out, notes),
+    match answer_records(rt, alloc, reader, &options, gate, out, notes) {
+        Ok(last) => conclude(alloc, &last, certificate, &options, out, notes),
         Err(code) => code,
     }
 }

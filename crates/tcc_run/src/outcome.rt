@@ -44,11 +44,11 @@ fn work_out<G: Gate>(
     alloc: Global,
     snapshot: &Snapshot,
     earlier: &Option<Anomaly>,
-    options: Options,
+    options: &Options,
     gate: &G,
 ) -> Result<Answer, ExplainFault>
-    requires earlier { IfSome earlier.now (IsEarlier options.level snapshot.now) }
-    ensures { MatchResult result (IsAnswerOfSnapshot snapshot.now options.level) (IsRefusal snapshot.now) }
+    requires earlier { IfSome earlier.now (IsEarlier options.now.level snapshot.now) }
+    ensures { MatchResult result (IsAnswerOfSnapshot snapshot.now options.now.level) (IsRefusal snapshot.now) }
 {
     let Some(anomaly) = earlier else {
         return explain_snapshot(rt, alloc, snapshot, options.level, options.workers, gate);
@@ -71,12 +71,12 @@ impl Outcome {
         alloc: Global,
         snapshot: &Snapshot,
         earlier: Option<Anomaly>,
-        options: Options,
+        options: &Options,
         gate: &G,
     ) -> Result<Outcome, NoMemory>
-        requires earlier { IfSome earlier (IsEarlier options.level snapshot.now) }
-        ensures outcome { IfOk result (IsOutcome options.level snapshot.now) }
-        ensures earlier { IfOk result (HasEarlier options.level snapshot.now) }
+        requires earlier { IfSome earlier (IsEarlier options.now.level snapshot.now) }
+        ensures outcome { IfOk result (IsOutcome options.now.level snapshot.now) }
+        ensures earlier { IfOk result (HasEarlier options.now.level snapshot.now) }
     {
         match work_out(rt, alloc, snapshot, &earlier, options, gate) {
             Ok(answer) => Ok(Outcome::Answered(answer)),

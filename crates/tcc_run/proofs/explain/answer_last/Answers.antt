@@ -11,15 +11,15 @@ pub returns-in_err-send-clause-due : goal.returns-in_err-send-clause-due
 returns-in_err-send-clause-due g c other =
     let known = c.in_ok-last.ensures.anew other in
     ended_by _ _ c.from_residual-in_err-send.result c.in_err-send.field-0.0 c.from_residual-in_err-send.ensures.1
-    (ended_saying c.args.options c.args.snapshot.now c.in_ok-last.last.outcome _ _ _ c.in_err-send.field-0.0 known.1.1 known.0 c.in_err-send.ensures.ended)
+    (ended_saying c.args.options.now c.args.snapshot.now c.in_ok-last.last.outcome _ _ _ c.in_err-send.field-0.0 known.1.1 known.0 c.in_err-send.ensures.ended)
 
 pub returns-clause-due : goal.returns-clause-due
 returns-clause-due g c other =
     let known = c.in_ok-last.ensures.anew other in
     elim c.if-due.branch [
       | then-due+in_ok-send w ↦
-          kept_saying c.args.options c.args.snapshot.now c.in_ok-last.last.outcome c.into_answer.result _ _ _ known.1.1 c.into_answer.ensures known.0
-          (subst (λ o. Appends (g.W.Write.contents c.renew.new.out) (g.W.Write.contents o) (outcome_text c.args.options.json c.in_ok-last.last.outcome))
+          kept_saying c.args.options.now c.args.snapshot.now c.in_ok-last.last.outcome c.into_answer.result _ _ _ known.1.1 c.into_answer.ensures known.0
+          (subst (λ o. Appends (g.W.Write.contents c.renew.new.out) (g.W.Write.contents o) (outcome_text c.args.options.now.json c.in_ok-last.last.outcome))
           (sym w.out-is) w.in_ok-send.ensures.whole)
       | else-due w ↦ absurd
           (c.is_due-due.ensures.said w.if-due.false (subst (λ n. IfSome c.args.last (λ last. last.transactions ≢ n)) (sym c.transactions.ensures.value) other))
