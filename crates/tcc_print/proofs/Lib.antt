@@ -3,4 +3,5 @@ mod WorkedTexts
 pub mod JsonPieces
 pub mod Counted
 pub mod Moments
+pub mod Noted
 pub mod LargeJson

@@ -1,0 +1,18 @@
+-- What notes add to what went out before.
+use Rattle.std.proofs.Common.{◌≡◌, ℕ, List, [], ◌++◌, Option, Result, Ok, Err, refl, take}
+use Rattle.std.proofs.KnownBytes.{Appends-nil, Appends-trans}
+use Rattle.std.specs.Prelude.{IfOk}
+use Rattle.tcc_print.specs.Notes.{IsNoted, AddsNotes}
+
+-- whatever was made of a note, what went out stands behind what was there
+pub added : {A E : Type 0} (items : A → List ℕ) (made : Result A E) (before after : Option (List ℕ))
+    → ((text : List ℕ) → IfOk made (λ bytes. items bytes ≡ text) → IsNoted before after text) → AddsNotes before after
+added items (Ok bytes) before after said = let noted = said (items bytes) refl in (take noted.0 (items bytes), noted.1)
+added items (Err e) before after said = let noted = said [] tt in (take noted.0 [], noted.1)
+
+pub none_added : (before : Option (List ℕ)) → AddsNotes before before
+none_added before = ([], Appends-nil before)
+
+-- one note behind others
+pub added_more : (before between after : Option (List ℕ)) → AddsNotes before between → AddsNotes between after → AddsNotes before after
+added_more before between after some more = (some.0 ++ more.0, Appends-trans before between after some.0 more.0 some.1 more.1)
