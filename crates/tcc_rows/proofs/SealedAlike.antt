@@ -73,45 +73,49 @@ same-fault (Some first) ahead = refl
 lines-more : (past : List Line) (fields : Record) (l : Line) (rest : List Record) → line_of fields ≡ Ok l → lines_after (l ∷ past) rest ≡ lines_after past (fields ∷ rest)
 lines-more past fields l rest is = ap (λ r. lines_after (noted r past) rest) (sym is)
 
+-- ---- the first of lawful records
+
+-- what holds of the answers by its line holds of them
+by-line : (past : List Line) (fields : Record) (rest : List Record) (P : Answers → Type 0) → (answers_after past (fields ∷ rest)).fault ≡ None
+    → ((last : Line) → line_of fields ≡ Ok last → (answers_after (last ∷ past) rest).fault ≡ None
+    → P (after_item (item_of past last) (answers_after (last ∷ past) rest)))
+    → P (answers_after past (fields ∷ rest))
+by-line past fields rest P free lawful = by (judged past fields) refl free
+  where
+    by : (r : Result Line RowFaultKind) → judged past fields ≡ r → (go_on past (λ lines. answers_after lines rest) r).fault ≡ None
+        → P (go_on past (λ lines. answers_after lines rest) r)
+    by (Err e) is free = cc free
+    by (Ok last) is free =
+        lawful last (judged-line Small past fields last is) (sym (same-fault (item_of past last) (answers_after (last ∷ past) rest)) ∙ free)
+
 -- ---- the items before a seal are those of the records before it
 
 items-until : (left : List Record) (k : ℕ) (past : List Line) → (answers_after past left).fault ≡ None
     → items_in past ++ items_until (answers_after past left).items k ≡ items_in (lines_after past (records_until left k))
 items-until [] k past free = append-nil (items_in past)
-items-until (fields ∷ rest) k past free = by (judged past fields) refl free (λ j lines. items-until rest j lines)
+items-until (fields ∷ rest) k past free =
+    by-line past fields rest (λ ahead. items_in past ++ items_until ahead.items k ≡ items_in (lines_after past (records_until (fields ∷ rest) k))) free
+    (λ last line clean. by last line (is_by_none fields) refl k (λ j. items-until rest j (last ∷ past) clean))
   where
-    by : (r : Result Line RowFaultKind) → judged past fields ≡ r → (go_on past (λ lines. answers_after lines rest) r).fault ≡ None
-        → ((j : ℕ) (lines : List Line) → (answers_after lines rest).fault ≡ None
-        → items_in lines ++ items_until (answers_after lines rest).items j ≡ items_in (lines_after lines (records_until rest j)))
-        → items_in past ++ items_until (go_on past (λ lines. answers_after lines rest) r).items k ≡ items_in (lines_after past (records_until (fields ∷ rest) k))
-    by (Err e) is free next = cc free
-    by (Ok last) is free next = seal (is_by_none fields) refl k
-      where
-        ahead : Answers
-        ahead = answers_after (last ∷ past) rest
-
-        clean : ahead.fault ≡ None
-        clean = sym (same-fault (item_of past last) ahead) ∙ free
-
-        line : line_of fields ≡ Ok last
-        line = judged-line Small past fields last is
-
-        seal : (b : Bool) → is_by_none fields ≡ b → (j : ℕ)
-            → items_in past ++ items_until (after_item (item_of past last) ahead).items j ≡ items_in (lines_after past (records_until (fields ∷ rest) j))
-        seal false none j =
-            item-other (items_in past) past last ahead j (sealed-by fields last line ∙ none)
-            ∙ next j (last ∷ past) clean
-            ∙ ap items_in (lines-more past fields last (records_until rest j) line)
-            ∙ ap (λ records. items_in (lines_after past records)) (sym (until-other fields rest j none))
-        seal true none zero =
-            ap (λ items. items_in past ++ items) (item-first past last ahead (sealed-by fields last line ∙ none))
-            ∙ append-nil (items_in past)
-            ∙ ap (λ records. items_in (lines_after past records)) (sym (until-first fields rest none))
-        seal true none (suc j) =
-            item-later (items_in past) past last ahead j (sealed-by fields last line ∙ none)
-            ∙ next j (last ∷ past) clean
-            ∙ ap items_in (lines-more past fields last (records_until rest j) line)
-            ∙ ap (λ records. items_in (lines_after past records)) (sym (until-later fields rest j none))
+    by : (last : Line) → line_of fields ≡ Ok last → (b : Bool) → is_by_none fields ≡ b → (j : ℕ)
+        → ((j : ℕ) → items_in (last ∷ past) ++ items_until (answers_after (last ∷ past) rest).items j
+        ≡ items_in (lines_after (last ∷ past) (records_until rest j)))
+        → items_in past ++ items_until (after_item (item_of past last) (answers_after (last ∷ past) rest)).items j
+        ≡ items_in (lines_after past (records_until (fields ∷ rest) j))
+    by last line false none j next =
+        item-other (items_in past) past last (answers_after (last ∷ past) rest) j (sealed-by fields last line ∙ none)
+        ∙ next j
+        ∙ ap items_in (lines-more past fields last (records_until rest j) line)
+        ∙ ap (λ records. items_in (lines_after past records)) (sym (until-other fields rest j none))
+    by last line true none zero next =
+        ap (λ items. items_in past ++ items) (item-first past last (answers_after (last ∷ past) rest) (sealed-by fields last line ∙ none))
+        ∙ append-nil (items_in past)
+        ∙ ap (λ records. items_in (lines_after past records)) (sym (until-first fields rest none))
+    by last line true none (suc j) next =
+        item-later (items_in past) past last (answers_after (last ∷ past) rest) j (sealed-by fields last line ∙ none)
+        ∙ next j
+        ∙ ap items_in (lines-more past fields last (records_until rest j) line)
+        ∙ ap (λ records. items_in (lines_after past records)) (sym (until-later fields rest j none))
 
 -- ---- the seals are those records that name no session
 
@@ -127,29 +131,18 @@ first-other fields rest e = rw e refl
 
 seals-of : (left : List Record) (past : List Line) → (answers_after past left).fault ≡ None → seals_in (answers_after past left).items ≡ sealed (records_by_none left)
 seals-of [] past free = refl
-seals-of (fields ∷ rest) past free = by (judged past fields) refl free (λ lines. seals-of rest lines)
+seals-of (fields ∷ rest) past free =
+    by-line past fields rest (λ ahead. seals_in ahead.items ≡ sealed (records_by_none (fields ∷ rest))) free
+    (λ last line clean. by last line (is_by_none fields) refl (seals-of rest (last ∷ past) clean))
   where
-    by : (r : Result Line RowFaultKind) → judged past fields ≡ r → (go_on past (λ lines. answers_after lines rest) r).fault ≡ None
-        → ((lines : List Line) → (answers_after lines rest).fault ≡ None → seals_in (answers_after lines rest).items ≡ sealed (records_by_none rest))
-        → seals_in (go_on past (λ lines. answers_after lines rest) r).items ≡ sealed (records_by_none (fields ∷ rest))
-    by (Err e) is free next = cc free
-    by (Ok last) is free next = seal (is_by_none fields) refl
-      where
-        ahead : Answers
-        ahead = answers_after (last ∷ past) rest
-
-        clean : ahead.fault ≡ None
-        clean = sym (same-fault (item_of past last) ahead) ∙ free
-
-        line : line_of fields ≡ Ok last
-        line = judged-line Small past fields last is
-
-        seal : (b : Bool) → is_by_none fields ≡ b → seals_in (after_item (item_of past last) ahead).items ≡ sealed (records_by_none (fields ∷ rest))
-        seal false none =
-            seal-other past last ahead (sealed-by fields last line ∙ none) ∙ next (last ∷ past) clean ∙ sym (first-other fields rest none)
-        seal true none =
-            seal-first past last ahead (sealed-by fields last line ∙ none) ∙ ap (λ items. item.Seal ∷ items) (next (last ∷ past) clean)
-            ∙ sym (first-none fields rest none)
+    by : (last : Line) → line_of fields ≡ Ok last → (b : Bool) → is_by_none fields ≡ b
+        → seals_in (answers_after (last ∷ past) rest).items ≡ sealed (records_by_none rest)
+        → seals_in (after_item (item_of past last) (answers_after (last ∷ past) rest)).items ≡ sealed (records_by_none (fields ∷ rest))
+    by last line false none next =
+        seal-other past last (answers_after (last ∷ past) rest) (sealed-by fields last line ∙ none) ∙ next ∙ sym (first-other fields rest none)
+    by last line true none next =
+        seal-first past last (answers_after (last ∷ past) rest) (sealed-by fields last line ∙ none)
+        ∙ ap (λ items. item.Seal ∷ items) next ∙ sym (first-none fields rest none)
 
 -- ---- the law
 
