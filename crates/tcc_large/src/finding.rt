@@ -104,11 +104,13 @@ fn against_sessions(
     graph: &LargeGraph,
     links: &[(u32, u32)],
 ) -> Result<Vec<(u32, u32)>, AllocError> {
-    let against = links
-        .iter()
-        .filter(|link| session(graph, link.1, link.0))
-        .copied();
-    against.collect(alloc)
+    let mut found = Vec::new(alloc);
+    for (from, to) in links {
+        if session(graph, *to, *from) {
+            found.push((*from, *to))?;
+        }
+    }
+    Ok(found)
 }
 
 /// Of these links those against a read.
@@ -117,11 +119,13 @@ fn against_reads(
     graph: &LargeGraph,
     links: &[(u32, u32)],
 ) -> Result<Vec<(u32, u32)>, AllocError> {
-    let against = links
-        .iter()
-        .filter(|link| !reads_from(graph, link.1, link.0).is_empty())
-        .copied();
-    against.collect(alloc)
+    let mut found = Vec::new(alloc);
+    for (from, to) in links {
+        if !reads_from(graph, *to, *from).is_empty() {
+            found.push((*from, *to))?;
+        }
+    }
+    Ok(found)
 }
 
 impl Finder {
