@@ -2,4 +2,3 @@
 pub mod Carrying
 pub mod Ranked
 pub mod Reaching
-pub mod Numbered

@@ -2,7 +2,6 @@
 ghost use Rattle.std.specs.Prelude.{IfOk, IfSome, IsTrue};
 ghost use Rattle.tcc_large.specs.Cuts.{IsCutOf};
 ghost use Rattle.tcc_large.specs.Slices.{IsSliceOf};
-ghost use Rattle.tcc_large.specs.private.Numbered.{number_in};
 
 use crate::carrying::is_carried;
 use crate::cutting::Whole;
@@ -10,24 +9,63 @@ use crate::judging::is_cycle;
 use crate::leaving::is_cut;
 use crate::needs::Needs;
 use std::alloc::Global;
-use tcc_graph::{Graph, LargeGraph, Level, Link, Renumbering};
+use tcc_graph::{Graph, LargeGraph, Level, Link, Step, Walk};
 use tcc_reads::{ResolveFault, resolve};
 use tcc_txn::{LargeSnapshot, NoMemory, Snapshot};
 
-/// The numbers of a cut, each with that of the whole at its place.
-#[derive(Drop)]
-struct InCut<'a> {
-    numbers: &'a [u32],
+/// The number in the cut that a number of the whole has; one past the last where it has none.
+fn moved(numbers: &[u32], number: u32) -> u32 {
+    match numbers.binary_search(&number) {
+        Ok(place) => place.min(1 << 31) as u32,
+        Err(_) => u32::MAX,
+    }
 }
 
-impl Renumbering for InCut<'_> {
-    ghost by = { λ cut. number_in cut.numbers.now };
+fn moved_walk(alloc: Global, numbers: &[u32], walk: &Walk) -> Result<Walk, NoMemory> {
+    let mut steps = Vec::new(alloc);
+    for step in walk.steps() {
+        steps.push(match step {
+            Step::Session { from, to } => Step::Session {
+                from: moved(numbers, *from),
+                to: moved(numbers, *to),
+            },
+            Step::Reads { from, to, key } => Step::Reads {
+                from: moved(numbers, *from),
+                to: moved(numbers, *to),
+                key: *key,
+            },
+        })?;
+    }
+    Ok(Walk::new(steps))
+}
 
-    /// The number in the cut that a number of the whole has; one past the last where it has none.
-    fn number(&self, number: u32) -> u32 {
-        match self.numbers.iter().position(|one| *one == number) {
-            Some(place) => place.min(1 << 31) as u32,
-            None => u32::MAX,
+/// A link of the whole in the numbers of the cut.
+fn moved_link(alloc: Global, numbers: &[u32], link: &Link) -> Result<Link, NoMemory> {
+    match link {
+        Link::Session { from, to } => Ok(Link::Session {
+            from: moved(numbers, *from),
+            to: moved(numbers, *to),
+        }),
+        Link::Reads { from, to, key } => Ok(Link::Reads {
+            from: moved(numbers, *from),
+            to: moved(numbers, *to),
+            key: *key,
+        }),
+        Link::Derived {
+            from,
+            to,
+            key,
+            reader,
+            walk,
+        } => {
+            let walk = moved_walk(alloc, numbers, walk)?;
+            Ok(Link::Derived {
+                from: moved(numbers, *from),
+                to: moved(numbers, *to),
+                key: *key,
+                reader: moved(numbers, *reader),
+                walk,
+            })
         }
     }
 }
@@ -52,7 +90,7 @@ fn is_slice(
     let graph = Graph::build(alloc, resolved)?;
     let mut found = Vec::new(alloc);
     for link in links {
-        found.push(link.renumbered(alloc, &InCut { numbers })?)?;
+        found.push(moved_link(alloc, numbers, link)?)?;
     }
     Ok(is_cycle(graph.large(), level, &found) && is_carried(graph.large(), whole, numbers))
 }
