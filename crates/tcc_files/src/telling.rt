@@ -15,7 +15,7 @@ impl<'a, S> Telling<'a, S> {
     /// The stream by this name.
     pub fn new(stream: S, name: &'a str, errors: io::Stderr) -> Telling<'a, S>
         ensures stream { result.stream ≡ stream }
-        ensures name { result.name ≡ name.now }
+        ensures name { result.name ≡ name.entry }
     {
         Telling {
             stream,
