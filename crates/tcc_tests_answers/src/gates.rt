@@ -112,13 +112,13 @@ fn histories_that_go_on(rt: HostRuntime) {
 #[test]
 fn runs(rt: HostRuntime) {
     let alloc = rt.alloc();
-    let options = Options {
-        level: Level::Causal,
-        workers: workers_of(&rt, 2),
-        json: false,
-        required: 0,
-    };
     for until in [2, STARTS] {
+        let options = Options {
+            level: Level::Causal,
+            workers: workers_of(&rt, 2),
+            json: false,
+            required: 0,
+        };
         let gate = Holding::new(until);
         let mut out = Vec::new(alloc);
         let mut file: Option<Vec<u8>> = None;
