@@ -1,12 +1,6 @@
 """What clients of a server noted, and the records of it, for the recorders of redis/ and postgres/."""
-import argparse
 from dataclasses import dataclass
-from typing import Callable, Dict, Iterator, List, Optional, Tuple
-
-MOST_TRANSACTIONS = 4095
-MOST_KEYS = 1024
-# A value is a counter and the number of the client that wrote it.
-CLIENTS = 256
+from typing import Dict, Iterator, List, Optional, Tuple
 
 
 @dataclass
@@ -48,28 +42,3 @@ def records(transactions: List[Transaction]) -> Iterator[str]:
 def summary(transactions: List[Transaction], unknown: Dict[str, int]) -> str:
     return "%d transactions; of unknown outcome %s" % (
         len(transactions), ", ".join("%d %s" % (number, what) for what, number in unknown.items()))
-
-
-def count(least: int, most: int) -> Callable[[str], int]:
-    """A number within these, for an argument of a command line."""
-    def number(word: str) -> int:
-        if not word.isdecimal() or not least <= int(word) <= most:
-            raise argparse.ArgumentTypeError("%s is no number from %d to %d" % (word, least, most))
-        return int(word)
-    return number
-
-
-def ask_for_clients(ask: argparse.ArgumentParser, transactions: int, keys: int) -> None:
-    """The arguments that say how much clients do."""
-    ask.add_argument("--clients", type=count(1, 32), default=4, metavar="N", help="so many clients, 1 to 32, by default 4")
-    ask.add_argument("--transactions", type=count(1, MOST_TRANSACTIONS), default=transactions, metavar="N",
-                     help="so many for each, by default %d" % transactions)
-    ask.add_argument("--keys", type=count(1, MOST_KEYS), default=keys, metavar="N",
-                     help="so many keys, 1 to %d, by default %d" % (MOST_KEYS, keys))
-    ask.add_argument("--seconds", type=count(1, 600), default=20, metavar="N", help="clients stop after so many, by default 20")
-    ask.add_argument("--seed", type=int, default=1, metavar="N", help="which keys are picked follows from it, by default 1")
-
-
-def check_clients(ask: argparse.ArgumentParser, asked: argparse.Namespace) -> None:
-    if asked.clients * asked.transactions > MOST_TRANSACTIONS:
-        ask.error("that would be more than %d transactions in all, which is what tcc takes" % MOST_TRANSACTIONS)

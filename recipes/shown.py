@@ -1,14 +1,22 @@
-"""Runs commands as they would be typed, and shows the answer for what a recorder wrote, for the demos of redis/ and postgres/."""
+"""What the demos of redis/ and postgres/ share: they run commands as they would be typed, and show the answers for what their
+recorder wrote."""
+import argparse
 import json
 import pathlib
 import shutil
 import subprocess
 import sys
-from typing import List, Optional
+import tempfile
+from dataclasses import dataclass
+from typing import Callable, Dict, List, Optional
 
 RECIPES = pathlib.Path(__file__).resolve().parent
 BUILT = RECIPES.parent / "crates/tcc/out/tcc"
+EXAMPLE = """example:
+  $ demo.py --tcc crates/tcc/out/tcc
+"""
 UNRESOLVED = 2  # the greatest status of an answer
+WITHOUT_SERVER = 77
 SECONDS = 90
 
 
@@ -62,3 +70,43 @@ def answer(tcc: str, recorder: List[str], folder: pathlib.Path, name: str) -> di
     if found["answer"] != "consistent":
         shown(run([sys.executable, str(RECIPES / "picture.py"), str(told), "--history", str(records), "--text"]))
     return found
+
+
+@dataclass(frozen=True)
+class Demo:
+    """What is shown: the answers for what a recorder writes in some rounds, by what it is asked for in each. `needs` says what
+    has to be there, beside `library`; `is_expected` whether the answers are what they have to be, and `said` what they are."""
+
+    about: str
+    recorder: pathlib.Path
+    library: str
+    needs: str
+    rounds: Dict[str, List[str]]
+    is_expected: Callable[[Dict[str, dict]], bool]
+    said: str
+
+    def run(self, has_server: bool) -> int:
+        """Shows it; the exit status."""
+        ask = argparse.ArgumentParser(description=self.about, epilog=EXAMPLE, formatter_class=argparse.RawDescriptionHelpFormatter)
+        ask.add_argument("--tcc", help="the program, by default the built one, or else the one on the path")
+        asked = ask.parse_args()
+        python = python_with(self.library)
+        if not has_server or python is None:
+            print("demo.py: no %s" % self.needs, file=sys.stderr)
+            return WITHOUT_SERVER
+        try:
+            found = self.is_expected(self.answers(python, program(asked.tcc)))
+        except (Failed, OSError, subprocess.TimeoutExpired) as error:
+            print("demo.py: %s" % error, file=sys.stderr)
+            return 1
+        print(self.said if found else "NOT what was expected")
+        return 0 if found else 1
+
+    def answers(self, python: str, tcc: str) -> Dict[str, dict]:
+        """The answer of each round, by its name."""
+        found = {}
+        with tempfile.TemporaryDirectory() as folder:
+            for name, words in self.rounds.items():
+                found[name] = answer(tcc, [python, str(self.recorder), *words], pathlib.Path(folder), name)
+                print()
+        return found

@@ -10,10 +10,11 @@ A transaction that the server refuses (a conflict of two writers) is noted as ab
 unknown outcome, and then the client goes on in a new session with a connection of its own, as behind any broken connection.
 
 Standard output has the records, standard error what was left out. The servers are stopped and their folder goes in the end,
-whatever comes. Where the script runs as root, the servers run as the user of --user, since PostgreSQL doesn't run as root.
+whatever comes. Where the script runs as root, the servers run as the user of --user, since PostgreSQL doesn't run as root;
+that needs Python 3.9.
 
 Needs PostgreSQL's programs (in Debian the package postgresql; they are looked for on the path and in /usr/lib/postgresql) and
-the library psycopg2 (python3-psycopg2), and noted.py in the folder above.
+the library psycopg2 (python3-psycopg2), and noted.py and recorder.py in the folder above.
 """
 import argparse
 import contextlib
@@ -21,28 +22,27 @@ import glob
 import os
 import pathlib
 import pwd
-import random
 import secrets
 import shutil
 import signal
-import socket
 import subprocess
 import sys
 import tempfile
 import threading
 import time
 from dataclasses import dataclass, field
-from typing import Dict, Iterator, List, Optional, Tuple
+from typing import Dict, Iterator, List, Optional, Sequence, Tuple, Type
 
 sys.path.insert(0, str(pathlib.Path(__file__).resolve().parent.parent))
-from noted import CLIENTS, Transaction, ask_for_clients, check_clients, count, records, session_name, settle, summary  # noqa: E402
+import recorder  # noqa: E402
+from noted import Transaction  # noqa: E402
+from recorder import LOOPBACK, Client, NoServer, Store, count, run_clients  # noqa: E402
 
 EXAMPLE = """example: reads of two states within one transaction, and the rows of what they saw
   $ record.py --isolation read-committed > records.csv
   $ tcc explain --json < records.csv > answer.json
   $ picture.py answer.json --history records.csv --text
 """
-LOOPBACK = "127.0.0.1"
 START_SECONDS = 30
 STOP_SECONDS = 20
 DELAY_MILLISECONDS = 500
@@ -51,10 +51,6 @@ LEVELS = {"read-committed": "READ COMMITTED", "repeatable-read": "REPEATABLE REA
 READ = "SELECT value FROM registers WHERE key = %s"
 WRITE = "INSERT INTO registers VALUES (%s, %s) ON CONFLICT (key) DO UPDATE SET value = excluded.value"
 KILL = "SELECT pg_terminate_backend(pid) FROM pg_stat_activity WHERE application_name = 'client' ORDER BY random() LIMIT 1"
-
-
-class NoServer(Exception):
-    """A server that can't be had."""
 
 
 def program(name: str) -> str:
@@ -74,25 +70,24 @@ class Host:
     user: Optional[str]
     password: str = field(default_factory=lambda: secrets.token_hex(16))
 
-    def environment(self) -> Dict[str, str]:
-        return {"PATH": os.environ.get("PATH", ""), "LC_ALL": "C", "PGPASSWORD": self.password}
+    def where(self) -> Dict[str, object]:
+        """What a program is started with. Before Python 3.9 none can be started as another user."""
+        variables = {"PATH": os.environ.get("PATH", ""), "LC_ALL": "C", "PGPASSWORD": self.password}
+        return {"cwd": self.folder, "env": variables, **({"user": self.user} if self.user else {})}
 
     def run(self, name: str, *words: str) -> None:
         """Runs one of PostgreSQL's programs to its end."""
-        done = subprocess.run([program(name), *words], user=self.user, cwd=self.folder, env=self.environment(),
-                              capture_output=True, timeout=START_SECONDS, check=False)
+        done = subprocess.run([program(name), *words], capture_output=True, timeout=START_SECONDS, check=False, **self.where())
         if done.returncode != 0:
             raise NoServer("%s: %s" % (name, done.stderr.decode(errors="replace").strip()))
 
     def start(self, held: contextlib.ExitStack, data: str, *settings: str) -> int:
         """Starts a server on a folder of data, to be stopped with `held`, and gives its port."""
-        with socket.create_server((LOOPBACK, 0)) as listening:
-            port = listening.getsockname()[1]
+        port = recorder.free_port()
         words = ["listen_addresses=" + LOOPBACK, "port=%d" % port, "unix_socket_directories=", "fsync=off", *settings]
-        running = subprocess.Popen([program("postgres"), "-D", data, *(part for word in words for part in ("-c", word))],
-                                   user=self.user, cwd=self.folder, env=self.environment(),
-                                   stdin=subprocess.DEVNULL, stdout=subprocess.DEVNULL, stderr=subprocess.DEVNULL)
-        held.callback(stop, running)
+        command = [program("postgres"), "-D", data, *(part for word in words for part in ("-c", word))]
+        # Stopped at once, whoever is connected.
+        recorder.start(held, command, signal.SIGQUIT, STOP_SECONDS, **self.where())
         return port
 
     def connect(self, driver, port: int, name: str):
@@ -100,24 +95,11 @@ class Host:
                               application_name=name, connect_timeout=START_SECONDS)
 
     def wait_for(self, driver, port: int, what: str) -> None:
-        until = time.monotonic() + START_SECONDS
-        while time.monotonic() < until:
-            with contextlib.suppress(driver.OperationalError), contextlib.closing(self.connect(driver, port, "waiting")) as server:
-                with server.cursor() as cursor:
-                    cursor.execute("SELECT count(*) FROM registers" if what == "replica" else "SELECT 1")
-                    return
-            time.sleep(0.1)
-        raise NoServer("the %s didn't answer within %d seconds" % (what, START_SECONDS))
-
-
-def stop(running: subprocess.Popen) -> None:
-    """Stops a server at once, whoever is connected."""
-    running.send_signal(signal.SIGQUIT)
-    try:
-        running.wait(STOP_SECONDS)
-    except subprocess.TimeoutExpired:
-        running.kill()
-        running.wait()
+        def answered() -> bool:
+            with contextlib.closing(self.connect(driver, port, "waiting")) as server, server.cursor() as cursor:
+                cursor.execute("SELECT count(*) FROM registers" if what == "replica" else "SELECT 1")
+                return True
+        recorder.wait_until(answered, (driver.OperationalError,), START_SECONDS, "the %s didn't answer" % what)
 
 
 def start_primary(driver, host: Host, held: contextlib.ExitStack) -> int:
@@ -146,35 +128,22 @@ def start_replica(driver, host: Host, held: contextlib.ExitStack, primary: int, 
 
 
 @dataclass
-class Client:
-    """A client: its number, its share of chance, and where it reads and writes; a session lasts as long as its connections."""
+class Servers(Store):
+    """Where clients read and write, at which level."""
 
     driver: object
     host: Host
-    number: int
     primary: int
     replica: Optional[int]
     level: str
-    keys: int
-    chance: random.Random
-    done: List[Transaction] = field(default_factory=list)
-    sessions: int = 0
-    written: int = 0
 
-    def work(self, transactions: int, until: float) -> None:
-        """Makes so many transactions, in a new session behind each connection that broke."""
-        while len(self.done) < transactions and time.monotonic() < until:
-            self.sessions += 1
-            with contextlib.ExitStack() as held, contextlib.suppress(self.driver.OperationalError, self.driver.InterfaceError):
-                servers = [self.connection(held, port, level) for port, level in self.places()]
-                while len(self.done) < transactions and time.monotonic() < until:
-                    keys = self.transact(servers[0], self.some_keys(2), self.some_keys(2))
-                    if len(servers) > 1:
-                        self.transact(servers[1], keys, [])
-                return
-            time.sleep(0.05)
+    def broken(self) -> Tuple[Type[Exception], ...]:
+        return self.driver.OperationalError, self.driver.InterfaceError
 
-    def places(self) -> Iterator[Tuple[int, str]]:
+    def connections(self, held: contextlib.ExitStack) -> Sequence:
+        return [self.connection(held, port, level) for port, level in self.ports()]
+
+    def ports(self) -> Iterator[Tuple[int, str]]:
         """Ports and levels; a replica, which is only read, has no SERIALIZABLE."""
         yield self.primary, LEVELS[self.level]
         if self.replica is not None:
@@ -185,12 +154,14 @@ class Client:
         server.set_session(isolation_level=level)
         return server
 
-    def some_keys(self, most: int) -> List[str]:
-        return sorted({"k%d" % self.chance.randrange(self.keys) for _ in range(most)})
+    def turn(self, client: Client, connections: Sequence) -> None:
+        keys = self.transact(client, connections[0], some_keys(client), some_keys(client))
+        if len(connections) > 1:
+            self.transact(client, connections[1], keys, [])
 
-    def transact(self, server, reads: List[str], writes: List[str]) -> List[str]:
+    def transact(self, client: Client, server, reads: List[str], writes: List[str]) -> List[str]:
         """One transaction, noted as it goes, of reads and then writes; gives the keys of both."""
-        mine = Transaction(session_name(self.number, self.sessions), [], False)
+        mine = Transaction(client.session(), [], False)
         committing = False
         try:
             with server.cursor() as cursor:
@@ -200,8 +171,7 @@ class Client:
                     mine.operations.append(("r", key, found[0] if found else 0))
                     time.sleep(PAUSE_SECONDS)
                 for key in writes:
-                    self.written += 1
-                    value = self.written * CLIENTS + self.number
+                    value = client.new_value()
                     mine.operations.append(("w", key, value))
                     cursor.execute(WRITE, (key, value))
                     time.sleep(PAUSE_SECONDS)
@@ -210,18 +180,32 @@ class Client:
             mine.committed = True
         except self.driver.extensions.TransactionRollbackError:
             server.rollback()
-        except (self.driver.OperationalError, self.driver.InterfaceError):
+        except self.broken():
             if committing:
                 mine = Transaction(mine.session, [step for step in mine.operations if step[0] == "w"], None)
             raise
         finally:
-            self.done.append(mine)
+            client.done.append(mine)
         return reads + writes
 
 
-def end_backends(driver, host: Host, port: int, times: int, ended: threading.Event) -> None:
-    """Ends the backend of some client, now and then."""
-    with contextlib.closing(host.connect(driver, port, "killing")) as server:
+def some_keys(client: Client) -> List[str]:
+    return sorted({client.some_key() for _ in range(2)})
+
+
+@contextlib.contextmanager
+def ending_backends(servers: Servers, times: int) -> Iterator[None]:
+    """Meanwhile the backend of some client is ended, now and then, so many times."""
+    ended = threading.Event()
+    killing = threading.Thread(target=end_backends, args=(servers, times, ended), daemon=True)
+    killing.start()
+    yield
+    ended.set()
+    killing.join()
+
+
+def end_backends(servers: Servers, times: int, ended: threading.Event) -> None:
+    with contextlib.closing(servers.host.connect(servers.driver, servers.primary, "killing")) as server:
         server.autocommit = True
         for _ in range(times):
             if ended.wait(0.2):
@@ -230,34 +214,21 @@ def end_backends(driver, host: Host, port: int, times: int, ended: threading.Eve
                 cursor.execute(KILL)
 
 
-def run_clients(clients: List[Client], asked: argparse.Namespace) -> None:
-    until, ended = time.monotonic() + asked.seconds, threading.Event()
-    first = clients[0]
-    killing = threading.Thread(target=end_backends, args=(first.driver, first.host, first.primary, asked.kill, ended), daemon=True)
-    working = [threading.Thread(target=one.work, args=(asked.transactions, until), daemon=True) for one in clients]
-    for thread in [*working, *([killing] if asked.kill else [])]:
-        thread.start()
-    for thread in working:
-        thread.join()
-    ended.set()
-    if asked.kill:
-        killing.join()
-
-
-def recorded(driver, asked: argparse.Namespace) -> List[Transaction]:
+def recorded(asked: argparse.Namespace) -> List[Transaction]:
     """Starts the servers, lets the clients work, stops the servers."""
+    import psycopg2
+    import psycopg2.extensions
     with contextlib.ExitStack() as held:
         folder = pathlib.Path(held.enter_context(tempfile.TemporaryDirectory()))
         user = asked.user if os.geteuid() == 0 else None
         if user:
             shutil.chown(folder, user)
         host = Host(folder, user)
-        primary = start_primary(driver, host, held)
-        replica = start_replica(driver, host, held, primary, asked.delay) if asked.read_at == "replica" else None
-        clients = [Client(driver, host, number, primary, replica, asked.isolation, asked.keys,
-                          random.Random("%d %d" % (asked.seed, number))) for number in range(1, asked.clients + 1)]
-        run_clients(clients, asked)
-    return [one for client in clients for one in client.done]
+        primary = start_primary(psycopg2, host, held)
+        replica = start_replica(psycopg2, host, held, primary, asked.delay) if asked.read_at == "replica" else None
+        servers = Servers(psycopg2, host, primary, replica, asked.isolation)
+        with ending_backends(servers, asked.kill) if asked.kill else contextlib.nullcontext():
+            return run_clients(servers, asked)
 
 
 def is_user(name: str) -> bool:
@@ -267,8 +238,8 @@ def is_user(name: str) -> bool:
         return False
 
 
-def arguments() -> argparse.Namespace:
-    ask = argparse.ArgumentParser(description=__doc__, epilog=EXAMPLE, formatter_class=argparse.RawDescriptionHelpFormatter)
+def main() -> int:
+    ask = recorder.command_line(__doc__, EXAMPLE)
     ask.add_argument("--isolation", choices=tuple(LEVELS), default="read-committed", help="by default read-committed")
     ask.add_argument("--read-at", choices=("primary", "replica"), default="primary", help="where is read; by default the primary")
     ask.add_argument("--delay", type=count(0, 60000), default=DELAY_MILLISECONDS, metavar="MS",
@@ -276,29 +247,7 @@ def arguments() -> argparse.Namespace:
     ask.add_argument("--kill", type=count(0, 1000), default=0, metavar="N", help="ends the backend of a client N times")
     ask.add_argument("--user", default="postgres" if is_user("postgres") else "nobody", metavar="NAME",
                      help="as whom the servers run where the script runs as root; by default postgres, or else nobody")
-    ask_for_clients(ask, 200, 8)
-    asked = ask.parse_args()
-    check_clients(ask, asked)
-    return asked
-
-
-def main() -> int:
-    asked = arguments()
-    signal.signal(signal.SIGTERM, lambda *_: sys.exit(1))
-    try:
-        import psycopg2
-        import psycopg2.extensions
-        done = recorded(psycopg2, asked)
-    except ImportError:
-        print("record.py: no psycopg2; in Debian the package python3-psycopg2 has it, for /usr/bin/python3", file=sys.stderr)
-        return 1
-    except (NoServer, OSError, subprocess.SubprocessError) as error:
-        print("record.py: %s" % error, file=sys.stderr)
-        return 1
-    unknown = settle(done)
-    sys.stdout.writelines(record + "\n" for record in records(done))
-    print("record.py: " + summary(done, unknown), file=sys.stderr)
-    return 0
+    return recorder.write_records(recorded, recorder.arguments(ask), "psycopg2", "python3-psycopg2")
 
 
 if __name__ == "__main__":

@@ -9,7 +9,6 @@ share a row, and so do, at the end, those whose clauses cite none. A call withou
 is written anew. Without it a part that isn't what the sources give is one line, and so is a call without a doc comment; `run.py`
 asks this too. The last line is `N passed, M failed`.
 """
-import argparse
 import functools
 import pathlib
 import re
@@ -18,7 +17,8 @@ from typing import Dict, Iterator, List, NamedTuple, Set, Tuple
 
 TOP = pathlib.Path(__file__).resolve().parent.parent.parent
 sys.path.insert(0, str(TOP / "tests"))
-from counted import Outcome, status_of  # noqa: E402
+from arguments import status_of_written  # noqa: E402
+from counted import Outcome  # noqa: E402
 from crates import stands_on  # noqa: E402
 
 CONTRACTS = TOP / "docs/CONTRACTS.md"
@@ -158,12 +158,12 @@ def outcomes() -> Iterator[Outcome]:
     yield "docs/CONTRACTS.md", None if is_whole else "it has another beginning, or a part too many"
 
 
+def write() -> None:
+    CONTRACTS.write_text("\n".join([BEGINNING, *map(part, libraries())]))
+
+
 def main() -> int:
-    ask = argparse.ArgumentParser(description="docs/CONTRACTS.md, from the sources.")
-    ask.add_argument("--write", action="store_true", help="writes the file anew")
-    if ask.parse_args().write:
-        CONTRACTS.write_text("\n".join([BEGINNING, *map(part, libraries())]))
-    return status_of(outcomes())
+    return status_of_written("docs/CONTRACTS.md, from the sources.", write, outcomes)
 
 
 if __name__ == "__main__":

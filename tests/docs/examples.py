@@ -9,7 +9,6 @@ named for the item below: `example_resolve` for `resolve`, `example_rows` for th
 `run.py` has it, which asks this too, and so is a function there that no doc comment shows, or a text that no function has. The
 last line is `N passed, M failed`.
 """
-import argparse
 import pathlib
 import re
 import sys
@@ -17,7 +16,8 @@ from typing import Dict, Iterator, List, NamedTuple, Optional
 
 TOP = pathlib.Path(__file__).resolve().parent.parent.parent
 sys.path.insert(0, str(TOP / "tests"))
-from counted import Outcome, status_of  # noqa: E402
+from arguments import status_of_written  # noqa: E402
+from counted import Outcome  # noqa: E402
 
 EXAMPLES = TOP / "crates/tcc_examples/src/examples.rt"
 FUNCTION = re.compile(r"^pub fn (example_\w+)(?:.|\n(?!\}\n))*?(?:\n| )\{\n((?:.|\n(?!\}\n))*\n)\}\n", re.MULTILINE)
@@ -89,11 +89,7 @@ def write() -> None:
 
 
 def main() -> int:
-    ask = argparse.ArgumentParser(description="The examples in the doc comments, from crates/tcc_examples.")
-    ask.add_argument("--write", action="store_true", help="writes them anew")
-    if ask.parse_args().write:
-        write()
-    return status_of(outcomes())
+    return status_of_written("The examples in the doc comments, from crates/tcc_examples.", write, outcomes)
 
 
 if __name__ == "__main__":

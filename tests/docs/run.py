@@ -19,14 +19,12 @@ what is told of statuses and limits (`told.py`). What has to be believed stands 
 the completion for bash have to name each command and option of the program's help, and the completion to complete them; and
 the stack that README names has to be enough. Each difference is one line; the last line is `N passed, M failed`.
 """
-import argparse
 import ast
 import collections
 import functools
 import itertools
 import pathlib
 import re
-import shlex
 import shutil
 import subprocess
 import sys
@@ -38,7 +36,8 @@ sys.path.insert(0, str(TOP / "tests"))
 import contracts  # noqa: E402
 import examples  # noqa: E402
 import told  # noqa: E402
-from counted import Outcome, status_of  # noqa: E402
+from arguments import status_on_tcc  # noqa: E402
+from counted import Outcome  # noqa: E402
 from crates import stands_on  # noqa: E402
 from trust import faults_of_trust  # noqa: E402
 
@@ -266,9 +265,7 @@ def outcomes(tcc: List[str]) -> Iterator[Outcome]:
 
 
 def main() -> int:
-    ask = argparse.ArgumentParser(description="Whether what the documents name is there.")
-    ask.add_argument("--tcc", default=str(TOP / "crates/tcc/out/tcc"), help="the program, by default the built one")
-    return status_of(outcomes(shlex.split(ask.parse_args().tcc)))
+    return status_on_tcc("Whether what the documents name is there.", outcomes)
 
 
 if __name__ == "__main__":

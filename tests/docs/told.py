@@ -11,7 +11,6 @@ docs/FORMATS.md, the kinds that the man page names, help, and some sentences; wh
 wrong is named, with what has to stand there. And README has no more words than it may have. Each difference is one line, as
 `run.py` has it, which asks this too; the last line is `N passed, M failed`.
 """
-import argparse
 import pathlib
 import re
 import sys
@@ -19,7 +18,8 @@ from typing import Dict, Iterator, List, Tuple
 
 TOP = pathlib.Path(__file__).resolve().parent.parent.parent
 sys.path.insert(0, str(TOP / "tests"))
-from counted import Outcome, status_of  # noqa: E402
+from arguments import status_of_written  # noqa: E402
+from counted import Outcome  # noqa: E402
 
 README, PAGE = TOP / "README.md", TOP / "docs/tcc.1"
 MOST_WORDS = 2000
@@ -41,7 +41,7 @@ HELD = {
         "up to {MAX_TRANSACTIONS} transactions, or a million with `--large`",
         "Names of sessions and keys have 1 to {MAX_NAME_BYTES} bytes",
         "lets N threads search for an anomaly, 1 to {MAX_WORKERS}."),
-    "recipes/noted.py": ("MOST_TRANSACTIONS = {!MAX_TRANSACTIONS}", "MOST_KEYS = {!MAX_KEYS}"),
+    "recipes/recorder.py": ("MOST_TRANSACTIONS = {!MAX_TRANSACTIONS}", "MOST_KEYS = {!MAX_KEYS}"),
     "recipes/jepsen.py": (
         'LIMITS = {"sessions": {!MAX_SESSIONS}, "transactions": {!MAX_TRANSACTIONS}, "keys": {!MAX_KEYS}, '
         '"operations in a transaction": {!MAX_OPERATIONS}}',),
@@ -183,11 +183,7 @@ def outcomes() -> Iterator[Outcome]:
 
 
 def main() -> int:
-    ask = argparse.ArgumentParser(description="What the documents tell of statuses and limits, from the sources.")
-    ask.add_argument("--write", action="store_true", help="writes what comes from the sources")
-    if ask.parse_args().write:
-        write()
-    return status_of(outcomes())
+    return status_of_written("What the documents tell of statuses and limits, from the sources.", write, outcomes)
 
 
 if __name__ == "__main__":

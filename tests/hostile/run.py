@@ -8,11 +8,9 @@ time of as many others, and have the same answers; long records, and many faults
 memory. The values and names are made by `alike.c`, which needs a C compiler on the path (`cc` or `clang`); where there is
 none it says so and has failed. Each difference is one line; the last line is `N passed, M failed`.
 """
-import argparse
 import itertools
 import os
 import pathlib
-import shlex
 import shutil
 import subprocess
 import sys
@@ -21,8 +19,8 @@ import tempfile
 HERE = pathlib.Path(__file__).resolve().parent
 TOP = HERE.parent.parent
 sys.path.insert(0, str(TOP / "tests"))
+from arguments import status_on_tcc  # noqa: E402
 from compared import first_difference, shown  # noqa: E402
-from counted import status_of  # noqa: E402
 
 WRITERS, WRITES = 400, 250
 KEYS, SESSIONS = 1024, 64
@@ -135,9 +133,7 @@ def outcomes(tcc):
 
 
 def main():
-    ask = argparse.ArgumentParser(description="Runs a built tcc on records that were picked to slow it down.")
-    ask.add_argument("--tcc", default=str(TOP / "crates/tcc/out/tcc"), help="the program, by default the built one")
-    return status_of(outcomes(shlex.split(ask.parse_args().tcc)))
+    return status_on_tcc("Runs a built tcc on records that were picked to slow it down.", outcomes)
 
 
 if __name__ == "__main__":

@@ -26,14 +26,12 @@ where their server or its library for Python isn't there, they are passed over, 
 The wanted texts were worked out by hand from the definitions. Each difference is one line; the last line is
 `N passed, M failed`.
 """
-import argparse
 import importlib.util
 import io
 import json
 import os
 import pathlib
 import re
-import shlex
 import shutil
 import subprocess
 import sys
@@ -44,6 +42,7 @@ from typing import Dict, Iterator, List, Optional, Tuple
 HERE = pathlib.Path(__file__).resolve().parent
 TOP = HERE.parent.parent
 sys.path.insert(0, str(TOP / "tests"))
+from arguments import ask_for_tcc  # noqa: E402
 from compared import first_difference, shown  # noqa: E402
 from counted import Outcome, status_of  # noqa: E402
 
@@ -272,11 +271,10 @@ def outcomes(names: List[str], tcc: List[str]) -> Iterator[Outcome]:
 
 
 def main() -> int:
-    ask = argparse.ArgumentParser(description="Runs the scripts of recipes/ on the cases of this folder.")
-    ask.add_argument("--tcc", default=str(TOP / "crates/tcc/out/tcc"), help="the program, by default the built one")
+    ask = ask_for_tcc("Runs the scripts of recipes/ on the cases of this folder.")
     ask.add_argument("names", nargs="*", help="only these cases")
     asked = ask.parse_args()
-    return status_of(outcomes(asked.names, shlex.split(asked.tcc)))
+    return status_of(outcomes(asked.names, asked.tcc))
 
 
 if __name__ == "__main__":

@@ -7,10 +7,8 @@ the one may go to the other.
 The last line is `N passed, M failed`. A number is given by the file system, so files are made on one that is held in
 memory until one has the number of a file that is there; where that can't be, it is said and nothing is run.
 """
-import argparse
 import os
 import pathlib
-import shlex
 import subprocess
 import sys
 import tempfile
@@ -18,8 +16,8 @@ import tempfile
 HERE = pathlib.Path(__file__).resolve().parent
 TOP = HERE.parent.parent
 sys.path.insert(0, str(TOP / "tests"))
+from arguments import status_on_tcc  # noqa: E402
 from compared import shown  # noqa: E402
-from counted import status_of  # noqa: E402
 
 IN_MEMORY = "/dev/shm"
 MOST_MADE = 50000
@@ -84,9 +82,7 @@ def outcomes(tcc):
 
 
 def main():
-    ask = argparse.ArgumentParser(description="Runs a built tcc on two files of one number.")
-    ask.add_argument("--tcc", default=str(TOP / "crates/tcc/out/tcc"), help="the program, by default the built one")
-    return status_of(outcomes(shlex.split(ask.parse_args().tcc)))
+    return status_on_tcc("Runs a built tcc on two files of one number.", outcomes)
 
 
 if __name__ == "__main__":

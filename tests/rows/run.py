@@ -9,13 +9,11 @@ With --workers each run of `explain` gets that number of workers, and has to do
 the same as without it; runs of other commands are left out. With --checker the runs of `check` alone are
 done, by the program that has nothing else, called `tcc` by a link.
 """
-import argparse
 import contextlib
 import functools
 import json
 import os
 import pathlib
-import shlex
 import string
 import subprocess
 import sys
@@ -26,6 +24,7 @@ import threading
 HERE = pathlib.Path(__file__).resolve().parent
 TOP = HERE.parent.parent
 sys.path.insert(0, str(TOP / "tests"))
+from arguments import ask_for_tcc  # noqa: E402
 from compared import first_difference, shown  # noqa: E402
 from counted import status_of  # noqa: E402
 
@@ -314,8 +313,7 @@ def outcomes_of(path, tcc, picked, seconds):
 
 
 def main():
-    ask = argparse.ArgumentParser(description="Runs a built tcc on the cases of this folder.")
-    ask.add_argument("--tcc", default=str(TOP / "crates/tcc/out/tcc"), help="the program, by default the built one")
+    ask = ask_for_tcc("Runs a built tcc on the cases of this folder.")
     ask.add_argument("--only", default="", help="only cases whose name holds this text")
     ask.add_argument("--seconds", type=float, default=120, help="for each run, by default 120")
     ask.add_argument("--workers", type=int, help="for each run of explain that doesn't say how many itself")
@@ -325,7 +323,7 @@ def main():
     names = asked.names or sorted(path.stem for path in CASES.glob("*.json"))
     paths = [CASES / (name + ".json") for name in names if asked.only in name]
     with tempfile.TemporaryDirectory() as folder:
-        tcc, picked = shlex.split(asked.tcc), lambda run: run
+        tcc, picked = asked.tcc, lambda run: run
         if asked.workers:
             picked = functools.partial(by_workers, workers=asked.workers)
         if asked.checker:

@@ -11,15 +11,13 @@ transactions have other numbers. Both levels, 1, 2 and 32 workers.
 
 Each difference is one line; the last line is `N passed, M failed`.
 """
-import argparse
 import pathlib
-import shlex
 import subprocess
 import sys
 
 TOP = pathlib.Path(__file__).resolve().parent.parent.parent
 sys.path.insert(0, str(TOP / "tests"))
-from counted import status_of  # noqa: E402
+from arguments import status_on_tcc  # noqa: E402
 
 SECONDS = 120
 CHAIN = 19
@@ -107,9 +105,7 @@ def outcomes(tcc, sealed):
 
 
 def main():
-    ask = argparse.ArgumentParser(description="Seals while a history grows.")
-    ask.add_argument("--tcc", default=str(TOP / "crates/tcc/out/tcc"), help="the program, by default the built one")
-    return status_of(outcomes(shlex.split(ask.parse_args().tcc), list(parts())))
+    return status_on_tcc("Seals while a history grows.", lambda tcc: outcomes(tcc, list(parts())))
 
 
 if __name__ == "__main__":
