@@ -151,8 +151,8 @@ def torn_reads(count):
     records = history(count - 3 * groups, seed=13, sessions=16, keys=KEYS - groups, lag=200)
     for group in range(groups):
         key = "x%d" % group
-        for place, operations in enumerate((["w,%s,1"], ["w,%s,2"], ["r,%s,1", "r,%s,2"])):
-            records += transaction("s%02d" % ((group + place) % 16), *(operation % key for operation in operations))
+        for index, operations in enumerate((["w,%s,1"], ["w,%s,2"], ["r,%s,1", "r,%s,2"])):
+            records += transaction("s%02d" % ((group + index) % 16), *(operation % key for operation in operations))
     return records
 
 
@@ -177,9 +177,9 @@ def ring_of_long_links(count, sessions=16):
         name = "s%02d" % session
         records += transaction(name, "w,k%d,1" % session, "w,k%d,2" % ((session - 1) % sessions))
         for chain in range(sessions):
-            place = (session - chain) % sessions
-            told, tells = ["r,c%d.%d,1" % (chain, place - 1)], "w,c%d.%d,1" % (chain, place)
-            records += transaction(name, *(told if place else []), tells)
+            position = (session - chain) % sessions
+            told, tells = ["r,c%d.%d,1" % (chain, position - 1)], "w,c%d.%d,1" % (chain, position)
+            records += transaction(name, *(told if position else []), tells)
         records += transaction(name) * max(count // sessions - sessions - 2, 0)
         records += transaction(name, "r,k%d,2" % ((session + 1) % sessions))
     return records

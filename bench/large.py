@@ -38,44 +38,44 @@ class Log:
         self.kind, self.count, self.sessions = kind, count, sessions
         self.keys = list(range(KEYS_AT_A_TIME if kind == "jepsen" else max(1, count // 10)))
         self.fresh = len(self.keys)
-        self.places, self.values = {}, {}  # of each key: at which transactions it was written, and what
+        self.positions, self.values = {}, {}  # of each key: where in the order it was written, and what
         self.seen = {}
 
     def value(self, key, length):
         """The value of a key after so many transactions."""
-        before = bisect.bisect_right(self.places.get(key, ()), length)
+        before = bisect.bisect_right(self.positions.get(key, ()), length)
         return self.values[key][before - 1] if before else 0
 
-    def write(self, key, place):
-        """The next value of a key, written by the transaction at this place."""
+    def write(self, key, position):
+        """The next value of a key, written by the transaction at this position of the order."""
         values = self.values.setdefault(key, [])
         values.append(len(values) + 1)
-        self.places.setdefault(key, []).append(place)
+        self.positions.setdefault(key, []).append(position)
         if self.kind == "jepsen" and len(values) == WRITES_A_KEY:
             self.keys[self.keys.index(key)] = self.fresh
             self.fresh += 1
         return values[-1]
 
-    def operation(self, own, known, place):
+    def operation(self, own, known, position):
         """An operation at some key, as two fields and the value; `own` has what the transaction wrote."""
         key = self.random.choice(self.keys)
         if self.random.random() < 0.5:
-            own[key] = self.write(key, place)
+            own[key] = self.write(key, position)
             return "w,k%d,%d" % (key, own[key])
         return "r,k%d,%d" % (key, own[key] if key in own else self.value(key, known))
 
-    def transaction(self, session, place):
+    def transaction(self, session, position):
         """The records of a transaction."""
-        known = max(self.seen.get(session, 0), place - 1 - self.random.randrange(LATE))
-        self.seen[session] = place
+        known = max(self.seen.get(session, 0), position - 1 - self.random.randrange(LATE))
+        self.seen[session] = position
         own = {}
-        inside = [self.operation(own, known, place) for _ in range(OPERATIONS)]
+        inside = [self.operation(own, known, position) for _ in range(OPERATIONS)]
         return records(session, inside)
 
-    def session(self, place):
+    def session(self, position):
         """One of the sessions that work at this time."""
         born = min(self.sessions, AT_A_TIME)
-        first = (self.sessions - born) * place // self.count
+        first = (self.sessions - born) * position // self.count
         return "s%05d" % (first + self.random.randrange(born))
 
 
@@ -88,9 +88,9 @@ def write_history(path, kind, count, sessions):
     """Writes a history of so many transactions to a file."""
     log = Log(kind, count, sessions)
     with open(path, "w") as out:
-        for place in range(1, count + 1):
-            out.write(log.transaction(log.session(place), place))
-            if kind == "stale" and place == count * 97 // 100:
+        for position in range(1, count + 1):
+            out.write(log.transaction(log.session(position), position))
+            if kind == "stale" and position == count * 97 // 100:
                 for inside in (["w,stale,1"], ["w,stale,2"]):
                     out.write(records("stale-writer", inside))
                 for inside in (["r,stale,2"], ["r,stale,1"]):

@@ -34,7 +34,7 @@ CHARACTERS = {"newline": "\n", "return": "\r", "space": " ", "tab": "\t", "backs
 
 
 class NoEdn(Exception):
-    """A place that is no EDN."""
+    """What stands there is no EDN."""
 
 
 @dataclass

@@ -208,12 +208,12 @@ def is_link(history, level, link):
             and (level == "causal" or len(walk) == 1))
 
 
-def first_of(places):
-    return min(places, default=None)
+def first_of(broken):
+    return min(broken, default=None)
 
 
 def cycle_rules(history, said):
-    """The rules for a cycle in order, each with the first place where it is broken, if it is."""
+    """The rules for a cycle in order, each with where it is broken first, if it is."""
     every, near, least, version, level = history.all(), said["near"], said["least"], said["version"], said["level"]
 
     def far(s, v):
@@ -278,9 +278,9 @@ def outcome(history, text):
     except Fault as fault:
         return "certificate line %d: %s\n" % fault.args, STATUS["certificate"]
     rules = order_rules if said["kind"] == "order" else cycle_rules
-    for rule, place in rules(history, said):
-        if place is not None:
-            return "rejected: rule %d at %d %d\n" % (rule, *place), STATUS["rejected"]
+    for rule, at in rules(history, said):
+        if at is not None:
+            return "rejected: rule %d at %d %d\n" % (rule, *at), STATUS["rejected"]
     if not is_true(history, said):
         raise AssertionError("the rules let a false claim through: %r" % text)
     claim = "order" if said["kind"] == "order" else "cycle, %d steps" % said["least"]

@@ -80,11 +80,11 @@ def in_version_1(history, level, text):
 def altered(text):
     """The text, and all texts that are altered, each with what was done."""
     yield "as it is", text
-    for place, byte in enumerate(text):
-        digit = text[place:place + 1]
+    for at, byte in enumerate(text):
+        digit = text[at:at + 1]
         if digit.isdigit():
             for other in b"0123456789".replace(digit, b""):
-                yield "%c for %s at byte %d" % (other, digit.decode(), place), text[:place] + bytes([other]) + text[place + 1:]
+                yield "%c for %s at byte %d" % (other, digit.decode(), at), text[:at] + bytes([other]) + text[at + 1:]
     for length in range(len(text)):
         yield "cut after %d bytes" % length, text[:length]
 

@@ -124,19 +124,19 @@ def faults_of_links(line: str, folder: pathlib.Path) -> Iterator[Outcome]:
             yield target, None if (folder / target).exists() else "no such file"
 
 
-def faults_of_places(line: str) -> Iterator[Outcome]:
+def faults_of_files(line: str) -> Iterator[Outcome]:
     """Whether the files that stand behind a name have it."""
-    for name, place in BEFORE_FILE.findall(line):
-        crate, _, part = place.partition("/")
-        has_name = name in words(crate, part) or not is_there("crates/" + place)
-        yield "`%s` (`%s`)" % (name, place), None if has_name else "it isn't there"
+    for name, path in BEFORE_FILE.findall(line):
+        crate, _, part = path.partition("/")
+        has_name = name in words(crate, part) or not is_there("crates/" + path)
+        yield "`%s` (`%s`)" % (name, path), None if has_name else "it isn't there"
 
 
 def faults_of_document(document: pathlib.Path) -> Iterator[Outcome]:
     """Whether what the lines of a document name is there, but for those of its code."""
     text = CODE.sub(lambda block: "\n" * block.group().count("\n"), document.read_text())
     for number, line in enumerate(text.splitlines(), 1):
-        found = itertools.chain(faults_of_names(line), faults_of_links(line, document.parent), faults_of_places(line))
+        found = itertools.chain(faults_of_names(line), faults_of_links(line, document.parent), faults_of_files(line))
         for what, wrong in found:
             yield "%s, line %d: %s" % (document.relative_to(TOP), number, what), wrong
 
@@ -171,8 +171,8 @@ def faults_of_crates() -> Iterator[Outcome]:
     told: Dict[str, List[str]] = {}
     for crates, _, below in table("| crate | what it is |"):
         names, parts = WORD.findall(crates), below.split(";")
-        for place, name in enumerate(names):
-            told[name] = WORD.findall(parts[place] if len(parts) == len(names) else below)
+        for index, name in enumerate(names):
+            told[name] = WORD.findall(parts[index] if len(parts) == len(names) else below)
 
     def all_below(crate: str) -> set:
         return set(told.get(crate, [])).union(*(all_below(one) for one in told.get(crate, [])))

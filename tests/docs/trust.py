@@ -96,11 +96,11 @@ def bodies_of(text: str) -> Dict[str, str]:
     return bodies
 
 
-def contract(lines: List[str], place: int) -> str:
+def contract(lines: List[str], first: int) -> str:
     """What stands before the body of the function that begins there."""
-    indent = lines[place][:len(lines[place]) - len(lines[place].lstrip())]
+    indent = lines[first][:len(lines[first]) - len(lines[first].lstrip())]
     taken = []
-    for line in lines[place:]:
+    for line in lines[first:]:
         if line.startswith((indent + "{", indent + "}")):
             break
         taken.append(line.partition("//")[0])
@@ -125,7 +125,7 @@ def all_said(crate: str) -> Iterator[Said]:
     modules, names = set(PUBLIC_MODULE.findall(root)), set(re.findall(r"\w+", " ".join(PASSED_ON.findall(root))))
     for path in sorted(source.rglob("*.rt")):
         of, lines = "", path.read_text().splitlines()
-        for place, line in enumerate(lines):
+        for index, line in enumerate(lines):
             methods, call, value = METHODS.match(line), CALL.match(line), VALUE.match(line)
             of = methods.group(1) if methods else of
             if value:
@@ -133,7 +133,7 @@ def all_said(crate: str) -> Iterator[Said]:
             elif call:
                 indent, public, name = call.groups()
                 is_public = public is not None and (path.stem in modules or (of if indent else name) in names)
-                yield Said(path, name, contract(lines, place), is_public)
+                yield Said(path, name, contract(lines, index), is_public)
 
 
 def public_calls(crate: str) -> Iterator[str]:

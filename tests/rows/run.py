@@ -126,10 +126,10 @@ def runs(case):
 
 def argument(word, folder):
     """The bytes of a word of the command line: a part, or a text."""
-    return part(word) if isinstance(word, dict) else os.fsencode(place(word, folder))
+    return part(word) if isinstance(word, dict) else os.fsencode(path_of(word, folder))
 
 
-def place(word, folder):
+def path_of(word, folder):
     """A path: of `@NAME` that of a file in the folder."""
     return os.path.join(folder, word[1:]) if word.startswith("@") else word
 
@@ -147,7 +147,7 @@ def finished(words, run, folder, seconds):
         if "taken" in run:
             out = broken_off(run["taken"], held)
         else:
-            output = place(run.get("output_to", os.path.join(folder, "standard-output")), folder)
+            output = path_of(run.get("output_to", os.path.join(folder, "standard-output")), folder)
             out = held.enter_context(open(output, "wb"))
         streams = {"stdout": out, "stderr": subprocess.PIPE, "timeout": seconds, **given(run, folder, held)}
         if "closed" in run:
@@ -163,7 +163,7 @@ def finished(words, run, folder, seconds):
 def given(run, folder, held):
     """Where standard input comes from."""
     if "input_from" in run:
-        file = os.open(place(run["input_from"], folder), os.O_RDONLY)
+        file = os.open(path_of(run["input_from"], folder), os.O_RDONLY)
         held.callback(os.close, file)
         return {"stdin": file}
     if "typed" in run:

@@ -4,8 +4,8 @@
     run.py [--tcc PATH]
 
 The input has 100 seals. First writes go from session to session, each answered by an order. Then a session reads a value
-that is gone by the first of these writes, over a chain of 18 reads: an anomaly of 20 steps. Readers at earlier places of
-the chain make it cheaper by one step each, down to 3, and each such answer is followed by four more: at a seal with nothing
+that is gone by the first of these writes, over a chain of 18 reads: an anomaly of 20 steps. Readers at earlier positions
+of the chain make it cheaper by one step each, down to 3, and each such answer is followed by four more: at a seal with nothing
 new, at one where a read can't be traced, at one where it can, and at one behind a session that sorts first, so that all
 transactions have other numbers. Both levels, 1, 2 and 32 workers.
 
@@ -32,21 +32,21 @@ def transaction(session, *operations):
     return ["%s,begin" % session, *inside, "%s,commit" % session]
 
 
-def link(place):
-    """The session at this place of the chain reads what the one before it wrote, and writes its own."""
-    return transaction("p%02d" % place, *(["r v%d 1" % (place - 1)] if place > 1 else []), "w v%d 1" % place)
+def link(position):
+    """The session at this position of the chain reads what the one before it wrote, and writes its own."""
+    return transaction("p%02d" % position, *(["r v%d 1" % (position - 1)] if position > 1 else []), "w v%d 1" % position)
 
 
-def stale_reader(place):
-    """A session that knows the chain up to this place, and reads the value before the first write."""
-    return transaction("q%02d" % place, "r v%d 1" % place, "r v1 0")
+def stale_reader(position):
+    """A session that knows the chain up to this position, and reads the value before the first write."""
+    return transaction("q%02d" % position, "r v%d 1" % position, "r v1 0")
 
 
 def parts():
     """The records before each seal since the one before it, and what the causal answer begins with."""
-    for place in range(1, 11):
-        yield link(place), "consistent: %d transactions" % place
-    rest = [record for place in range(11, CHAIN) for record in link(place)]
+    for position in range(1, 11):
+        yield link(position), "consistent: %d transactions" % position
+    rest = [record for position in range(11, CHAIN) for record in link(position)]
     for cost in range(FIRST_COST, LAST_COST - 1, -1):
         least = "anomaly: %d steps, stale-initial-read" % cost
         yield rest + stale_reader(cost - 2), least
