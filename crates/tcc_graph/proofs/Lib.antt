@@ -6,6 +6,7 @@
 --   Upward       every cycle, begun at its lowest number, is a route over numbers from there upward
 --   Tied         the comparisons of steps and links are total orders, and what ties is the same
 --   Numberings   where numbers stand in an order
+--   Kept         what a map of numbers keeps of pairs, it keeps of walks, reasons, links and cycles
 --   NameLemmas   names in lists: found by a test, and by place in a sorted list
 --   KeysLemmas   which names are keys
 --   SortedKeys   the keys are in byte order
@@ -16,6 +17,7 @@ pub mod Ascending
 pub mod GraphLemmas
 pub mod GroupedLemmas
 pub mod Judged
+pub mod Kept
 pub mod KeyRowLemmas
 pub mod KeyTableLemmas
 pub mod KeysLemmas

@@ -1,11 +1,10 @@
--- From snapshots to links, each file over those above it:
+-- From snapshots to links, each file over those above it, and over Kept of tcc_graph:
 --   Elements   elements of lists that are mapped, or sorted without repeats
 --   Placed     where transactions stand, by name and place; a snapshot that continues another has each of them
 --   Numbered   the transaction of each number
 --   Searching  a search for a label, place by place
 --   Labels     no two transactions have one label
 --   Meeting    the number of each transaction in a snapshot that continues its own
---   Kept       what a map of numbers keeps of pairs, it keeps of walks, reasons, links and cycles
 --   Written    which keys a transaction writes, by the values that it writes visibly
 --   Sliced     a snapshot keeps the pairs of its slices
 --   Growth     a snapshot that continues another has it as a slice
@@ -15,7 +14,6 @@
 pub mod Elements
 pub mod Growth
 pub mod Keeping
-pub mod Kept
 pub mod Labels
 pub mod Meeting
 pub mod Numbered

@@ -19,7 +19,7 @@ use Rattle.tcc_growth.proofs.Elements.{once_in, once_from, reads_apart}
 use Rattle.tcc_growth.proofs.Placed.{session_named, same_session}
 use Rattle.tcc_growth.proofs.Numbered.{number_some, number_below, number_stands, of_number, entry_is, owner_is}
 use Rattle.tcc_growth.proofs.Written.{written_value, value_written, shown, shows_it}
-use Rattle.tcc_growth.proofs.Kept.{IsKept}
+use Rattle.tcc_graph.proofs.Kept.{IsKept}
 
 -- an external read, by its source
 abbrev with_source : List Stand → List ℕ × ℕ → List ℕ × ℕ

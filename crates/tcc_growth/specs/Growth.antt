@@ -1,5 +1,5 @@
 -- What a snapshot keeps when it grows.
-use Rattle.std.specs.Prelude.{ℕ, ◌≡◌, ◌+◌, ◌<◌, ◌≤◌, List, [], ◌∷◌, length, map, slice_index_or}
+use Rattle.std.specs.Prelude.{ℕ, ◌≡◌, ◌+◌, ◌<◌, ◌≤◌, List, [], length, map, slice_index_or}
 use Rattle.tcc_txn.specs.Finished.{KeepsLimits}
 use Rattle.tcc_txn.specs.Nested.{IsNested}
 use Rattle.tcc_txn.specs.Snapshots.{Sessions}
@@ -7,7 +7,7 @@ use Rattle.tcc_reads.specs.Faults.{read_faults}
 use Rattle.tcc_reads.specs.History.{count}
 use Rattle.tcc_reads.specs.Sources.{history}
 use Rattle.tcc_graph.specs.Levels.{Judged, judged}
-use Rattle.tcc_graph.specs.Links.{IsLink, link_from, link_to, link_cost, cost}
+use Rattle.tcc_graph.specs.Links.{IsLink, link_cost, cost}
 use Rattle.tcc_graph.specs.Numbers.{label}
 use Rattle.tcc_graph.specs.Routes.{IsCycle, IsLeastCycle, HasCycle}
 use Rattle.tcc_graph.specs.declared.level.Level.{Level}
@@ -63,11 +63,6 @@ abbrev pub CostsNoMore : Sessions → Sessions → Type 0
 CostsNoMore small large =
     (level : Level) (s : ℕ) (links : List Link) (t : ℕ) (others : List Link) → IsLeastCycle (judged (history small) level) s links
     → IsLeastCycle (judged (history large) level) t others → cost others ≤ cost links
-
--- the links lead from a to b by their numbers alone, each from where the one before ends
-abbrev pub LeadOn : ℕ → ℕ → List Link → Type 0
-LeadOn a b [] = a ≡ b
-LeadOn a b (l ∷ links) = (link_from l ≡ a) × LeadOn (link_to l) b links
 
 -- of some links in the numbers of a history, the first that is no link of it, counted from 1
 pub record IsFirstMissing (j : Judged) (links : List Link) (n : ℕ) : Type 0 where

@@ -7,9 +7,9 @@ ghost use Rattle.tcc_graph.specs.Links.{IsLink, cost};
 ghost use Rattle.tcc_graph.specs.Routes.{IsCycle};
 ghost use Rattle.tcc_graph.specs.declared.level.Level.{Level};
 ghost use Rattle.tcc_graph.specs.declared.link.Link.{Link};
-ghost use Rattle.tcc_graph.specs.Renumbered.{link_by};
+ghost use Rattle.tcc_graph.specs.Renumbered.{LeadOn, link_by};
 ghost use Rattle.tcc_growth.specs.Growth.{Grows, IsFirstMissing, number_in, link_in, CarriesLinks, CarriesCycles, KeepsLabels, KeepsLinks, KeepsCycles};
-ghost use Rattle.tcc_growth.specs.Growth.{KeepsAnomalies, CostsNoMore, LeadOn};
+ghost use Rattle.tcc_growth.specs.Growth.{KeepsAnomalies, CostsNoMore};
 ghost use Rattle.tcc_growth.specs.Slices.{IsSlice};
 ghost use Rattle.tcc_reads.specs.Sources.{history};
 

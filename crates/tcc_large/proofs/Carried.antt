@@ -10,7 +10,7 @@ use Rattle.tcc_graph.specs.Keys.{IsWriter, has_name}
 use Rattle.tcc_graph.specs.Links.{IsLink, link_cost}
 use Rattle.tcc_graph.proofs.NameLemmas.{has_name-contains}
 use Rattle.tcc_graph.proofs.Pairs.{initial_pair, pair_parts}
-use Rattle.tcc_growth.proofs.Kept.{IsKept, kept_link, moved_cost}
+use Rattle.tcc_graph.proofs.Kept.{IsKept, kept_link, moved_cost}
 use Rattle.tcc_large.specs.private.Carrying.{carry, IsRising, KeepsReads, KeepsSessions, KeepsWrites}
 use Rattle.tcc_large.specs.Slices.{IsCarried}
 

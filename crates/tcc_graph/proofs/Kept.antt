@@ -18,8 +18,7 @@ use Rattle.tcc_graph.specs.declared.link.Link.{Link}
 use Rattle.tcc_graph.specs.declared.link.Link.TheVariants as link
 use Rattle.tcc_graph.proofs.Linking.{derived_cost, cost_cons}
 use Rattle.tcc_graph.proofs.Pairs.{initial_pair, pair_parts}
-use Rattle.tcc_graph.specs.Renumbered.{step_by, link_by}
-use Rattle.tcc_growth.specs.Growth.{LeadOn}
+use Rattle.tcc_graph.specs.Renumbered.{LeadOn, link_by, step_by}
 
 -- the numbers of h go to numbers of k that have what they have
 pub record IsKept (h : History) (k : History) (f : ℕ → ℕ) : Type 0 where
