@@ -268,10 +268,7 @@ fn level_of(matches: &ArgMatches) -> Option<Level>
     ensures { MatchOption result ((level : Level) → IsLevel (level_text (subcommand_rows_of matches.now)) level → ⊥)
         (IsLevel (level_text (subcommand_rows_of matches.now))) }
 {
-    match word_for(matches, "level") {
-        Some(word) => level_named(word),
-        None => Some(Level::Causal),
-    }
+    word_for(matches, "level").map_or(Some(Level::Causal), level_named)
 }
 
 /// The number of workers that the word says, in decimal; none exactly by another word.
@@ -289,10 +286,7 @@ fn workers_of(matches: &ArgMatches) -> Option<Workers>
     ensures { MatchOption result ((workers : ℕ) → IsWorkers (workers_text (subcommand_rows_of matches.now)) workers → ⊥)
         (IsWorkers (workers_text (subcommand_rows_of matches.now))) }
 {
-    match word_for(matches, "workers") {
-        Some(word) => workers_named(word),
-        None => Some(Workers::ONE),
-    }
+    word_for(matches, "workers").map_or(Some(Workers::ONE), workers_named)
 }
 
 /// The number of transactions that the word says, in decimal; none exactly by another word.
@@ -310,10 +304,7 @@ fn required_of(matches: &ArgMatches) -> Option<u32>
     ensures { MatchOption result ((required : ℕ) → IsRequired (required_text (subcommand_rows_of matches.now)) required → ⊥)
         (IsRequired (required_text (subcommand_rows_of matches.now))) }
 {
-    match word_for(matches, "require") {
-        Some(word) => required_named(word),
-        None => Some(0),
-    }
+    word_for(matches, "require").map_or(Some(0), required_named)
 }
 
 /// The path that the subcommand has for the records, if they are not those of the standard input.
