@@ -112,11 +112,11 @@ explain_asks = refl
 
 -- ---- check, of whichever program
 
-abbrev pub check_line : List Text
+abbrev check_line : List Text
 check_line = codes "check" ∷ codes "h.csv" ∷ codes "c.txt" ∷ []
 
 -- the subcommand that was met, and the two paths: the first word is the history's, and the second the certificate's
-abbrev pub check_asks : Option (Text × List Row) → Option Text × Option Text × Option Text
+abbrev check_asks : Option (Text × List Row) → Option Text × Option Text × Option Text
 check_asks met = (
   option_map (λ entered. entered.0) met,
   option_and_then (λ entered. first_of (codes "history") entered.1) met,
@@ -124,11 +124,11 @@ check_asks met = (
 )
 
 -- what is read of that line
-abbrev pub check_asked : Option Text × Option Text × Option Text
+abbrev check_asked : Option Text × Option Text × Option Text
 check_asked = (Some (codes "check"), Some (codes "h.csv"), Some (codes "c.txt"))
 
 -- lines with something wrong, each with what that is
-abbrev pub check_faulty : List (List Text × List ErrorKind)
+abbrev check_faulty : List (List Text × List ErrorKind)
 check_faulty =
     ([], MissingSubcommand ∷ [])
     ∷ (codes "--help" ∷ [], DisplayHelp ∷ [])
@@ -141,17 +141,16 @@ check_faulty =
     ∷ (codes "check" ∷ codes "--level=atomic" ∷ codes "h.csv" ∷ codes "c.txt" ∷ [], UnknownArgument ∷ [])
     ∷ []
 
-check_faults : faults check_line ≡ []
-unfolding clap_on_literals
-check_faults = refl
+-- what clap finds wrong with these lines, and reads of them, by the command of a program of this name
+abbrev pub IsCheckRead : App → Text → Type 0
+IsCheckRead app name =
+    (fault_of app (name ∷ check_line) ≡ [])
+    × (check_asks (subcommand_of app (name ∷ check_line)) ≡ check_asked)
+    × (map (λ line. fault_of app (name ∷ line.0)) check_faulty ≡ map (λ line. line.1) check_faulty)
 
-check_reads : check_asks (subcommand_of program (codes "tcc" ∷ check_line)) ≡ check_asked
+check_read : IsCheckRead program (codes "tcc")
 unfolding clap_on_literals
-check_reads = refl
-
-check_each_fault : map (λ line. faults line.0) check_faulty ≡ map (λ line. line.1) check_faulty
-unfolding clap_on_literals
-check_each_fault = refl
+check_read = (refl, refl, refl)
 
 -- ---- explain, and what is no subcommand
 

@@ -59,9 +59,13 @@ level_option levels = valued_option (codes "level") (Names levels) (level_word C
 abbrev pub workers_option : Rule
 workers_option = valued_option (codes "workers") (Unsigned 1 MAX_WORKERS) (codes "1")
 
+-- an option by its own name, for a path
+abbrev pub path_option : Text → Rule
+path_option id = record (new_rule id) { long = Some id; value_names = 1 }
+
 -- --certificate PATH
 abbrev pub certificate_option : Rule
-certificate_option = record (new_rule (codes "certificate")) { long = Some (codes "certificate"); value_names = 1 }
+certificate_option = path_option (codes "certificate")
 
 -- --require N, a number from 1 up to what 32 bits hold
 abbrev pub require_option : Rule
@@ -69,7 +73,7 @@ require_option = record (new_rule (codes "require")) { long = Some (codes "requi
 
 -- --slice PATH
 abbrev pub slice_option : Rule
-slice_option = record (new_rule (codes "slice")) { long = Some (codes "slice"); value_names = 1 }
+slice_option = path_option (codes "slice")
 
 -- a path, which help calls by one name
 abbrev pub path : Text → Bool → Rule
