@@ -1,3 +1,4 @@
+pub mod Parsing
 pub mod PlainCommands
 pub mod WorkedCheckerLines
 pub mod WorkedCommandLines

@@ -2,7 +2,7 @@
 use Rattle.std.proofs.Common.{◌≡◌, true, List, [], ◌∷◌, map, Option, None, Some, refl, codes}
 use Rattle.std.specs.Prelude.{option_and_then, option_map}
 use Rattle.std.specs.Borrow.{Bor}
-use Rattle.clap.specs.Walk.{Text, first_of}
+use Rattle.clap.specs.Walk.{Row, Text, first_of}
 use Rattle.clap.specs.Faults.{fault_of, is_simple_and_free}
 use Rattle.clap.specs.Simple.{App, is_simple, subcommand_of}
 use Rattle.clap.specs.declared.error.kind.ErrorKind.{ErrorKind}
@@ -39,47 +39,67 @@ program = tcc_command levels
 abbrev faults : List Text → List ErrorKind
 faults words = fault_of program (codes "tcc" ∷ words)
 
--- what it reads of the level, the number of workers, the flag, and the certificate's path, behind `explain`
-abbrev asks : List Text → Option Text × Option Text × Option Text × Option Text
+-- what it reads behind `explain`
+record Asked : Type 0 where
+  level : Option Text
+  workers : Option Text
+  json : Option Text
+  large : Option Text
+  slice : Option Text
+  certificate : Option Text
+  required : Option Text
+  history : Option Text
+
+abbrev asks : List Text → Asked
 asks words =
     let met = subcommand_of program (codes "tcc" ∷ codes "explain" ∷ words) in
-    (level_text met, workers_text met, flag_text (codes "json") met, certificate_path met)
+    record {
+      level = level_text met;
+      workers = workers_text met;
+      json = flag_text (codes "json") met;
+      large = flag_text (codes "large") met;
+      slice = slice_path met;
+      certificate = certificate_path met;
+      required = required_text met;
+      history = history_path met;
+    }
 
--- what it reads of the file and of the transactions that are required
-abbrev places : List Text → Option Text × Option Text
-places words =
-    let met = subcommand_of program (codes "tcc" ∷ codes "explain" ∷ words) in
-    (history_path met, required_text met)
-
--- command lines with nothing wrong, each with that
-abbrev places_lines : List (List Text × (Option Text × Option Text))
-places_lines =
-    ([], (None, None))
-    ∷ (codes "h.csv" ∷ [], (Some (codes "h.csv"), None))
-    -- a hyphen alone is no option
-    ∷ (codes "-" ∷ codes "--require" ∷ codes "1" ∷ [], (Some (codes "-"), Some (codes "1")))
-    ∷ (codes "--require=4294967295" ∷ codes "--json" ∷ codes "h.csv" ∷ [], (Some (codes "h.csv"), Some (codes "4294967295")))
-    -- behind `--` each word is a path
-    ∷ (codes "--" ∷ codes "--json" ∷ [], (Some (codes "--json"), None))
-    ∷ []
-
-places_faults : map (λ line. faults (codes "explain" ∷ line.0)) places_lines ≡ map (λ line. []) places_lines
-unfolding clap_on_literals
-places_faults = refl
-
-places_read : map (λ line. places line.0) places_lines ≡ map (λ line. line.1) places_lines
-unfolding clap_on_literals
-places_read = refl
+-- without a word behind it
+abbrev plain : Asked
+plain = record {
+  level = Some (codes "causal");
+  workers = Some (codes "1");
+  json = Some (codes "false");
+  large = Some (codes "false");
+  slice = None;
+  certificate = None;
+  required = None;
+  history = None;
+}
 
 -- command lines with nothing wrong, each with all that is read of it
-abbrev explain_lines : List (List Text × (Option Text × Option Text × Option Text × Option Text))
+abbrev explain_lines : List (List Text × Asked)
 explain_lines =
-    ([], (Some (codes "causal"), Some (codes "1"), Some (codes "false"), None))
-    ∷ (codes "--json" ∷ [], (Some (codes "causal"), Some (codes "1"), Some (codes "true"), None))
-    ∷ (codes "--level" ∷ codes "atomic" ∷ [], (Some (codes "atomic"), Some (codes "1"), Some (codes "false"), None))
-    ∷ (codes "--level=atomic" ∷ codes "--json" ∷ [], (Some (codes "atomic"), Some (codes "1"), Some (codes "true"), None))
-    ∷ (codes "--certificate" ∷ codes "c.txt" ∷ [], (Some (codes "causal"), Some (codes "1"), Some (codes "false"), Some (codes "c.txt")))
-    ∷ (codes "--workers" ∷ codes "32" ∷ [], (Some (codes "causal"), Some (codes "32"), Some (codes "false"), None))
+    ([], plain)
+    ∷ (codes "--json" ∷ [], record plain { json = Some (codes "true") })
+    ∷ (codes "--level" ∷ codes "atomic" ∷ [], record plain { level = Some (codes "atomic") })
+    ∷ (codes "--level=atomic" ∷ codes "--json" ∷ [], record plain { level = Some (codes "atomic"); json = Some (codes "true") })
+    ∷ (codes "--certificate" ∷ codes "c.txt" ∷ [], record plain { certificate = Some (codes "c.txt") })
+    ∷ (codes "--workers" ∷ codes "32" ∷ [], record plain { workers = Some (codes "32") })
+    ∷ (codes "--large" ∷ [], record plain { large = Some (codes "true") })
+    ∷ (
+      codes "--slice" ∷ codes "s.csv" ∷ codes "--large" ∷ codes "--json" ∷ [],
+      record plain { large = Some (codes "true"); slice = Some (codes "s.csv"); json = Some (codes "true") },
+    )
+    ∷ (codes "h.csv" ∷ [], record plain { history = Some (codes "h.csv") })
+    -- a hyphen alone is no option
+    ∷ (codes "-" ∷ codes "--require" ∷ codes "1" ∷ [], record plain { history = Some (codes "-"); required = Some (codes "1") })
+    ∷ (
+      codes "--require=4294967295" ∷ codes "--json" ∷ codes "h.csv" ∷ [],
+      record plain { history = Some (codes "h.csv"); required = Some (codes "4294967295"); json = Some (codes "true") },
+    )
+    -- behind `--` each word is a path
+    ∷ (codes "--" ∷ codes "--json" ∷ [], record plain { history = Some (codes "--json") })
     ∷ []
 
 explain_faults : map (λ line. faults (codes "explain" ∷ line.0)) explain_lines ≡ map (λ line. []) explain_lines
@@ -90,61 +110,56 @@ explain_asks : map (λ line. asks line.0) explain_lines ≡ map (λ line. line.1
 unfolding clap_on_literals
 explain_asks = refl
 
--- what it reads of the flag for large histories, and of the slice's path
-abbrev sizes : List Text → Option Text × Option Text
-sizes words =
-    let met = subcommand_of program (codes "tcc" ∷ codes "explain" ∷ words) in
-    (flag_text (codes "large") met, slice_path met)
-
-abbrev sizes_lines : List (List Text × (Option Text × Option Text))
-sizes_lines =
-    ([], (Some (codes "false"), None))
-    ∷ (codes "--large" ∷ [], (Some (codes "true"), None))
-    ∷ (codes "--slice" ∷ codes "s.csv" ∷ codes "--large" ∷ codes "--json" ∷ [], (Some (codes "true"), Some (codes "s.csv")))
-    ∷ []
-
-sizes_faults : map (λ line. faults (codes "explain" ∷ line.0)) sizes_lines ≡ map (λ line. []) sizes_lines
-unfolding clap_on_literals
-sizes_faults = refl
-
-sizes_read : map (λ line. sizes line.0) sizes_lines ≡ map (λ line. line.1) sizes_lines
-unfolding clap_on_literals
-sizes_read = refl
+-- ---- check, of whichever program
 
 abbrev check_line : List Text
 check_line = codes "check" ∷ codes "h.csv" ∷ codes "c.txt" ∷ []
 
-check_faults : faults check_line ≡ []
-unfolding clap_on_literals
-check_faults = refl
+-- the subcommand that was met, and the two paths: the first word is the history's, and the second the certificate's
+abbrev check_asks : Option (Text × List Row) → Option Text × Option Text × Option Text
+check_asks met = (
+  option_map (λ entered. entered.0) met,
+  option_and_then (λ entered. first_of (codes "history") entered.1) met,
+  option_and_then (λ entered. first_of (codes "certificate") entered.1) met,
+)
 
--- the subcommand, and the two paths: the first word is the history's, and the second the certificate's
-abbrev check_asks : List Text → Option Text × Option Text × Option Text
-check_asks words =
-    let met = subcommand_of program (codes "tcc" ∷ words) in (
-      option_map (λ entered. entered.0) met,
-      option_and_then (λ entered. first_of (codes "history") entered.1) met,
-      option_and_then (λ entered. first_of (codes "certificate") entered.1) met,
-    )
+-- what is read of that line
+abbrev check_asked : Option Text × Option Text × Option Text
+check_asked = (Some (codes "check"), Some (codes "h.csv"), Some (codes "c.txt"))
 
-check_reads : check_asks check_line ≡ (Some (codes "check"), Some (codes "h.csv"), Some (codes "c.txt"))
-unfolding clap_on_literals
-check_reads = refl
-
--- command lines with something wrong, each with what that is
-abbrev faulty_lines : List (List Text × List ErrorKind)
-faulty_lines =
+-- lines with something wrong, each with what that is
+abbrev check_faulty : List (List Text × List ErrorKind)
+check_faulty =
     ([], MissingSubcommand ∷ [])
     ∷ (codes "--help" ∷ [], DisplayHelp ∷ [])
-    ∷ (codes "explain" ∷ codes "-h" ∷ [], DisplayHelp ∷ [])
-    -- the version is one of the program, and not of a subcommand
+    ∷ (codes "check" ∷ codes "-h" ∷ [], DisplayHelp ∷ [])
     ∷ (codes "--version" ∷ [], DisplayVersion ∷ [])
-    ∷ (codes "explain" ∷ codes "--version" ∷ [], UnknownArgument ∷ [])
     -- both paths have to be given, and no third
     ∷ (codes "check" ∷ codes "h.csv" ∷ [], MissingRequiredArgument ∷ [])
     ∷ (codes "check" ∷ codes "a" ∷ codes "b" ∷ codes "c" ∷ [], UnknownArgument ∷ [])
     -- a certificate names its own level
     ∷ (codes "check" ∷ codes "--level=atomic" ∷ codes "h.csv" ∷ codes "c.txt" ∷ [], UnknownArgument ∷ [])
+    ∷ []
+
+-- what clap finds wrong with these lines, and reads of them, by the command of a program of this name
+abbrev pub IsCheckRead : App → Text → Type 0
+IsCheckRead app name =
+    (fault_of app (name ∷ check_line) ≡ [])
+    × (check_asks (subcommand_of app (name ∷ check_line)) ≡ check_asked)
+    × (map (λ line. fault_of app (name ∷ line.0)) check_faulty ≡ map (λ line. line.1) check_faulty)
+
+check_read : IsCheckRead program (codes "tcc")
+unfolding clap_on_literals
+check_read = (refl, refl, refl)
+
+-- ---- explain, and what is no subcommand
+
+-- command lines with something wrong, each with what that is
+abbrev faulty_lines : List (List Text × List ErrorKind)
+faulty_lines =
+    (codes "explain" ∷ codes "-h" ∷ [], DisplayHelp ∷ [])
+    -- the version is one of the program, and not of a subcommand
+    ∷ (codes "explain" ∷ codes "--version" ∷ [], UnknownArgument ∷ [])
     -- no subcommand of this name, and no argument of it either
     ∷ (codes "judge" ∷ [], UnknownArgument ∷ InvalidSubcommand ∷ [])
     ∷ (codes "explain" ∷ codes "one" ∷ codes "more" ∷ [], UnknownArgument ∷ [])

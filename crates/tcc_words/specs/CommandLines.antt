@@ -1,5 +1,5 @@
 -- What the words of a command line ask for, and how a run ends that answers nothing.
-use Rattle.std.specs.Prelude.{ℕ, ◌≡◌, ◌≢◌, ◌<◌, ◌≤◌, ◌⊎◌, Bool, true, false, List, [], ◌∷◌, Option}
+use Rattle.std.specs.Prelude.{ℕ, ◌≡◌, ◌≢◌, ◌⊎◌, Bool, true, false, List, [], ◌∷◌, Option}
 use Rattle.std.specs.Prelude.{None, Some, map, option_map, option_and_then, Result, Ok, Err, codes}
 use Rattle.std.specs.Prelude.{unwrap_or}
 use Rattle.std.specs.Borrow.{Bor}
@@ -19,7 +19,6 @@ use Rattle.tcc_words.specs.declared.command_line.Request.{Request}
 use Rattle.tcc_words.specs.declared.command_line.Request.TheVariants.{Explain, Check}
 use Rattle.tcc_graph.specs.declared.level.Level.{Level}
 use Rattle.tcc_graph.specs.declared.level.Level.TheVariants.{Causal, Atomic}
-use Rattle.tcc_print.specs.declared.options.Options.{Options}
 use Rattle.tcc_print.specs.declared.status.Status.TheVariants.{Success, Memory, Usage}
 use Rattle.tcc_print.specs.Statuses.{code_of}
 use Rattle.tcc_print.specs.Printed.{Prints, memory_line}
@@ -60,9 +59,13 @@ level_option levels = valued_option (codes "level") (Names levels) (level_word C
 abbrev pub workers_option : Rule
 workers_option = valued_option (codes "workers") (Unsigned 1 MAX_WORKERS) (codes "1")
 
+-- an option by its own name, for a path
+abbrev pub path_option : Text → Rule
+path_option id = record (new_rule id) { long = Some id; value_names = 1 }
+
 -- --certificate PATH
 abbrev pub certificate_option : Rule
-certificate_option = record (new_rule (codes "certificate")) { long = Some (codes "certificate"); value_names = 1 }
+certificate_option = path_option (codes "certificate")
 
 -- --require N, a number from 1 up to what 32 bits hold
 abbrev pub require_option : Rule
@@ -70,7 +73,7 @@ require_option = record (new_rule (codes "require")) { long = Some (codes "requi
 
 -- --slice PATH
 abbrev pub slice_option : Rule
-slice_option = record (new_rule (codes "slice")) { long = Some (codes "slice"); value_names = 1 }
+slice_option = path_option (codes "slice")
 
 -- a path, which help calls by one name
 abbrev pub path : Text → Bool → Rule

@@ -9,7 +9,7 @@ ghost use Rattle.tcc_words.specs.CommandLines.{Asks, AsksBy, AsksCheck, AsksExpl
 ghost use Rattle.tcc_words.specs.CommandLines.{IsLevel, IsWorkers, PrintsHelp, SaysWorkers, certificate_option};
 ghost use Rattle.tcc_words.specs.CommandLines.{check_command, explain_command, flag, flag_text, level_option, level_text, level_word, option_text};
 ghost use Rattle.tcc_words.specs.CommandLines.{history_path, require_option, required_text, slice_option};
-ghost use Rattle.tcc_words.specs.CommandLines.{path, tcc_command, valued_option, workers_option, workers_text};
+ghost use Rattle.tcc_words.specs.CommandLines.{path, path_option, tcc_command, valued_option, workers_option, workers_text};
 
 use crate::help;
 use clap::builder::ValueParser;
@@ -92,15 +92,12 @@ fn workers_option<'a>(alloc: Global) -> Arg<'a>
     )
 }
 
-/// The option for the file of the certificate.
-fn certificate_option<'a>(alloc: Global) -> Arg<'a>
-    ensures rule { rule_of result ≡ certificate_option }
+/// An option by its own name for the path of a file.
+fn path_option<'a>(alloc: Global, id: &'a str, help: &'a str) -> Arg<'a>
+    ensures rule { rule_of result ≡ path_option id.now }
     ensures own { result.global ≡ false }
 {
-    Arg::new(alloc, "certificate")
-        .long("certificate")
-        .value_name("PATH")
-        .help("Writes the certificate of the last answer to this file")
+    Arg::new(alloc, id).long(id).value_name("PATH").help(help)
 }
 
 /// The option for how many transactions are required.
@@ -128,17 +125,6 @@ fn flag<'a>(alloc: Global, id: &'a str, help: &'a str) -> Arg<'a>
         .action(ArgAction::SetTrue)
 }
 
-/// The option for the file of a slice.
-fn slice_option<'a>(alloc: Global) -> Arg<'a>
-    ensures rule { rule_of result ≡ slice_option }
-    ensures own { result.global ≡ false }
-{
-    Arg::new(alloc, "slice")
-        .long("slice")
-        .value_name("PATH")
-        .help("With --large, writes a small history that has the last anomaly to this file")
-}
-
 /// What is added for large histories: that one is expected, and where the slice of its anomaly goes.
 fn with_large<'a>(alloc: Global, explain: Command<'a>) -> Result<Command<'a>, AllocError>
     ensures { IfOk result (λ made. app_of made ≡ with_rule (with_rule (app_of explain.entry) (flag (codes "large"))) slice_option) }
@@ -148,7 +134,11 @@ fn with_large<'a>(alloc: Global, explain: Command<'a>) -> Result<Command<'a>, Al
         "large",
         "Takes up to 1048575 transactions of 4096 sessions",
     );
-    let slice = slice_option(alloc);
+    let slice = path_option(
+        alloc,
+        "slice",
+        "With --large, writes a small history that has the last anomaly to this file",
+    );
     let first = explain.arg(large)?;
     first.arg(slice)
 }
@@ -157,7 +147,11 @@ fn with_large<'a>(alloc: Global, explain: Command<'a>) -> Result<Command<'a>, Al
 fn with_places<'a>(alloc: Global, explain: Command<'a>) -> Result<Command<'a>, AllocError>
     ensures { IfOk result (λ made. app_of made ≡ with_rule (with_rule (with_rule (app_of explain.entry) certificate_option) require_option) (path (codes "history") false)) }
 {
-    let certificate = certificate_option(alloc);
+    let certificate = path_option(
+        alloc,
+        "certificate",
+        "Writes the certificate of the last answer to this file",
+    );
     let require = require_option(alloc);
     let history = path(
         alloc,
@@ -268,10 +262,7 @@ fn level_of(matches: &ArgMatches) -> Option<Level>
     ensures { MatchOption result ((level : Level) → IsLevel (level_text (subcommand_rows_of matches.now)) level → ⊥)
         (IsLevel (level_text (subcommand_rows_of matches.now))) }
 {
-    match word_for(matches, "level") {
-        Some(word) => level_named(word),
-        None => Some(Level::Causal),
-    }
+    word_for(matches, "level").map_or(Some(Level::Causal), level_named)
 }
 
 /// The number of workers that the word says, in decimal; none exactly by another word.
@@ -289,10 +280,7 @@ fn workers_of(matches: &ArgMatches) -> Option<Workers>
     ensures { MatchOption result ((workers : ℕ) → IsWorkers (workers_text (subcommand_rows_of matches.now)) workers → ⊥)
         (IsWorkers (workers_text (subcommand_rows_of matches.now))) }
 {
-    match word_for(matches, "workers") {
-        Some(word) => workers_named(word),
-        None => Some(Workers::ONE),
-    }
+    word_for(matches, "workers").map_or(Some(Workers::ONE), workers_named)
 }
 
 /// The number of transactions that the word says, in decimal; none exactly by another word.
@@ -310,10 +298,7 @@ fn required_of(matches: &ArgMatches) -> Option<u32>
     ensures { MatchOption result ((required : ℕ) → IsRequired (required_text (subcommand_rows_of matches.now)) required → ⊥)
         (IsRequired (required_text (subcommand_rows_of matches.now))) }
 {
-    match word_for(matches, "require") {
-        Some(word) => required_named(word),
-        None => Some(0),
-    }
+    word_for(matches, "require").map_or(Some(0), required_named)
 }
 
 /// The path that the subcommand has for the records, if they are not those of the standard input.

@@ -1,24 +1,11 @@
 -- The command is the known one, of which clap says all.
-use Rattle.std.proofs.Common.{◌≡◌, [], true, Ok, Err, subst, sym, map, string_bytes, inl}
-use Rattle.std.specs.Prelude.{Result, IfErr, IsErrAnd}
+use Rattle.std.proofs.Common.{◌≡◌, [], true, subst, map, string_bytes}
 use Rattle.std.proofs.lemmas.Result.{IfOk-weaker}
-use Rattle.clap.specs.Words.{FailsBy, HasKind, HasMatchesOf, Kinds, fault_of, is_simple_and_free, kind_of}
-use Rattle.clap.specs.declared.error.Error.{Error}
-use Rattle.clap.specs.declared.error.kind.ErrorKind.TheVariants.{OutOfMemory}
+use Rattle.clap.specs.Words.{HasKind, HasMatchesOf, fault_of, is_simple_and_free}
 use Rattle.tcc_words.specs.CommandLines.{AsksBy}
-use Rattle.tcc_words.specs.declared.command_line.Request.{Request}
+use Rattle.tcc_words.proofs.Parsing.{fails_again, only_memory}
 use Rattle.tcc_words.proofs.WorkedCommandLines.{is_exact, is_simple_command}
 use Rattle.tcc_words.proofs.command_line.parse.Goals as goal
-
--- without a fault in the words only memory can be wanting
-only_memory : (kinds : Kinds) (r : Result Request Error) → kinds ≡ [] → IfErr r (λ e. kind_of e ≡ OutOfMemory) → FailsBy kinds r
-only_memory kinds (Ok request) none fails = none
-only_memory kinds (Err error) none fails = inl fails
-
--- a parse that fails ends with its own error
-fails_again : (kinds : Kinds) (e : Error) (r : Result Request Error) → HasKind kinds e → IsErrAnd r (λ u. u ≡ e) → FailsBy kinds r
-fails_again kinds e (Ok request) has same = absurd same
-fails_again kinds e (Err u) has same = subst (HasKind kinds) (sym same) has
 
 pub returns-in_err-matches-clause-fails : goal.returns-in_err-matches-clause-fails
 returns-in_err-matches-clause-fails c =

@@ -1,5 +1,5 @@
 -- The paths are the words that clap has for them.
-use Rattle.std.proofs.Common.{◌≡◌, ◌∙◌, ap, sym, Some, codes, string_bytes}
+use Rattle.std.proofs.Common.{◌∙◌, ap, sym, Some, codes}
 use Rattle.clap.specs.Matches.{found_of}
 use Rattle.clap.proofs.WalkLemmas.{first_value-rows}
 use Rattle.tcc_words.proofs.command_line.paths_of.Goals as goal

@@ -1,5 +1,5 @@
 -- Words that ask for nothing end the run by their fault, or out of memory.
-use Rattle.std.proofs.Common.{◌≡◌, ℕ, List, Option, Err, rules, subst, inl, inr, map, string_bytes}
+use Rattle.std.proofs.Common.{ℕ, List, Option, Err, rules, subst, inl, inr, map, string_bytes}
 use Rattle.clap.specs.Words.{HasKind, fault_of, kind_of}
 use Rattle.clap.specs.declared.error.Error.{Error}
 use Rattle.tcc_words.specs.CommandLines.{AreLevels, EndsUnasked, IsAsked, Words, tcc_command}

@@ -10,5 +10,5 @@ returns c =
     let first_is : app_of c.in_ok-first.first ≡ with_rule (app_of c.args.explain) (flag (codes "large"))
     = c.in_ok-first.ensures.shape c.flag-large.ensures.own ∙ ap₂ with_rule refl c.flag-large.ensures.rule in
     IfOk-weaker c.arg-2.result _ _
-    (λ made adds. adds.shape c.slice_option-slice.ensures.own ∙ ap₂ with_rule first_is c.slice_option-slice.ensures.rule)
+    (λ made adds. adds.shape c.path_option-slice.ensures.own ∙ ap₂ with_rule first_is c.path_option-slice.ensures.rule)
     c.arg-2.ensures
