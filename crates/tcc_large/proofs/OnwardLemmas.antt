@@ -75,7 +75,7 @@ against_read h ranks from reader reads k read to value inside is sources (other,
     ((other, listed_read h read.1 reader read.0 source to there, writer), new)
 
 -- ---- derived links by walks
--- those that stand at one of the first n places behind the first have no such read
+-- those that stand at one of the first n positions behind the first have no such read
 abbrev pub NoneFrom : History → List ℕ → ℕ → List (ℕ × ℕ) → ℕ → Type 0
 NoneFrom h ranks from queue n = (i : ℕ) → 0 < i → i < n → AreReadsPast h ranks from (number_at queue i)
 
@@ -87,13 +87,13 @@ from_more h ranks from queue n none here i some l = go (cases_lt i n)
     go (inl less) = none i some less
     go (inr past) = let same : n ≡ i = omega (arith, past, l) in subst (λ (z : ℕ). AreReadsPast h ranks from (number_at queue z)) same here
 
-pub walks_past : (h : History) (ranks : List ℕ) (from : ℕ) (places : List ℕ) (queue : List (ℕ × ℕ)) (n : ℕ) → IsReach h places queue
-    → AreSpread h places queue (length queue) → number_at queue 0 ≡ from → length queue ≤ n → NoneFrom h ranks from queue n
+pub walks_past : (h : History) (ranks : List ℕ) (from : ℕ) (positions : List ℕ) (queue : List (ℕ × ℕ)) (n : ℕ) → IsReach h positions queue
+    → AreSpread h positions queue (length queue) → number_at queue 0 ≡ from → length queue ≤ n → NoneFrom h ranks from queue n
     → AreReasonsPast (causally h) ranks from
-walks_past h ranks from places queue n reach spread start all none a x c walk (contradicts, (path, allowed)) =
-    let some = walk_reached h places queue reach spread c walk (subst (λ (z : ℕ). IsWalk h z c walk) (sym start) path) in
+walks_past h ranks from positions queue n reach spread start all none a x c walk (contradicts, (path, allowed)) =
+    let some = walk_reached h positions queue reach spread c walk (subst (λ (z : ℕ). IsWalk h z c walk) (sym start) path) in
     let there = reach.noted c some in
-    subst (λ (z : ℕ). AreReadsPast h ranks from z) there.1 (none (slice_index places c) some (omega (arith, there.0, all))) a x contradicts
+    subst (λ (z : ℕ). AreReadsPast h ranks from z) there.1 (none (slice_index positions c) some (omega (arith, there.0, all))) a x contradicts
 
 -- ---- derived links by steps
 -- those below n to which a pair leads have no such read

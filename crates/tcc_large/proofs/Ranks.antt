@@ -86,20 +86,20 @@ module _ (j : Judged) (ranks : List ℕ) (n : ℕ) (w : AreRanks j ranks n) (all
   all_ranked (s, l ∷ links, (some, lead)) = absurd (omega (arith, lower s s l links lead))
 
 -- ---- trails
--- so many links lead from the start to here, over transactions that have their places on it noted, from 1 on
-pub record IsTrail (j : Judged) (ranks places : List ℕ) (start at n : ℕ) (trail : List Link) : Type 0 where
+-- so many links lead from the start to here, over transactions that have their positions on it noted, from 1 on
+pub record IsTrail (j : Judged) (ranks positions : List ℕ) (start at n : ℕ) (trail : List Link) : Type 0 where
   pub links : length trail ≡ n
-  pub long : length places ≡ count j.history
+  pub long : length positions ≡ count j.history
   pub leads : LinksLead j start at trail
   pub below : at < count j.history
   pub new : slice_index ranks at ≡ 0
-  pub back : (k : ℕ) → k < n → slice_index places (slice_index (map link_from trail) k) ≡ k + 1
-  pub noted : (v : ℕ) → 0 < slice_index places v → (slice_index places v ≤ n) × (slice_index (map link_from trail) (slice_index places v - 1) ≡ v)
+  pub back : (k : ℕ) → k < n → slice_index positions (slice_index (map link_from trail) k) ≡ k + 1
+  pub noted : (v : ℕ) → 0 < slice_index positions v → (slice_index positions v ≤ n) × (slice_index (map link_from trail) (slice_index positions v - 1) ≡ v)
 
-pub trail_room : (j : Judged) (ranks places : List ℕ) (start at n : ℕ) (trail : List Link) → IsTrail j ranks places start at n trail → n ≤ count j.history
-trail_room j ranks places start at n trail w = omega (arith, w.long, numbered_room places (n + 1) numbered)
+pub trail_room : (j : Judged) (ranks positions : List ℕ) (start at n : ℕ) (trail : List Link) → IsTrail j ranks positions start at n trail → n ≤ count j.history
+trail_room j ranks positions start at n trail w = omega (arith, w.long, numbered_room positions (n + 1) numbered)
   where
-    numbered : AreNumbered places (n + 1)
+    numbered : AreNumbered positions (n + 1)
     numbered zero some below = absurd (omega (arith, some))
     numbered (suc r) some below = (slice_index (map link_from trail) r, omega (arith, w.back r (omega (arith, below))))
 
@@ -110,16 +110,16 @@ closes j start at k [] lead inside here = absurd (omega (arith, inside))
 closes j start at zero (l ∷ trail) lead inside here = (omega arith, (here, lead.1, lead.2))
 closes j start at (suc k) (l ∷ trail) lead inside here = closes j (link_to l) at k trail lead.2 (omega (arith, inside)) here
 
-pub trail_circle : (j : Judged) (ranks places : List ℕ) (start at n : ℕ) (trail : List Link) → IsTrail j ranks places start at n trail
-    → 0 < slice_index places at → AreCycle j (drop (slice_index places at - 1) trail)
-trail_circle j ranks places start at n trail w some =
+pub trail_circle : (j : Judged) (ranks positions : List ℕ) (start at n : ℕ) (trail : List Link) → IsTrail j ranks positions start at n trail
+    → 0 < slice_index positions at → AreCycle j (drop (slice_index positions at - 1) trail)
+trail_circle j ranks positions start at n trail w some =
     let there = w.noted at some in
-    (at, closes j start at (slice_index places at - 1) trail w.leads (omega (arith, some, there.0, w.links)) there.1)
+    (at, closes j start at (slice_index positions at - 1) trail w.leads (omega (arith, some, there.0, w.links)) there.1)
 
 -- one link more
-module _ (j : Judged) (ranks places : List ℕ) (start at n : ℕ) (trail : List Link) (w : IsTrail j ranks places start at n trail)
-    (here : slice_index places at ≡ 0) (l : Link) (on : IsOnward j ranks at l) where
-  room : at < length places
+module _ (j : Judged) (ranks positions : List ℕ) (start at n : ℕ) (trail : List Link) (w : IsTrail j ranks positions start at n trail)
+    (here : slice_index positions at ≡ 0) (l : Link) (on : IsOnward j ranks at l) where
+  room : at < length positions
   room = omega (arith, w.below, w.long)
 
   froms : map link_from (trail ++ l ∷ []) ≡ map link_from trail ++ link_from l ∷ []
@@ -134,39 +134,39 @@ module _ (j : Judged) (ranks places : List ℕ) (start at n : ℕ) (trail : List
   last : slice_index (map link_from (trail ++ l ∷ [])) n ≡ at
   last = ap (λ z. slice_index z n) froms ∙ (get_or_push (map link_from trail) (link_from l) 0 n many ∙ on.0)
 
-  back : (k : ℕ) → (k < n) ⊎ (n ≤ k) → k < n + 1 → slice_index (set places at (n + 1)) (slice_index (map link_from (trail ++ l ∷ [])) k) ≡ k + 1
+  back : (k : ℕ) → (k < n) ⊎ (n ≤ k) → k < n + 1 → slice_index (set positions at (n + 1)) (slice_index (map link_from (trail ++ l ∷ [])) k) ≡ k + 1
   back k (inl less) below =
       let before = w.back k less in
-      let other : slice_index (map link_from trail) k ≢ at = λ same. absurd (omega (arith, before, here, ap (λ z. slice_index places z) same)) in
-      subst (λ (z : ℕ). slice_index (set places at (n + 1)) z ≡ k + 1) (sym (old k less))
-      (get_or-set_other places at (slice_index (map link_from trail) k) (n + 1) 0 other ∙ before)
+      let other : slice_index (map link_from trail) k ≢ at = λ same. absurd (omega (arith, before, here, ap (λ z. slice_index positions z) same)) in
+      subst (λ (z : ℕ). slice_index (set positions at (n + 1)) z ≡ k + 1) (sym (old k less))
+      (get_or-set_other positions at (slice_index (map link_from trail) k) (n + 1) 0 other ∙ before)
   back k (inr past) below =
       let same : n ≡ k = omega (arith, past, below) in
-      subst (λ (z : ℕ). slice_index (set places at (n + 1)) (slice_index (map link_from (trail ++ l ∷ [])) z) ≡ z + 1) same
-      (ap (λ z. slice_index (set places at (n + 1)) z) last ∙ get_or-set_same places at (n + 1) 0 room)
+      subst (λ (z : ℕ). slice_index (set positions at (n + 1)) (slice_index (map link_from (trail ++ l ∷ [])) z) ≡ z + 1) same
+      (ap (λ z. slice_index (set positions at (n + 1)) z) last ∙ get_or-set_same positions at (n + 1) 0 room)
 
-  noted : (v : ℕ) → 0 < slice_index (set places at (n + 1)) v → (v ≡ at) ⊎ (v ≡ at → ⊥)
-      → (slice_index (set places at (n + 1)) v ≤ n + 1) × (slice_index (map link_from (trail ++ l ∷ [])) (slice_index (set places at (n + 1)) v - 1) ≡ v)
+  noted : (v : ℕ) → 0 < slice_index (set positions at (n + 1)) v → (v ≡ at) ⊎ (v ≡ at → ⊥)
+      → (slice_index (set positions at (n + 1)) v ≤ n + 1) × (slice_index (map link_from (trail ++ l ∷ [])) (slice_index (set positions at (n + 1)) v - 1) ≡ v)
   noted v some (inl same) =
-      let is : slice_index (set places at (n + 1)) v ≡ n + 1
-      = ap (λ z. slice_index (set places at (n + 1)) z) same ∙ get_or-set_same places at (n + 1) 0 room in
-      let k : n ≡ slice_index (set places at (n + 1)) v - 1 = omega (arith, is) in (
+      let is : slice_index (set positions at (n + 1)) v ≡ n + 1
+      = ap (λ z. slice_index (set positions at (n + 1)) z) same ∙ get_or-set_same positions at (n + 1) 0 room in
+      let k : n ≡ slice_index (set positions at (n + 1)) v - 1 = omega (arith, is) in (
         omega (arith, is),
         subst (λ (z : ℕ). slice_index (map link_from (trail ++ l ∷ [])) z ≡ v) k (last ∙ sym same),
       )
   noted v some (inr apart) =
-      let is : slice_index (set places at (n + 1)) v ≡ slice_index places v = get_or-set_other places at v (n + 1) 0 apart in
+      let is : slice_index (set positions at (n + 1)) v ≡ slice_index positions v = get_or-set_other positions at v (n + 1) 0 apart in
       let before = w.noted v (omega (arith, some, is)) in
-      let k : slice_index places v - 1 ≡ slice_index (set places at (n + 1)) v - 1 = omega (arith, is) in (
+      let k : slice_index positions v - 1 ≡ slice_index (set positions at (n + 1)) v - 1 = omega (arith, is) in (
         omega (arith, is, before.0),
         subst (λ (z : ℕ). slice_index (map link_from (trail ++ l ∷ [])) z ≡ v) k
-            (old (slice_index places v - 1) (omega (arith, some, is, before.0)) ∙ before.1),
+            (old (slice_index positions v - 1) (omega (arith, some, is, before.0)) ∙ before.1),
       )
 
-  pub trail_more : IsTrail j ranks (set places at (n + 1)) start (link_to l) (n + 1) (trail ++ l ∷ [])
+  pub trail_more : IsTrail j ranks (set positions at (n + 1)) start (link_to l) (n + 1) (trail ++ l ∷ [])
   trail_more = record {
     links = omega (arith, length_push trail l, w.links);
-    long = length-set places at (n + 1) ∙ w.long;
+    long = length-set positions at (n + 1) ∙ w.long;
     leads = lead_append j start at (link_to l) trail (l ∷ []) w.leads (on.0, on.1, refl);
     below = (link_below j l on.1).1;
     new = on.2;

@@ -12,17 +12,17 @@ use Rattle.tcc_graph.proofs.Pairs.{step_pair}
 use Rattle.tcc_large.specs.private.Reaching.{IsReach, IsMore, AreMet, AreMetBetween, AreSpread, number_at, before_at}
 use Rattle.tcc_large.proofs.Numbered.{numbered_room}
 
--- no more places than transactions and one
-pub reach_room : (h : History) (places : List ℕ) (queue : List (ℕ × ℕ)) → IsReach h places queue → length queue ≤ count h + 1
-reach_room h places queue reach =
-    omega (arith, reach.long, numbered_room places (length queue) (λ r some below. (number_at queue r, reach.back r some below)))
+-- no more positions than transactions and one
+pub reach_room : (h : History) (positions : List ℕ) (queue : List (ℕ × ℕ)) → IsReach h positions queue → length queue ≤ count h + 1
+reach_room h positions queue reach =
+    omega (arith, reach.long, numbered_room positions (length queue) (λ r some below. (number_at queue r, reach.back r some below)))
 
 -- ---- lists side by side
-zip_place : (rs : List ℕ) (ks : List (List ℕ)) (c : ℕ) (x : List ℕ) → Contains (zip rs ks) (c, x) → (k : ℕ) × (k < length rs) × (slice_index rs k ≡ c)
-zip_place [] ks c x (k, l, e) = absurd (omega (arith, l))
-zip_place (r ∷ rs) [] c x (k, l, e) = absurd (omega (arith, l))
-zip_place (r ∷ rs) (y ∷ ks) c x (zero, l, e) = (0, omega arith, ap (λ z. z.0) e)
-zip_place (r ∷ rs) (y ∷ ks) c x (suc k, l, e) = let w = zip_place rs ks c x (k, omega (arith, l), e) in (suc w.0, omega (arith, w.1), w.2)
+zip_position : (rs : List ℕ) (ks : List (List ℕ)) (c : ℕ) (x : List ℕ) → Contains (zip rs ks) (c, x) → (k : ℕ) × (k < length rs) × (slice_index rs k ≡ c)
+zip_position [] ks c x (k, l, e) = absurd (omega (arith, l))
+zip_position (r ∷ rs) [] c x (k, l, e) = absurd (omega (arith, l))
+zip_position (r ∷ rs) (y ∷ ks) c x (zero, l, e) = (0, omega arith, ap (λ z. z.0) e)
+zip_position (r ∷ rs) (y ∷ ks) c x (suc k, l, e) = let w = zip_position rs ks c x (k, omega (arith, l), e) in (suc w.0, omega (arith, w.1), w.2)
 
 zipped : (rs : List ℕ) (ks : List (List ℕ)) (k : ℕ) → length rs ≡ length ks → k < length rs → Contains (zip rs ks) (slice_index rs k, get_or ks k [])
 zipped [] ks k long l = absurd (omega (arith, l))
@@ -34,104 +34,104 @@ zipped (r ∷ rs) (y ∷ ks) (suc k) long l = let w = zipped rs ks k (omega (ari
 pub pair_moved : (h : History) (a b c d : ℕ) → a ≡ b → c ≡ d → IsCausalPair h b d → IsCausalPair h a c
 pair_moved h a b c d from to p = subst (λ (z : ℕ). IsCausalPair h z c) (sym from) (subst (λ (z : ℕ). IsCausalPair h b z) (sym to) p)
 
-module _ (h : History) (places : List ℕ) (queue : List (ℕ × ℕ)) (place number : ℕ) (reach : IsReach h places queue) (inside : place < length queue)
-    (below : number < count h) (new : slice_index places number ≡ 0) where
-  longer : length (queue ++ (number, place) ∷ []) ≡ length queue + 1
-  longer = length_push queue (number, place)
+module _ (h : History) (positions : List ℕ) (queue : List (ℕ × ℕ)) (position number : ℕ) (reach : IsReach h positions queue) (inside : position < length queue)
+    (below : number < count h) (new : slice_index positions number ≡ 0) where
+  longer : length (queue ++ (number, position) ∷ []) ≡ length queue + 1
+  longer = length_push queue (number, position)
 
-  kept : (i : ℕ) → i < length queue → slice_index_or (queue ++ (number, place) ∷ []) i (0, 0) ≡ slice_index_or queue i (0, 0)
-  kept i l = get_or_append_left queue ((number, place) ∷ []) (0, 0) i l
+  kept : (i : ℕ) → i < length queue → slice_index_or (queue ++ (number, position) ∷ []) i (0, 0) ≡ slice_index_or queue i (0, 0)
+  kept i l = get_or_append_left queue ((number, position) ∷ []) (0, 0) i l
 
-  kept_number : (i : ℕ) → i < length queue → number_at (queue ++ (number, place) ∷ []) i ≡ number_at queue i
+  kept_number : (i : ℕ) → i < length queue → number_at (queue ++ (number, position) ∷ []) i ≡ number_at queue i
   kept_number i l = ap (λ p. p.0) (kept i l)
 
-  last : slice_index_or (queue ++ (number, place) ∷ []) (length queue) (0, 0) ≡ (number, place)
-  last = get_or_push queue (number, place) (0, 0) (length queue) refl
+  last : slice_index_or (queue ++ (number, position) ∷ []) (length queue) (0, 0) ≡ (number, position)
+  last = get_or_push queue (number, position) (0, 0) (length queue) refl
 
-  last_number : number_at (queue ++ (number, place) ∷ []) (length queue) ≡ number
+  last_number : number_at (queue ++ (number, position) ∷ []) (length queue) ≡ number
   last_number = ap (λ p. p.0) last
 
-  room : number < length places
+  room : number < length positions
   room = omega (arith, below, reach.long)
 
-  -- what holds of the old places and of the last one
-  each_place : (P : ℕ → Type 0) → ((i : ℕ) → i < length queue → P i) → P (length queue) → (i : ℕ) → i < length (queue ++ (number, place) ∷ []) → P i
-  each_place P old here i l = go (cases_lt i (length queue))
+  -- what holds of the old positions and of the last one
+  each_position : (P : ℕ → Type 0) → ((i : ℕ) → i < length queue → P i) → P (length queue) → (i : ℕ) → i < length (queue ++ (number, position) ∷ []) → P i
+  each_position P old here i l = go (cases_lt i (length queue))
     where
       go : (i < length queue) ⊎ (length queue ≤ i) → P i
       go (inl less) = old i less
       go (inr past) = let same : length queue ≡ i = omega (arith, past, l, longer) in subst P same here
 
-  back_old : (i : ℕ) → i < length queue → 0 < i → slice_index (set places number (length queue)) (number_at (queue ++ (number, place) ∷ []) i) ≡ i
+  back_old : (i : ℕ) → i < length queue → 0 < i → slice_index (set positions number (length queue)) (number_at (queue ++ (number, position) ∷ []) i) ≡ i
   back_old i l some =
       let at = reach.back i some l in
-      let other : number_at queue i ≢ number = λ same. absurd (omega (arith, ap (λ z. slice_index places z) same, at, new, some)) in
-      subst (λ (z : ℕ). slice_index (set places number (length queue)) z ≡ i) (sym (kept_number i l))
-      (get_or-set_other places number (number_at queue i) (length queue) 0 other ∙ at)
+      let other : number_at queue i ≢ number = λ same. absurd (omega (arith, ap (λ z. slice_index positions z) same, at, new, some)) in
+      subst (λ (z : ℕ). slice_index (set positions number (length queue)) z ≡ i) (sym (kept_number i l))
+      (get_or-set_other positions number (number_at queue i) (length queue) 0 other ∙ at)
 
-  back_last : 0 < length queue → slice_index (set places number (length queue)) (number_at (queue ++ (number, place) ∷ []) (length queue)) ≡ length queue
+  back_last : 0 < length queue → slice_index (set positions number (length queue)) (number_at (queue ++ (number, position) ∷ []) (length queue)) ≡ length queue
   back_last some =
-      subst (λ (z : ℕ). slice_index (set places number (length queue)) z ≡ length queue) (sym last_number)
-      (get_or-set_same places number (length queue) 0 room)
+      subst (λ (z : ℕ). slice_index (set positions number (length queue)) z ≡ length queue) (sym last_number)
+      (get_or-set_same positions number (length queue) 0 room)
 
-  noted : (v : ℕ) → 0 < slice_index (set places number (length queue)) v
-      → (slice_index (set places number (length queue)) v < length (queue ++ (number, place) ∷ []))
-      × (number_at (queue ++ (number, place) ∷ []) (slice_index (set places number (length queue)) v) ≡ v)
+  noted : (v : ℕ) → 0 < slice_index (set positions number (length queue)) v
+      → (slice_index (set positions number (length queue)) v < length (queue ++ (number, position) ∷ []))
+      × (number_at (queue ++ (number, position) ∷ []) (slice_index (set positions number (length queue)) v) ≡ v)
   noted v some = go (cases_eq v number)
     where
       go : (v ≡ number) ⊎ (v ≡ number → ⊥)
-          → (slice_index (set places number (length queue)) v < length (queue ++ (number, place) ∷ []))
-          × (number_at (queue ++ (number, place) ∷ []) (slice_index (set places number (length queue)) v) ≡ v)
+          → (slice_index (set positions number (length queue)) v < length (queue ++ (number, position) ∷ []))
+          × (number_at (queue ++ (number, position) ∷ []) (slice_index (set positions number (length queue)) v) ≡ v)
       go (inl same) =
-          let at : slice_index (set places number (length queue)) v ≡ length queue
-          = ap (λ z. slice_index (set places number (length queue)) z) same ∙ get_or-set_same places number (length queue) 0 room in (
+          let at : slice_index (set positions number (length queue)) v ≡ length queue
+          = ap (λ z. slice_index (set positions number (length queue)) z) same ∙ get_or-set_same positions number (length queue) 0 room in (
             omega (arith, at, longer),
-            subst (λ (z : ℕ). number_at (queue ++ (number, place) ∷ []) z ≡ v) (sym at) (last_number ∙ sym same),
+            subst (λ (z : ℕ). number_at (queue ++ (number, position) ∷ []) z ≡ v) (sym at) (last_number ∙ sym same),
           )
       go (inr apart) =
-          let at : slice_index (set places number (length queue)) v ≡ slice_index places v = get_or-set_other places number v (length queue) 0 apart in
+          let at : slice_index (set positions number (length queue)) v ≡ slice_index positions v = get_or-set_other positions number v (length queue) 0 apart in
           let old = reach.noted v (omega (arith, some, at)) in (
             omega (arith, at, old.0, longer),
-            subst (λ (z : ℕ). number_at (queue ++ (number, place) ∷ []) z ≡ v) (sym at) (kept_number (slice_index places v) old.0 ∙ old.1),
+            subst (λ (z : ℕ). number_at (queue ++ (number, position) ∷ []) z ≡ v) (sym at) (kept_number (slice_index positions v) old.0 ∙ old.1),
           )
 
   led_old : (i : ℕ) → i < length queue → 0 < i
-      → (before_at (queue ++ (number, place) ∷ []) i < i)
-      × IsCausalPair h (number_at (queue ++ (number, place) ∷ []) (before_at (queue ++ (number, place) ∷ []) i)) (number_at (queue ++ (number, place) ∷ []) i)
+      → (before_at (queue ++ (number, position) ∷ []) i < i)
+      × IsCausalPair h (number_at (queue ++ (number, position) ∷ []) (before_at (queue ++ (number, position) ∷ []) i)) (number_at (queue ++ (number, position) ∷ []) i)
   led_old i l some =
       let w = reach.led i some l in
-      let at : before_at (queue ++ (number, place) ∷ []) i ≡ before_at queue i = ap (λ p. p.1) (kept i l) in
-      let from = ap (number_at (queue ++ (number, place) ∷ [])) at ∙ kept_number (before_at queue i) (omega (arith, w.0, l)) in (
+      let at : before_at (queue ++ (number, position) ∷ []) i ≡ before_at queue i = ap (λ p. p.1) (kept i l) in
+      let from = ap (number_at (queue ++ (number, position) ∷ [])) at ∙ kept_number (before_at queue i) (omega (arith, w.0, l)) in (
         omega (arith, at, w.0),
-        pair_moved h (number_at (queue ++ (number, place) ∷ []) (before_at (queue ++ (number, place) ∷ []) i)) (number_at queue (before_at queue i))
-            (number_at (queue ++ (number, place) ∷ []) i) (number_at queue i) from (kept_number i l) w.1,
+        pair_moved h (number_at (queue ++ (number, position) ∷ []) (before_at (queue ++ (number, position) ∷ []) i)) (number_at queue (before_at queue i))
+            (number_at (queue ++ (number, position) ∷ []) i) (number_at queue i) from (kept_number i l) w.1,
       )
 
-  led_last : IsCausalPair h (number_at queue place) number
-      → (before_at (queue ++ (number, place) ∷ []) (length queue) < length queue)
-      × IsCausalPair h (number_at (queue ++ (number, place) ∷ []) (before_at (queue ++ (number, place) ∷ []) (length queue)))
-      (number_at (queue ++ (number, place) ∷ []) (length queue))
+  led_last : IsCausalPair h (number_at queue position) number
+      → (before_at (queue ++ (number, position) ∷ []) (length queue) < length queue)
+      × IsCausalPair h (number_at (queue ++ (number, position) ∷ []) (before_at (queue ++ (number, position) ∷ []) (length queue)))
+      (number_at (queue ++ (number, position) ∷ []) (length queue))
   led_last pair =
-      let at : before_at (queue ++ (number, place) ∷ []) (length queue) ≡ place = ap (λ p. p.1) last in
-      let from = ap (number_at (queue ++ (number, place) ∷ [])) at ∙ kept_number place inside in (
+      let at : before_at (queue ++ (number, position) ∷ []) (length queue) ≡ position = ap (λ p. p.1) last in
+      let from = ap (number_at (queue ++ (number, position) ∷ [])) at ∙ kept_number position inside in (
         omega (arith, at, inside),
-        pair_moved h (number_at (queue ++ (number, place) ∷ []) (before_at (queue ++ (number, place) ∷ []) (length queue))) (number_at queue place)
-            (number_at (queue ++ (number, place) ∷ []) (length queue)) number from last_number pair,
+        pair_moved h (number_at (queue ++ (number, position) ∷ []) (before_at (queue ++ (number, position) ∷ []) (length queue))) (number_at queue position)
+            (number_at (queue ++ (number, position) ∷ []) (length queue)) number from last_number pair,
       )
 
-  pub reach_more : IsCausalPair h (number_at queue place) number → IsReach h (set places number (length queue)) (queue ++ (number, place) ∷ [])
+  pub reach_more : IsCausalPair h (number_at queue position) number → IsReach h (set positions number (length queue)) (queue ++ (number, position) ∷ [])
   reach_more pair = record {
-    long = length-set places number (length queue) ∙ reach.long;
+    long = length-set positions number (length queue) ∙ reach.long;
     some = omega (arith, longer);
-    below = each_place (λ i. number_at (queue ++ (number, place) ∷ []) i < count h) (λ i l. omega (arith, kept_number i l, reach.below i l))
+    below = each_position (λ i. number_at (queue ++ (number, position) ∷ []) i < count h) (λ i l. omega (arith, kept_number i l, reach.below i l))
         (omega (arith, last_number, below));
-    back = λ i some l. each_place (λ i. 0 < i → slice_index (set places number (length queue)) (number_at (queue ++ (number, place) ∷ []) i) ≡ i) back_old
+    back = λ i some l. each_position (λ i. 0 < i → slice_index (set positions number (length queue)) (number_at (queue ++ (number, position) ∷ []) i) ≡ i) back_old
         back_last i l some;
     noted = noted;
-    led = λ i some l. each_place
-        (λ i. 0 < i → (before_at (queue ++ (number, place) ∷ []) i < i)
-        × IsCausalPair h (number_at (queue ++ (number, place) ∷ []) (before_at (queue ++ (number, place) ∷ []) i))
-        (number_at (queue ++ (number, place) ∷ []) i))
+    led = λ i some l. each_position
+        (λ i. 0 < i → (before_at (queue ++ (number, position) ∷ []) i < i)
+        × IsCausalPair h (number_at (queue ++ (number, position) ∷ []) (before_at (queue ++ (number, position) ∷ []) i))
+        (number_at (queue ++ (number, position) ∷ []) i))
         led_old (λ some. led_last pair) i l some;
   }
 
@@ -145,18 +145,18 @@ module _ (h : History) (from : ℕ) (rs : List ℕ) (ks : List (List ℕ)) (long
       let reads = (each (slice_index rs k) (get_or ks k [])).0 (zipped rs ks k long l) in
       subst (λ (z : ℕ). z < count h) (sym at) reads.1
 
-  pub all_met : (places : List ℕ) (low high : ℕ) → ((v : ℕ) → IsSessionPair h from v ↔ ((low ≤ v) × (v < high))) → AreMetBetween h places from low high
-      → AreMet h places from rs (length rs) → (v : ℕ) → IsCausalPair h from v → 0 < slice_index places v
-  all_met places low high pairs between met v (inl session) = let w = (pairs v).0 session in between v w.0 w.1 (inl session)
-  all_met places low high pairs between met v (inr (x, reads)) =
-      let w = zip_place rs ks v x ((each v x).1 reads) in
-      subst (λ (z : ℕ). IsCausalPair h from z → 0 < slice_index places z) w.2 (met w.0 w.1) (inr (x, reads))
+  pub all_met : (positions : List ℕ) (low high : ℕ) → ((v : ℕ) → IsSessionPair h from v ↔ ((low ≤ v) × (v < high))) → AreMetBetween h positions from low high
+      → AreMet h positions from rs (length rs) → (v : ℕ) → IsCausalPair h from v → 0 < slice_index positions v
+  all_met positions low high pairs between met v (inl session) = let w = (pairs v).0 session in between v w.0 w.1 (inl session)
+  all_met positions low high pairs between met v (inr (x, reads)) =
+      let w = zip_position rs ks v x ((each v x).1 reads) in
+      subst (λ (z : ℕ). IsCausalPair h from z → 0 < slice_index positions z) w.2 (met w.0 w.1) (inr (x, reads))
 
 pub more_between : (h : History) (a : List ℕ) (p : List (ℕ × ℕ)) (b : List ℕ) (q : List (ℕ × ℕ)) (from low high : ℕ) → IsMore a p b q
     → AreMetBetween h a from low high → AreMetBetween h b from low high
 more_between h a p b q from low high more met v above l pair = more.reached v (met v above l pair)
 
--- one place more
+-- one position more
 pub spread_next : (h : History) (a : List ℕ) (p : List (ℕ × ℕ)) (b : List ℕ) (q : List (ℕ × ℕ)) (n : ℕ) → AreSpread h a p n → IsMore a p b q → n < length p
     → ((v : ℕ) → IsCausalPair h (number_at p n) v → 0 < slice_index b v) → AreSpread h b q (n + 1)
 spread_next h a p b q n spread more inside here i v l pair = go (cases_lt i n)
@@ -170,28 +170,28 @@ spread_next h a p b q n spread more inside here i v l pair = go (cases_lt i n)
         let same : i ≡ n = omega (arith, past, l) in
         here v (subst (λ (z : ℕ). IsCausalPair h (number_at p z) v) same (old (omega (arith, same, inside))))
 
-pub spread_upto : (h : History) (places : List ℕ) (queue : List (ℕ × ℕ)) (n : ℕ) → length queue ≤ n → AreSpread h places queue n
-    → AreSpread h places queue (length queue)
-spread_upto h places queue n all spread i v l pair = spread i v (omega (arith, l, all)) pair
+pub spread_upto : (h : History) (positions : List ℕ) (queue : List (ℕ × ℕ)) (n : ℕ) → length queue ≤ n → AreSpread h positions queue n
+    → AreSpread h positions queue (length queue)
+spread_upto h positions queue n all spread i v l pair = spread i v (omega (arith, l, all)) pair
 
 -- ---- what a walk leads to was reached
-module _ (h : History) (places : List ℕ) (queue : List (ℕ × ℕ)) (reach : IsReach h places queue) (spread : AreSpread h places queue (length queue)) where
-  along : (i c : ℕ) (s : Step) (steps : List Step) → i < length queue → Leads h (number_at queue i) c (s ∷ steps) → 0 < slice_index places c
+module _ (h : History) (positions : List ℕ) (queue : List (ℕ × ℕ)) (reach : IsReach h positions queue) (spread : AreSpread h positions queue (length queue)) where
+  along : (i c : ℕ) (s : Step) (steps : List Step) → i < length queue → Leads h (number_at queue i) c (s ∷ steps) → 0 < slice_index positions c
   along i c s [] inside lead =
       let pair = subst (λ (z : ℕ). IsCausalPair h z (step_to s)) lead.0 (step_pair h s lead.1) in
-      subst (λ (z : ℕ). 0 < slice_index places z) lead.2 (spread i (step_to s) inside pair)
+      subst (λ (z : ℕ). 0 < slice_index positions z) lead.2 (spread i (step_to s) inside pair)
   along i c s (t ∷ steps) inside lead =
       let pair = subst (λ (z : ℕ). IsCausalPair h z (step_to s)) lead.0 (step_pair h s lead.1) in
       let w = reach.noted (step_to s) (spread i (step_to s) inside pair) in
-      along (slice_index places (step_to s)) c t steps w.0 (subst (λ (z : ℕ). Leads h z c (t ∷ steps)) (sym w.1) lead.2)
+      along (slice_index positions (step_to s)) c t steps w.0 (subst (λ (z : ℕ). Leads h z c (t ∷ steps)) (sym w.1) lead.2)
 
-  pub walk_reached : (c : ℕ) (walk : List Step) → IsWalk h (number_at queue 0) c walk → 0 < slice_index places c
+  pub walk_reached : (c : ℕ) (walk : List Step) → IsWalk h (number_at queue 0) c walk → 0 < slice_index positions c
   walk_reached c [] w = absurd (omega (arith, w.0))
   walk_reached c (s ∷ steps) w = along 0 c s steps reach.some w.1
 
 -- ---- the steps back to the start
 -- so many steps, the last one first, lead from here to the goal
-pub record IsBack (h : History) (queue : List (ℕ × ℕ)) (place at : ℕ) (steps : List Step) : Type 0 where
+pub record IsBack (h : History) (queue : List (ℕ × ℕ)) (position at : ℕ) (steps : List Step) : Type 0 where
   pub inside : at < length queue
-  pub some : (at ≡ place) ⊎ (0 < length steps)
-  pub leads : Leads h (number_at queue at) (number_at queue place) (reverse steps)
+  pub some : (at ≡ position) ⊎ (0 < length steps)
+  pub leads : Leads h (number_at queue at) (number_at queue position) (reverse steps)

@@ -13,7 +13,7 @@ pub(crate) fn span(numbers: &[u32], low: u32, high: u32) -> &[u32] {
     }
 }
 
-/// Who reads from a transaction, and beside each the place of the key.
+/// Who reads from a transaction, and beside each the index of the key.
 pub(crate) fn readings(graph: &LargeGraph, source: u32) -> (&[u32], &[u32]) {
     if source < graph.count() {
         graph.readings_at(source)
@@ -22,7 +22,7 @@ pub(crate) fn readings(graph: &LargeGraph, source: u32) -> (&[u32], &[u32]) {
     }
 }
 
-/// The places of the keys that a transaction reads, each with its source.
+/// The indices of the keys that a transaction reads, each with its source.
 pub(crate) fn reads(graph: &LargeGraph, reader: u32) -> &[(u32, u32)] {
     if reader < graph.count() {
         graph.reads_at(reader)
@@ -31,7 +31,7 @@ pub(crate) fn reads(graph: &LargeGraph, reader: u32) -> &[(u32, u32)] {
     }
 }
 
-/// The places of the keys that a transaction writes.
+/// The indices of the keys that a transaction writes.
 pub(crate) fn writes(graph: &LargeGraph, writer: u32) -> &[u32] {
     if writer < graph.count() {
         graph.writes_at(writer)
@@ -49,18 +49,18 @@ pub(crate) fn reads_from(graph: &LargeGraph, source: u32, reader: u32) -> &[Name
     }
 }
 
-/// Who writes the key at a place.
-pub(crate) fn writers(graph: &LargeGraph, place: u32) -> &[u32] {
-    if (place as usize) < graph.keys().len() {
-        graph.writers_at(place)
+/// Who writes the key at an index.
+pub(crate) fn writers(graph: &LargeGraph, key_index: u32) -> &[u32] {
+    if (key_index as usize) < graph.keys().len() {
+        graph.writers_at(key_index)
     } else {
         &[]
     }
 }
 
-/// The key at a place.
-pub(crate) fn key(graph: &LargeGraph, place: u32) -> Option<Name> {
-    graph.keys().get(place as usize).copied()
+/// The key at an index.
+pub(crate) fn key(graph: &LargeGraph, key_index: u32) -> Option<Name> {
+    graph.keys().get(key_index as usize).copied()
 }
 
 /// Whether one transaction stands before the other in session order.

@@ -23,8 +23,8 @@ fn carried(numbers: &[u32], number: u32) -> u32
 fn is_rising(numbers: &[u32]) -> bool
     ensures { IsTrue result → IsRising numbers.now }
 {
-    for place in 1..numbers.len() {
-        if numbers[place - 1] >= numbers[place] {
+    for index in 1..numbers.len() {
+        if numbers[index - 1] >= numbers[index] {
             return false;
         }
     }
@@ -37,11 +37,11 @@ fn keeps_reads(small: &LargeGraph, large: &LargeGraph, numbers: &[u32], source: 
     ensures { IsTrue result → KeepsReads numbers.now small.now large.now source }
 {
     let (readers, keys) = small.readings(source);
-    for (place, reader) in readers.iter().enumerate() {
+    for (index, reader) in readers.iter().enumerate() {
         let link = Link::Reads {
             from: carried(numbers, source),
             to: carried(numbers, *reader),
-            key: keys[place],
+            key: keys[index],
         };
         if !large.is_link(Level::Causal, &link) {
             return false;

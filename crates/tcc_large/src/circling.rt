@@ -9,7 +9,7 @@ use tcc_graph::LargeGraph;
 use tcc_txn::NoMemory;
 
 /// What a search backwards has met, and where each transaction leads on to. It serves for many searches, of which each has a
-/// number of its own.
+/// turn of its own.
 #[derive(Drop)]
 pub(crate) struct Circling {
     turn: u32,
@@ -101,7 +101,7 @@ impl Circling {
     fn trail(&self, alloc: Global, graph: &LargeGraph, start: u32) -> Result<Vec<u32>, AllocError> {
         let mut trail = Vec::new(alloc);
         let mut number = start;
-        for _step in 0..graph.count() {
+        for _turn in 0..graph.count() {
             trail.push(number)?;
             let next = self.next.get(number);
             if next == number {

@@ -82,7 +82,7 @@ impl Clocks {
         }
     }
 
-    /// The session at a place of the block.
+    /// The session at a column of the block.
     pub(crate) fn session(&self, column: usize) -> Option<u32> {
         let column = u32::try_from(column).ok()?;
         self.first.checked_add(column)

@@ -4,7 +4,7 @@ use crate::sessions::Sessions;
 use std::alloc::Global;
 use tcc_txn::NoMemory;
 
-/// Of each session the number below which nothing was taken in yet; for many searches, of which each has a number of its own.
+/// Of each session the number below which nothing was taken in yet; for many searches, of which each has a turn of its own.
 #[derive(Drop)]
 pub(crate) struct Covering {
     turns: Cells,

@@ -55,9 +55,9 @@ impl<'a> Whole<'a> {
         }
     }
 
-    /// Whether the operation at a place among others is needed.
-    fn is_needed(&self, needs: &[(u32, Need)], ops: &[Op], place: usize) -> bool {
-        let Some(op) = ops.get(place) else {
+    /// Whether the operation at an index among others is needed.
+    fn is_needed(&self, needs: &[(u32, Need)], ops: &[Op], index: usize) -> bool {
+        let Some(op) = ops.get(index) else {
             return false;
         };
         for (_number, need) in needs {
@@ -73,7 +73,7 @@ impl<'a> Whole<'a> {
                     },
                 ) => {
                     key == wanted
-                        && !writes(&ops[..place], *key)
+                        && !writes(&ops[..index], *key)
                         && self.shown(*source, *key) == *value
                 }
                 _ => false,
@@ -93,8 +93,8 @@ impl<'a> Whole<'a> {
         needs: &[(u32, Need)],
     ) -> Result<Option<Txn>, NoMemory> {
         let mut kept = Vec::new(alloc);
-        for (place, op) in ops.iter().enumerate() {
-            if self.is_needed(needs, ops, place) {
+        for (index, op) in ops.iter().enumerate() {
+            if self.is_needed(needs, ops, index) {
                 kept.push(*op)?;
             }
         }

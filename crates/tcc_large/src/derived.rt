@@ -6,24 +6,24 @@ use std::alloc::{AllocError, Global};
 use tcc_graph::{LargeGraph, Level};
 use tcc_txn::NoMemory;
 
-/// Derived links, by their ends, and the places of keys by which one leads to `init`.
+/// Derived links, by their ends, and the indices of keys by which one leads to `init`.
 #[derive(Drop)]
 pub(crate) struct Derived {
     links: Vec<(u32, u32)>,
     into_init: Vec<u32>,
 }
 
-/// The keys that are read from a transaction, by place, each with a reader.
+/// The indices of the keys that are read from a transaction, ascending, each with a reader.
 pub(crate) fn readers_by_key(
     alloc: Global,
     graph: &LargeGraph,
     source: u32,
 ) -> Result<Vec<(u32, u32)>, AllocError> {
-    let (readers, places) = readings(graph, source);
+    let (readers, key_indices) = readings(graph, source);
     let mut found = Vec::new(alloc);
     for (index, reader) in readers.iter().enumerate() {
-        if let Some(place) = places.get(index) {
-            found.push((*place, *reader))?;
+        if let Some(key_index) = key_indices.get(index) {
+            found.push((*key_index, *reader))?;
         }
     }
     found.sort_unstable();
@@ -36,7 +36,7 @@ impl Derived {
         &self.links
     }
 
-    /// The places of the keys by which a link leads to `init`.
+    /// The indices of the keys by which a link leads to `init`.
     pub(crate) fn into_init(&self) -> &[u32] {
         &self.into_init
     }
@@ -62,11 +62,11 @@ impl Derived {
     }
 
     /// Adds the link from a writer to the source of a read.
-    fn add(&mut self, writer: u32, source: u32, place: u32) -> Result<(), AllocError> {
+    fn add(&mut self, writer: u32, source: u32, key_index: u32) -> Result<(), AllocError> {
         if source != 0 {
             self.links.push((writer, source))?;
-        } else if self.into_init.last() != Some(&place) {
-            self.into_init.push(place)?;
+        } else if self.into_init.last() != Some(&key_index) {
+            self.into_init.push(key_index)?;
         }
         Ok(())
     }
@@ -76,13 +76,13 @@ impl Derived {
         for reader in 1..graph.count() {
             let first = sessions.first(sessions.owner(reader));
             let read = reads(graph, reader);
-            for (place, source) in read {
-                if let Some(own) = span(writers(graph, *place), first, reader).last() {
+            for (key_index, source) in read {
+                if let Some(own) = span(writers(graph, *key_index), first, reader).last() {
                     if own != source {
-                        self.add(*own, *source, *place)?;
+                        self.add(*own, *source, *key_index)?;
                     }
                 }
-                self.add_sources(graph, read, *source, *place)?;
+                self.add_sources(graph, read, *source, *key_index)?;
             }
         }
         Ok(())
@@ -94,11 +94,11 @@ impl Derived {
         graph: &LargeGraph,
         read: &[(u32, u32)],
         source: u32,
-        place: u32,
+        key_index: u32,
     ) -> Result<(), AllocError> {
-        for (_place, other) in read {
-            if *other != 0 && *other != source && writes(graph, *other).contains(&place) {
-                self.add(*other, source, place)?;
+        for (_key_index, other) in read {
+            if *other != 0 && *other != source && writes(graph, *other).contains(&key_index) {
+                self.add(*other, source, key_index)?;
             }
         }
         Ok(())
@@ -135,14 +135,14 @@ impl Derived {
     ) -> Result<(), NoMemory> {
         let readers = readers_by_key(alloc, graph, source)?;
         let mut known = [0; WIDTH];
-        for (index, (place, reader)) in readers.iter().enumerate() {
+        for (index, (key_index, reader)) in readers.iter().enumerate() {
             raise(&mut known, &clocks.before(sessions, *reader));
             let more = match readers.get(index.saturating_add(1)) {
-                Some(next) => next.0 == *place,
+                Some(next) => next.0 == *key_index,
                 None => false,
             };
             if !more {
-                self.add_last(graph, sessions, clocks, source, *place, &known)?;
+                self.add_last(graph, sessions, clocks, source, *key_index, &known)?;
                 known = [0; WIDTH];
             }
         }
@@ -156,7 +156,7 @@ impl Derived {
         sessions: &Sessions,
         clocks: &Clocks,
         source: u32,
-        place: u32,
+        key_index: u32,
         known: &Clock,
     ) -> Result<(), AllocError> {
         let own = clocks.get(source);
@@ -164,10 +164,10 @@ impl Derived {
             if *last > own[column] {
                 if let Some(session) = clocks.session(column) {
                     let low = sessions.first(session);
-                    let found = span(writers(graph, place), low, last.saturating_add(1)).last();
+                    let found = span(writers(graph, key_index), low, last.saturating_add(1)).last();
                     if let Some(writer) = found {
                         if *writer > own[column] {
-                            self.add(*writer, source, place)?;
+                            self.add(*writer, source, key_index)?;
                         }
                     }
                 }

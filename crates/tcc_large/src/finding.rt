@@ -57,21 +57,21 @@ struct Finder {
 }
 
 /// One of so many, so that no more than `TRIES` are taken.
-fn is_tried(place: usize, count: usize) -> bool {
-    place % (count / TRIES + 1) == 0
+fn is_tried(index: usize, count: usize) -> bool {
+    index % (count / TRIES + 1) == 0
 }
 
-/// The readers of the key at a place, of readings that ascend by place, each with the place.
+/// The readers of the key at an index, of readings that ascend by the indices of their keys, each with the index.
 fn readers_at(
     alloc: Global,
     readings: &[(u32, u32)],
-    place: u32,
+    key_index: u32,
 ) -> Result<Vec<(u32, u32)>, AllocError> {
-    let start = readings.partition_point(|reading| reading.0 < place);
+    let start = readings.partition_point(|reading| reading.0 < key_index);
     let mut found = Vec::new(alloc);
     for index in start..readings.len() {
         let (key, reader) = readings[index];
-        if key != place {
+        if key != key_index {
             break;
         }
         found.push((reader, key))?;
@@ -141,22 +141,22 @@ impl Finder {
         })
     }
 
-    /// A cycle of two links, from a transaction to a later one in session order and back by the key at a place, of which these
-    /// are the readings from it.
+    /// A cycle of two links, from a transaction to a later one in session order and back by the key at an index; these are
+    /// the readings from it.
     fn try_back(
         &mut self,
         alloc: Global,
         graph: &LargeGraph,
         source: u32,
         readings: &[(u32, u32)],
-        place: u32,
+        key_index: u32,
     ) -> Result<(), NoMemory> {
         if source >= graph.count() {
             return Ok(());
         }
-        let readers = readers_at(alloc, readings, place)?;
+        let readers = readers_at(alloc, readings, key_index)?;
         let (low, high) = graph.later(source);
-        let wanted = span(writers(graph, place), low, high);
+        let wanted = span(writers(graph, key_index), low, high);
         let found = self
             .linker
             .derived(alloc, graph, &self.sessions, wanted, source, &readers)?;
@@ -184,11 +184,11 @@ impl Finder {
     ) -> Result<(), NoMemory> {
         let readings = readers_by_key(alloc, graph, source)?;
         let mut last = None;
-        for (place, _reader) in &readings {
-            if last != Some(*place) {
-                self.try_back(alloc, graph, source, &readings, *place)?;
+        for (key_index, _reader) in &readings {
+            if last != Some(*key_index) {
+                self.try_back(alloc, graph, source, &readings, *key_index)?;
             }
-            last = Some(*place);
+            last = Some(*key_index);
         }
         Ok(())
     }
@@ -214,15 +214,15 @@ impl Finder {
         &mut self,
         alloc: Global,
         graph: &LargeGraph,
-        places: &[u32],
+        key_indices: &[u32],
     ) -> Result<(), NoMemory> {
-        if places.is_empty() {
+        if key_indices.is_empty() {
             return Ok(());
         }
         let readings = readers_by_key(alloc, graph, 0)?;
-        for (index, place) in places.iter().enumerate() {
-            if is_tried(index, places.len()) {
-                self.try_back(alloc, graph, 0, &readings, *place)?;
+        for (index, key_index) in key_indices.iter().enumerate() {
+            if is_tried(index, key_indices.len()) {
+                self.try_back(alloc, graph, 0, &readings, *key_index)?;
             }
         }
         Ok(())

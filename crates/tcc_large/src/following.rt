@@ -36,15 +36,15 @@ fn follow(
     requires new { slice_index ranks.now start ≡ 0 }
     ensures { IfOk result (IsFollowed (judged graph.now level) ranks.now) }
 {
-    let mut places = Cells::new(alloc, graph.count() as usize, 0)?;
+    let mut positions = Cells::new(alloc, graph.count() as usize, 0)?;
     let mut trail = Vec::new(alloc);
     let mut at = start;
-    for place in 0..graph.count() + 1 {
-        let before = places.get(at);
+    for position in 0..graph.count() + 1 {
+        let before = positions.get(at);
         if before > 0 {
             return Ok(Followed::Circle(trail.split_off(before as usize - 1)?));
         }
-        places.set(at, place + 1);
+        positions.set(at, position + 1);
         let Some(link) = link_on(alloc, graph, level, ranks, at)? else {
             return Ok(Followed::End(at));
         };

@@ -94,8 +94,8 @@ impl Heading {
         Some(number)
     }
 
-    /// Places a transaction; what waits for it waits for one less.
-    fn place(
+    /// Puts a transaction next; what waits for it waits for one less.
+    fn put(
         &mut self,
         graph: &LargeGraph,
         sessions: &Sessions,
@@ -154,7 +154,7 @@ pub(crate) fn back_links(
         };
         if heading.placed.get(number) == 0 {
             heading.add_back(&mut found, relation, marked, number)?;
-            heading.place(graph, sessions, relation, number)?;
+            heading.put(graph, sessions, relation, number)?;
         }
     }
     Ok(found)

@@ -13,9 +13,9 @@ pub(crate) struct Linker {
     backwards: Backwards,
 }
 
-/// The number behind a place of a circle.
-fn following(circle: &[u32], place: usize) -> Option<u32> {
-    match circle.get(place.saturating_add(1)) {
+/// The number behind an index of a circle.
+fn following(circle: &[u32], index: usize) -> Option<u32> {
+    match circle.get(index.saturating_add(1)) {
         Some(next) => Some(*next),
         None => circle.first().copied(),
     }
@@ -25,8 +25,8 @@ fn following(circle: &[u32], place: usize) -> Option<u32> {
 fn without_runs(alloc: Global, graph: &LargeGraph, circle: &[u32]) -> Result<Vec<u32>, AllocError> {
     let mut kept = Vec::new(alloc);
     let mut before = circle.last().copied().unwrap_or(0);
-    for (place, number) in circle.iter().enumerate() {
-        let next = following(circle, place).unwrap_or(0);
+    for (index, number) in circle.iter().enumerate() {
+        let next = following(circle, index).unwrap_or(0);
         if !(session(graph, before, *number) && session(graph, *number, next)) {
             kept.push(*number)?;
         }
@@ -35,7 +35,7 @@ fn without_runs(alloc: Global, graph: &LargeGraph, circle: &[u32]) -> Result<Vec
     Ok(kept)
 }
 
-/// The readers of a transaction's keys that the other writes too, each with the place of the key, by number.
+/// The readers of a transaction's keys that the other writes too, each with the index of the key, by number.
 fn contradicted(
     alloc: Global,
     graph: &LargeGraph,
@@ -43,12 +43,12 @@ fn contradicted(
     to: u32,
 ) -> Result<Vec<(u32, u32)>, AllocError> {
     let written = writes(graph, from);
-    let (readers, places) = readings(graph, to);
+    let (readers, key_indices) = readings(graph, to);
     let mut found = Vec::new(alloc);
     for (index, reader) in readers.iter().enumerate() {
-        if let Some(place) = places.get(index) {
-            if written.contains(place) {
-                found.push((*reader, *place))?;
+        if let Some(key_index) = key_indices.get(index) {
+            if written.contains(key_index) {
+                found.push((*reader, *key_index))?;
             }
         }
     }
@@ -95,7 +95,7 @@ impl Linker {
         readers: &[(u32, u32)],
     ) -> Result<Option<Walk>, NoMemory> {
         if matches!(self.level, Level::Atomic) {
-            for (reader, _place) in readers {
+            for (reader, _key_index) in readers {
                 for start in wanted {
                     if let Some(walk) = one_step(alloc, graph, *start, *reader)? {
                         return Ok(Some(walk));
@@ -105,7 +105,7 @@ impl Linker {
             return Ok(None);
         }
         let mut ends = Vec::new(alloc);
-        for (reader, _place) in readers {
+        for (reader, _key_index) in readers {
             ends.push(*reader)?;
         }
         let steps = self.backwards.walk(alloc, graph, sessions, wanted, &ends)?;
@@ -130,9 +130,9 @@ impl Linker {
         };
         let from = first.from();
         let end = last.to();
-        for (reader, place) in readers {
+        for (reader, key_index) in readers {
             if *reader == end {
-                if let Some(key) = key(graph, *place) {
+                if let Some(key) = key(graph, *key_index) {
                     return Ok(Some(Link::Derived {
                         from,
                         to,
@@ -179,8 +179,8 @@ impl Linker {
     ) -> Result<Option<Vec<Link>>, NoMemory> {
         let circle = without_runs(alloc, graph, circle)?;
         let mut links = Vec::new(alloc);
-        for (place, from) in circle.iter().enumerate() {
-            let Some(to) = following(&circle, place) else {
+        for (index, from) in circle.iter().enumerate() {
+            let Some(to) = following(&circle, index) else {
                 return Ok(None);
             };
             let Some(link) = self.link(alloc, graph, sessions, *from, to)? else {

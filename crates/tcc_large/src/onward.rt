@@ -54,10 +54,10 @@ fn derived_by_walk(
         (AreReasonsPast (causally graph.now) ranks.now from) (IsOnward (causally graph.now) ranks.now from)) }
 {
     let reach = Reach::of(alloc, graph, from)?;
-    for place in 1..reach.len() {
-        let reader = reach.number(place);
+    for position in 1..reach.len() {
+        let reader = reach.number(position);
         if let Some((to, key)) = overwritten(graph, ranks, from, reader) {
-            let walk = reach.walk(alloc, graph, place)?;
+            let walk = reach.walk(alloc, graph, position)?;
             return Ok(Some(Link::Derived {
                 from,
                 to,

@@ -31,9 +31,9 @@ pub(crate) fn step(graph: &LargeGraph, from: u32, to: u32) -> Step
 /// What was reached from a transaction.
 #[derive(Drop)]
 pub(crate) struct Reach {
-    /// Of each transaction its place in the queue; 0 where it wasn't reached.
-    places: Cells,
-    /// Where the search began, and then each transaction that was reached, with the place of the one that led there.
+    /// Of each transaction its position in the queue; 0 where it wasn't reached.
+    positions: Cells,
+    /// Where the search began, and then each transaction that was reached, with the position of the one that led there.
     queue: Vec<(u32, u32)>,
 }
 
@@ -41,69 +41,69 @@ impl Reach {
     /// Before the search from a transaction.
     fn new(alloc: Global, graph: &LargeGraph, start: u32) -> Result<Reach, NoMemory>
         requires { start < count graph.now }
-        ensures reach { IfOk result (λ reach. IsReach graph.now reach.places reach.queue.items) }
+        ensures reach { IfOk result (λ reach. IsReach graph.now reach.positions reach.queue.items) }
         ensures start { IfOk result (λ reach. number_at reach.queue.items 0 ≡ start) }
     {
-        let places = Cells::new(alloc, graph.count() as usize, 0)?;
+        let positions = Cells::new(alloc, graph.count() as usize, 0)?;
         let mut queue = Vec::new(alloc);
         queue.push((start, 0))?;
-        Ok(Reach { places, queue })
+        Ok(Reach { positions, queue })
     }
 
-    /// How many places the queue has.
+    /// How many positions the queue has.
     pub(crate) fn len(&self) -> usize
         ensures { result ≡ length self.now.queue.items }
     {
         self.queue.len()
     }
 
-    /// The transaction at a place of the queue.
-    pub(crate) fn number(&self, place: usize) -> u32
-        requires { place < length self.now.queue.items }
-        ensures { result ≡ number_at self.now.queue.items place }
+    /// The transaction at a position of the queue.
+    pub(crate) fn number(&self, position: usize) -> u32
+        requires { position < length self.now.queue.items }
+        ensures { result ≡ number_at self.now.queue.items position }
     {
-        self.queue[place].0
+        self.queue[position].0
     }
 
-    /// Takes in a transaction that wasn't reached before, if a pair leads to it from the one at a place.
-    fn meet(&mut self, graph: &LargeGraph, place: u32, number: u32) -> Result<(), AllocError>
+    /// Takes in a transaction that wasn't reached before, if a pair leads to it from the one at a position.
+    fn meet(&mut self, graph: &LargeGraph, position: u32, number: u32) -> Result<(), AllocError>
         requires few { count graph.now ≤ LARGE_COUNT }
-        requires place { place < length self.old.queue.items }
+        requires position { position < length self.old.queue.items }
         requires number { number < count graph.now }
-        requires reach { IsReach graph.now self.old.places self.old.queue.items }
-        ensures reach { OnOk result (IsReach graph.now self.new.places self.new.queue.items) }
-        ensures more { OnOk result (IsMore self.old.places self.old.queue.items self.new.places self.new.queue.items) }
-        ensures met { OnOk result (IsCausalPair graph.now (number_at self.old.queue.items place) number → 0 < slice_index self.new.places number) }
+        requires reach { IsReach graph.now self.old.positions self.old.queue.items }
+        ensures reach { OnOk result (IsReach graph.now self.new.positions self.new.queue.items) }
+        ensures more { OnOk result (IsMore self.old.positions self.old.queue.items self.new.positions self.new.queue.items) }
+        ensures met { OnOk result (IsCausalPair graph.now (number_at self.old.queue.items position) number → 0 < slice_index self.new.positions number) }
     {
-        if self.places.get(number) > 0 {
+        if self.positions.get(number) > 0 {
             return Ok(());
         }
-        let from = self.queue[place as usize].0;
+        let from = self.queue[position as usize].0;
         if !graph.causal(from, number) {
             return Ok(());
         }
-        self.places.set(number, self.queue.len() as u32);
-        self.queue.push((number, place))?;
+        self.positions.set(number, self.queue.len() as u32);
+        self.queue.push((number, position))?;
         Ok(())
     }
 
-    /// Takes in those of these transactions to which a pair leads from the one at a place.
+    /// Takes in those of these transactions to which a pair leads from the one at a position.
     fn meet_each(
         &mut self,
         graph: &LargeGraph,
-        place: u32,
+        position: u32,
         numbers: &[u32],
     ) -> Result<(), AllocError>
         requires few { count graph.now ≤ LARGE_COUNT }
-        requires place { place < length self.old.queue.items }
+        requires position { position < length self.old.queue.items }
         requires numbers { All (λ v. v < count graph.now) numbers.now }
-        requires reach { IsReach graph.now self.old.places self.old.queue.items }
-        ensures reach { OnOk result (IsReach graph.now self.new.places self.new.queue.items) }
-        ensures more { OnOk result (IsMore self.old.places self.old.queue.items self.new.places self.new.queue.items) }
-        ensures met { OnOk result (AreMet graph.now self.new.places (number_at self.old.queue.items place) numbers.now (length numbers.now)) }
+        requires reach { IsReach graph.now self.old.positions self.old.queue.items }
+        ensures reach { OnOk result (IsReach graph.now self.new.positions self.new.queue.items) }
+        ensures more { OnOk result (IsMore self.old.positions self.old.queue.items self.new.positions self.new.queue.items) }
+        ensures met { OnOk result (AreMet graph.now self.new.positions (number_at self.old.queue.items position) numbers.now (length numbers.now)) }
     {
         for number in numbers {
-            self.meet(graph, place, *number)?;
+            self.meet(graph, position, *number)?;
         }
         Ok(())
     }
@@ -112,73 +112,73 @@ impl Reach {
     fn meet_between(
         &mut self,
         graph: &LargeGraph,
-        place: u32,
+        position: u32,
         low: u32,
         high: u32,
     ) -> Result<(), AllocError>
         requires few { count graph.now ≤ LARGE_COUNT }
-        requires place { place < length self.old.queue.items }
+        requires position { position < length self.old.queue.items }
         requires order { low ≤ high }
         requires high { high ≤ count graph.now }
-        requires reach { IsReach graph.now self.old.places self.old.queue.items }
-        ensures reach { OnOk result (IsReach graph.now self.new.places self.new.queue.items) }
-        ensures more { OnOk result (IsMore self.old.places self.old.queue.items self.new.places self.new.queue.items) }
-        ensures met { OnOk result (AreMetBetween graph.now self.new.places (number_at self.old.queue.items place) low high) }
+        requires reach { IsReach graph.now self.old.positions self.old.queue.items }
+        ensures reach { OnOk result (IsReach graph.now self.new.positions self.new.queue.items) }
+        ensures more { OnOk result (IsMore self.old.positions self.old.queue.items self.new.positions self.new.queue.items) }
+        ensures met { OnOk result (AreMetBetween graph.now self.new.positions (number_at self.old.queue.items position) low high) }
     {
         for number in low..high {
-            self.meet(graph, place, number)?;
+            self.meet(graph, position, number)?;
         }
         Ok(())
     }
 
-    /// Takes in all to which a pair leads from the transaction at a place: the later ones of its session, and its readers.
-    fn spread(&mut self, graph: &LargeGraph, place: u32) -> Result<(), AllocError>
+    /// Takes in all to which a pair leads from the transaction at a position: the later ones of its session, and its readers.
+    fn spread(&mut self, graph: &LargeGraph, position: u32) -> Result<(), AllocError>
         requires few { count graph.now ≤ LARGE_COUNT }
-        requires place { place < length self.old.queue.items }
-        requires reach { IsReach graph.now self.old.places self.old.queue.items }
-        ensures reach { OnOk result (IsReach graph.now self.new.places self.new.queue.items) }
-        ensures more { OnOk result (IsMore self.old.places self.old.queue.items self.new.places self.new.queue.items) }
-        ensures met { OnOk result ((v : ℕ) → IsCausalPair graph.now (number_at self.old.queue.items place) v → 0 < slice_index self.new.places v) }
+        requires position { position < length self.old.queue.items }
+        requires reach { IsReach graph.now self.old.positions self.old.queue.items }
+        ensures reach { OnOk result (IsReach graph.now self.new.positions self.new.queue.items) }
+        ensures more { OnOk result (IsMore self.old.positions self.old.queue.items self.new.positions self.new.queue.items) }
+        ensures met { OnOk result ((v : ℕ) → IsCausalPair graph.now (number_at self.old.queue.items position) v → 0 < slice_index self.new.positions v) }
     {
-        let from = self.queue[place as usize].0;
+        let from = self.queue[position as usize].0;
         let (low, high) = graph.later(from);
-        self.meet_between(graph, place, low, high)?;
+        self.meet_between(graph, position, low, high)?;
         let (readers, _keys) = graph.readings(from);
-        self.meet_each(graph, place, readers)?;
+        self.meet_each(graph, position, readers)?;
         Ok(())
     }
 
     /// All that a transaction reaches.
     pub(crate) fn of(alloc: Global, graph: &LargeGraph, start: u32) -> Result<Reach, NoMemory>
         requires { start < count graph.now }
-        ensures reach { IfOk result (λ reach. IsReach graph.now reach.places reach.queue.items) }
+        ensures reach { IfOk result (λ reach. IsReach graph.now reach.positions reach.queue.items) }
         ensures start { IfOk result (λ reach. number_at reach.queue.items 0 ≡ start) }
-        ensures all { IfOk result (λ reach. AreSpread graph.now reach.places reach.queue.items (length reach.queue.items)) }
+        ensures all { IfOk result (λ reach. AreSpread graph.now reach.positions reach.queue.items (length reach.queue.items)) }
     {
         let mut reach = Reach::new(alloc, graph, start)?;
-        for place in 0..graph.count() + 1 {
-            if place as usize >= reach.queue.len() {
+        for position in 0..graph.count() + 1 {
+            if position as usize >= reach.queue.len() {
                 return Ok(reach);
             }
-            reach.spread(graph, place)?;
+            reach.spread(graph, position)?;
         }
         Ok(reach)
     }
 
-    /// The walk from where the search began to the transaction at a later place.
+    /// The walk from where the search began to the transaction at a later position.
     pub(crate) fn walk(
         &self,
         alloc: Global,
         graph: &LargeGraph,
-        place: usize,
+        position: usize,
     ) -> Result<Walk, AllocError>
-        requires reach { IsReach graph.now self.now.places self.now.queue.items }
-        requires some { 0 < place }
-        requires inside { place < length self.now.queue.items }
-        ensures { IfOk result (IsWalk graph.now (number_at self.now.queue.items 0) (number_at self.now.queue.items place)) }
+        requires reach { IsReach graph.now self.now.positions self.now.queue.items }
+        requires some { 0 < position }
+        requires inside { position < length self.now.queue.items }
+        ensures { IfOk result (IsWalk graph.now (number_at self.now.queue.items 0) (number_at self.now.queue.items position)) }
     {
         let mut steps = Vec::new(alloc);
-        let mut at = place;
+        let mut at = position;
         while at > 0 {
             let (number, before) = self.queue[at];
             let from = self.queue[before as usize].0;

@@ -7,11 +7,11 @@ use std::alloc::{AllocError, Global};
 use tcc_graph::{LargeGraph, Step};
 use tcc_txn::NoMemory;
 
-/// By a session pair, where other steps have the place of a key.
+/// By a session pair, where other steps have the index of a key.
 const BY_SESSION: u32 = u32::MAX;
 
 /// What a search backwards has met: where each transaction leads on to, and by what. It serves for many searches, of which
-/// each has a number of its own.
+/// each has a turn of its own.
 #[derive(Drop)]
 pub(crate) struct Backwards {
     turn: u32,
@@ -83,12 +83,12 @@ impl Backwards {
         if let Some(start) = self.search_session(sessions, wanted, number)? {
             return Ok(Some((start, BY_SESSION)));
         }
-        for (place, source) in reads(graph, number) {
+        for (key_index, source) in reads(graph, number) {
             if wanted.binary_search(source).is_ok() {
-                return Ok(Some((*source, *place)));
+                return Ok(Some((*source, *key_index)));
             }
             if *source != 0 {
-                self.meet(*source, number, *place)?;
+                self.meet(*source, number, *key_index)?;
             }
         }
         Ok(None)
@@ -137,7 +137,7 @@ impl Backwards {
     }
 }
 
-/// A step by a session pair, or by the key at a place.
+/// A step by a session pair, or by the key at an index.
 fn step(graph: &LargeGraph, from: u32, to: u32, by: u32) -> Step {
     match key(graph, by) {
         Some(key) => Step::Reads { from, to, key },

@@ -4,7 +4,7 @@ use Rattle.tcc_reads.specs.History.{History, entry_at}
 use Rattle.tcc_graph.specs.Relations.{IsReadsPair, IsSessionPair}
 use Rattle.tcc_graph.specs.Keys.{IsWriter, has_name}
 
--- the number at a place, 0 past the end
+-- the number at an index, 0 past the end
 abbrev pub carry : List ℕ → ℕ → ℕ
 carry numbers n = slice_index numbers n
 

@@ -1,22 +1,22 @@
--- What a search has reached by pairs, in a queue of numbers, each with the place of the one that led there.
+-- What a search has reached by pairs, in a queue of numbers, each with the position of the one that led there.
 use Rattle.std.specs.Prelude.{ℕ, ◌<◌, ◌≤◌, ◌≡◌, List, length, slice_index, slice_index_or}
 use Rattle.tcc_reads.specs.History.{History, count}
 use Rattle.tcc_graph.specs.Relations.{IsCausalPair}
 
--- the transaction at a place, and the place of the one that led there
+-- the transaction at a position, and the position of the one that led there
 abbrev pub number_at : List (ℕ × ℕ) → ℕ → ℕ
 number_at queue i = (slice_index_or queue i (0, 0)).0
 
 abbrev pub before_at : List (ℕ × ℕ) → ℕ → ℕ
 before_at queue i = (slice_index_or queue i (0, 0)).1
 
--- behind the first place each transaction stands once, behind one from which a pair leads to it, and has its place noted
-pub record IsReach (h : History) (places : List ℕ) (queue : List (ℕ × ℕ)) : Type 0 where
-  pub long : length places ≡ count h
+-- behind the first position each transaction stands once, behind one from which a pair leads to it, and has its position noted
+pub record IsReach (h : History) (positions : List ℕ) (queue : List (ℕ × ℕ)) : Type 0 where
+  pub long : length positions ≡ count h
   pub some : 0 < length queue
   pub below : (i : ℕ) → i < length queue → number_at queue i < count h
-  pub back : (i : ℕ) → 0 < i → i < length queue → slice_index places (number_at queue i) ≡ i
-  pub noted : (v : ℕ) → 0 < slice_index places v → (slice_index places v < length queue) × (number_at queue (slice_index places v) ≡ v)
+  pub back : (i : ℕ) → 0 < i → i < length queue → slice_index positions (number_at queue i) ≡ i
+  pub noted : (v : ℕ) → 0 < slice_index positions v → (slice_index positions v < length queue) × (number_at queue (slice_index positions v) ≡ v)
   pub led : (i : ℕ) → 0 < i → i < length queue → (before_at queue i < i) × IsCausalPair h (number_at queue (before_at queue i)) (number_at queue i)
 
 -- what stood in the queue stands there as before, and what was reached is reached
@@ -27,11 +27,11 @@ pub record IsMore (old : List ℕ) (older : List (ℕ × ℕ)) (new : List ℕ) 
 
 -- of the first n of these numbers, and of those from low to below high, each to which a pair leads was reached
 abbrev pub AreMet : History → List ℕ → ℕ → List ℕ → ℕ → Type 0
-AreMet h places from numbers n = (k : ℕ) → k < n → IsCausalPair h from (slice_index numbers k) → 0 < slice_index places (slice_index numbers k)
+AreMet h positions from numbers n = (k : ℕ) → k < n → IsCausalPair h from (slice_index numbers k) → 0 < slice_index positions (slice_index numbers k)
 
 abbrev pub AreMetBetween : History → List ℕ → ℕ → ℕ → ℕ → Type 0
-AreMetBetween h places from low high = (v : ℕ) → low ≤ v → v < high → IsCausalPair h from v → 0 < slice_index places v
+AreMetBetween h positions from low high = (v : ℕ) → low ≤ v → v < high → IsCausalPair h from v → 0 < slice_index positions v
 
--- all was reached to which a pair leads from one of the first n places
+-- all was reached to which a pair leads from one of the first n positions
 abbrev pub AreSpread : History → List ℕ → List (ℕ × ℕ) → ℕ → Type 0
-AreSpread h places queue n = (i v : ℕ) → i < n → IsCausalPair h (number_at queue i) v → 0 < slice_index places v
+AreSpread h positions queue n = (i v : ℕ) → i < n → IsCausalPair h (number_at queue i) v → 0 < slice_index positions v

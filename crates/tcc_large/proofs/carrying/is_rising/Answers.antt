@@ -3,4 +3,4 @@ use Rattle.tcc_large.proofs.Carried.{rising_all}
 use Rattle.tcc_large.proofs.carrying.is_rising.Goals as goal
 
 pub returns : goal.returns
-returns c = λ is. rising_all c.args.numbers.now c.loop-place.place (omega (arith, c.loop-place-test.false, c.loop-place.auto.place-end)) c.loop-place.invariant.1
+returns c = λ is. rising_all c.args.numbers.now c.loop-index.index (omega (arith, c.loop-index-test.false, c.loop-index.auto.index-end)) c.loop-index.invariant.1

@@ -2,5 +2,5 @@ use Rattle.std.proofs.Common.{◌<◌}
 use Rattle.tcc_large.proofs.Carried.{IsAdjacent}
 use Rattle.tcc_large.proofs.carrying.is_rising.Given as goal
 
-abbrev pub invariant-loop-place : goal.invariant-loop-place
-invariant-loop-place l = (0 < l.place) × IsAdjacent l.numbers l.place
+abbrev pub invariant-loop-index : goal.invariant-loop-index
+invariant-loop-index l = (0 < l.index) × IsAdjacent l.numbers l.index

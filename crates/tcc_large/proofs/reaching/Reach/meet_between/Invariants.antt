@@ -3,7 +3,7 @@ use Rattle.tcc_large.proofs.reaching.Reach.meet_between.Given as goal
 
 abbrev pub invariant-loop-number : goal.invariant-loop-number
 invariant-loop-number l = record {
-  reach : IsReach l.graph l.self.places l.self.queue.items;
-  more : IsMore l.initial.self.places l.initial.self.queue.items l.self.places l.self.queue.items;
-  met : AreMetBetween l.graph l.self.places (number_at l.initial.self.queue.items l.place) l.low l.number;
+  reach : IsReach l.graph l.self.positions l.self.queue.items;
+  more : IsMore l.initial.self.positions l.initial.self.queue.items l.self.positions l.self.queue.items;
+  met : AreMetBetween l.graph l.self.positions (number_at l.initial.self.queue.items l.position) l.low l.number;
 }

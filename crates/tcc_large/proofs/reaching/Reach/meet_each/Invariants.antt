@@ -3,7 +3,7 @@ use Rattle.tcc_large.proofs.reaching.Reach.meet_each.Given as goal
 
 abbrev pub invariant-loop-number : goal.invariant-loop-number
 invariant-loop-number l = record {
-  reach : IsReach l.graph l.self.places l.self.queue.items;
-  more : IsMore l.initial.self.places l.initial.self.queue.items l.self.places l.self.queue.items;
-  met : AreMet l.graph l.self.places (number_at l.initial.self.queue.items l.place) l.numbers l.number-index;
+  reach : IsReach l.graph l.self.positions l.self.queue.items;
+  more : IsMore l.initial.self.positions l.initial.self.queue.items l.self.positions l.self.queue.items;
+  met : AreMet l.graph l.self.positions (number_at l.initial.self.queue.items l.position) l.numbers l.number-index;
 }

@@ -13,22 +13,22 @@ pub returns-clause-met : goal.returns-clause-met
 returns-clause-met c = λ v pair.
     let h = c.args.graph.now in
     let queue = c.args.self.now.queue.items in
-    let place = c.args.place in
+    let position = c.args.position in
     let from = c.index.result.now.0 in
     let mid = c.meet_between.new.self in
     let new = c.meet_each.new.self in
     let low = c.later-low.result.0 in
     let high = c.later-low.result.1 in
     let readers = c.readings.result.0.now in
-    let at : from ≡ number_at queue place
-    = ap (λ (p : ℕ × ℕ). p.0) (get_or_read queue place c.index.result.now c.requires.place c.index.ensures (0, 0)) in
-    let after : number_at mid.queue.items place ≡ from
-    = ap (λ (p : ℕ × ℕ). p.0) (c.in_ok-meet_between.ensures.more.same place c.requires.place) ∙ sym at in
-    let between : AreMetBetween h new.places from low high
-    = subst (λ (z : ℕ). AreMetBetween h new.places z low high) (sym at)
-    (more_between h mid.places mid.queue.items new.places new.queue.items (number_at queue place) low high c.in_ok-meet_each.ensures.more
+    let at : from ≡ number_at queue position
+    = ap (λ (p : ℕ × ℕ). p.0) (get_or_read queue position c.index.result.now c.requires.position c.index.ensures (0, 0)) in
+    let after : number_at mid.queue.items position ≡ from
+    = ap (λ (p : ℕ × ℕ). p.0) (c.in_ok-meet_between.ensures.more.same position c.requires.position) ∙ sym at in
+    let between : AreMetBetween h new.positions from low high
+    = subst (λ (z : ℕ). AreMetBetween h new.positions z low high) (sym at)
+    (more_between h mid.positions mid.queue.items new.positions new.queue.items (number_at queue position) low high c.in_ok-meet_each.ensures.more
     c.in_ok-meet_between.ensures.met) in
-    let met : AreMet h new.places from readers (length readers)
-    = subst (λ (z : ℕ). AreMet h new.places z readers (length readers)) after c.in_ok-meet_each.ensures.met in
-    all_met h from readers c.readings.result.1.now c.readings.ensures.long c.readings.ensures.each new.places low high c.later-low.ensures.pairs between met v
+    let met : AreMet h new.positions from readers (length readers)
+    = subst (λ (z : ℕ). AreMet h new.positions z readers (length readers)) after c.in_ok-meet_each.ensures.met in
+    all_met h from readers c.readings.result.1.now c.readings.ensures.long c.readings.ensures.each new.positions low high c.later-low.ensures.pairs between met v
     (subst (λ (z : ℕ). IsCausalPair h z v) (sym at) pair)
