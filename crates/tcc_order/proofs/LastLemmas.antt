@@ -19,20 +19,9 @@ use Rattle.tcc_order.specs.Clocks.{IsBehind, IsLast, IsClocksOf}
 use Rattle.tcc_bits.proofs.Lists.{one_of_taken, still_taken, last_taken, nothing_in}
 use Rattle.tcc_order.specs.private.Parents.{HasSourcesAt, parents}
 use Rattle.tcc_order.specs.private.Lasts.{IsOneOf, IsLastOf, AreLastsOf, IsBefore, IsUpTo, raised, HasLasts}
+use Rattle.tcc_order.specs.private.Latest.{LeadsOnward}
 use Rattle.tcc_order.proofs.Reaching.{reached_by, parents_all, parent_pair, IsBehindBy}
-
--- ---- an order
--- an earlier place of the list is in its front
-taken_at : (order : List ℕ) (k i p : ℕ) → i < k → k < length order → get_or order i 0 ≡ p → Contains (take k order) p
-taken_at order k i p less inside at_p =
-    let long : i < length (take k order) = omega (arith, length-take-le k order (omega arith)) in
-    (i, long, get_or_default (take k order) i p 0 long ∙ (get_or-take k order i 0 less ∙ at_p))
-
--- what stands before the next one was worked out
-pub taken_before : {n : ℕ} (order : List ℕ) (k p : ℕ) → IsNumbering n order → k < length order → Before order p (get_or order k 0) → Contains (take k order) p
-taken_before order k p is inside (i, j, less, within, at_p, at_c) =
-    let same : j ≡ k = one_place is j k within inside at_c in
-    taken_at order k i p (omega arith) inside at_p
+use Rattle.tcc_order.proofs.Along.{rows_more, parents_below, parents_have}
 
 -- ---- one session
 -- others are meant, of which each is one of these and the other way round
@@ -174,18 +163,8 @@ pub table_more : (h : History) (table : List (List ℕ)) (order row : List ℕ) 
     → AreLastsOf h (IsBefore h (get_or order k 0)) row → HasLasts h (Contains (take (k + 1) order)) (set table (get_or order k 0) row)
 table_more h table order row k inside low before new = record {
   long = omega (arith, before.long, length-set {A = List ℕ});
-  each = λ c l there. row_at c l (cases_eq c (get_or order k 0)) there;
+  each = rows_more h (λ c row. AreLastsOf h (IsBefore h c) row) table order row k inside (omega (arith, low, before.long)) before.each new;
 }
-  where
-    was : (c : ℕ) → c ≢ get_or order k 0 → Contains (take k order) c ⊎ (get_or order k 0 ≡ c) → Contains (take k order) c
-    was c other (inl there) = there
-    was c other (inr same) = absurd (other (sym same))
-
-    row_at : (c : ℕ) → c < count h → (c ≡ get_or order k 0) ⊎ (c ≢ get_or order k 0) → Contains (take (k + 1) order) c
-        → AreLastsOf h (IsBefore h c) (row_of (set table (get_or order k 0) row) c)
-    row_at c l (inl same) there = rw (same, get_or-set_same table (get_or order k 0) row [] (omega (arith, low, before.long))) new
-    row_at c l (inr other) there =
-        rw (get_or-set_other table (get_or order k 0) c row [] other) (before.each c l (was c other (one_of_taken order k inside c there)))
 
 pub table_whole : (h : History) (table : List (List ℕ)) (order : List ℕ) → ((c : ℕ) → c < count h → Contains order c) → HasLasts h (Contains order) table
     → IsClocksOf h table
@@ -226,22 +205,12 @@ module _ (h : History) (numbered : IsBySession h.entries) (order : List ℕ) (k 
   pub low : get_or order k 0 < count h
   low = below_in commit.numbering k inside
 
-  before : (p : ℕ) → IsCausalPair h p c → Before order p c
-  before p (inl pair) = commit.sessions p c pair
-  before p (inr (x, pair)) = commit.reads p c x pair
-
-  pub parent_done : (p : ℕ) → Contains (parents h c) p → (p < count h) × AreLastsOf h (IsBefore h p) (row_of table p)
-  parent_done p parent = (pair_of.0, done.each p pair_of.0 (taken_before order k p commit.numbering inside (before p pair)))
-    where
-      pair : IsCausalPair h p c
-      pair = parent_pair h numbered c low all p parent
-
-      pair_of : (p < count h) × (c < count h)
-      pair_of = pair_below h p c pair
+  onward : LeadsOnward h order
+  onward p q (inl pair) = commit.sessions p q pair
+  onward p q (inr (x, pair)) = commit.reads p q x pair
 
   pub all_below : All (λ p. p < count h) (parents h c)
-  all_below = All-weaker (Contains (parents h c)) (λ p. p < count h) (λ p there. (parent_done p there).0) (parents h c) (All-contains_itself (parents h c))
+  all_below = parents_below h numbered c low all
 
   pub all_done : All (λ p. AreLastsOf h (IsBefore h p) (row_of table p)) (parents h c)
-  all_done = All-weaker (Contains (parents h c)) (λ p. AreLastsOf h (IsBefore h p) (row_of table p)) (λ p there. (parent_done p there).1) (parents h c)
-      (All-contains_itself (parents h c))
+  all_done = parents_have h numbered (λ p row. AreLastsOf h (IsBefore h p) row) order k table commit.numbering onward inside all done.each

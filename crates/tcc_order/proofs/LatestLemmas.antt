@@ -19,8 +19,8 @@ use Rattle.tcc_order.specs.private.Parents.{HasSourcesAt, parents, sources, prev
 use Rattle.tcc_order.specs.private.Lasts.{IsOneOf, IsBefore, IsUpTo}
 use Rattle.tcc_order.specs.private.Latest.{AreOwners, IsLatestOf, AreLatestOf, HasLatest, AreClocks, IsLike, LeadsOnward, lifted}
 use Rattle.tcc_order.specs.declared.latest.TheConstants.{WIDE}
-use Rattle.tcc_order.proofs.Reaching.{parent_pair}
-use Rattle.tcc_order.proofs.LastLemmas.{one_same, up_to_more, up_to_parents, taken_before}
+use Rattle.tcc_order.proofs.Along.{rows_more, parents_below, parents_have}
+use Rattle.tcc_order.proofs.LastLemmas.{one_same, up_to_more, up_to_parents}
 
 -- ---- one session
 -- others are meant, which in the session are the same
@@ -181,18 +181,8 @@ pub table_more : (h : History) (from : ℕ) (table : List (List ℕ)) (order row
     → AreLatestOf h (IsBefore h (get_or order i 0)) from row → HasLatest h from (Contains (take (i + 1) order)) (set table (get_or order i 0) row)
 table_more h from table order row i inside low before new = record {
   long = omega (arith, before.long, length-set {A = List ℕ});
-  each = λ c l there. row_at c l (cases_eq c (get_or order i 0)) there;
+  each = rows_more h (λ c row. AreLatestOf h (IsBefore h c) from row) table order row i inside (omega (arith, low, before.long)) before.each new;
 }
-  where
-    was : (c : ℕ) → c ≢ get_or order i 0 → Contains (take i order) c ⊎ (get_or order i 0 ≡ c) → Contains (take i order) c
-    was c other (inl there) = there
-    was c other (inr same) = absurd (other (sym same))
-
-    row_at : (c : ℕ) → c < count h → (c ≡ get_or order i 0) ⊎ (c ≢ get_or order i 0) → Contains (take (i + 1) order) c
-        → AreLatestOf h (IsBefore h c) from (row_of (set table (get_or order i 0) row) c)
-    row_at c l (inl same) there = rw (same, get_or-set_same table (get_or order i 0) row [] (omega (arith, low, before.long))) new
-    row_at c l (inr other) there =
-        rw (get_or-set_other table (get_or order i 0) c row [] other) (before.each c l (was c other (one_of_taken order i inside c there)))
 
 pub table_whole : (h : History) (from : ℕ) (table : List (List ℕ)) (order : List ℕ) → ((c : ℕ) → c < count h → Contains order c)
     → HasLatest h from (Contains order) table → AreClocks h from table
@@ -204,27 +194,14 @@ module _ (h : History) (numbered : IsBySession h.entries) (from : ℕ) (order : 
   abbrev c : ℕ
   c = get_or order i 0
 
-  low : get_or order i 0 < count h
-  low = below_in numbering i inside
-
-  parent_done : (p : ℕ) → Contains (parents h c) p → (p < count h) × AreLatestOf h (IsBefore h p) from (row_of table p)
-  parent_done p parent = (pair_of.0, done.each p pair_of.0 (taken_before order i p numbering inside (onward p c pair)))
-    where
-      pair : IsCausalPair h p c
-      pair = parent_pair h numbered c low all p parent
-
-      pair_of : (p < count h) × (c < count h)
-      pair_of = pair_below h p c pair
-
   pub all_below : All (λ p. p < count h) (parents h c)
-  all_below = All-weaker (Contains (parents h c)) (λ p. p < count h) (λ p there. (parent_done p there).0) (parents h c) (All-contains_itself (parents h c))
+  all_below = parents_below h numbered c (below_in numbering i inside) all
 
   pub all_done : All (λ p. AreLatestOf h (IsBefore h p) from (row_of table p)) (parents h c)
-  all_done = All-weaker (Contains (parents h c)) (λ p. AreLatestOf h (IsBefore h p) from (row_of table p)) (λ p there. (parent_done p there).1) (parents h c)
-      (All-contains_itself (parents h c))
+  all_done = parents_have h numbered (λ p row. AreLatestOf h (IsBefore h p) from row) order i table numbering onward inside all done.each
 
   pub row_done : (row : List ℕ) → AreLatestOf h (IsUpTo h (Contains (parents h c))) from row → AreLatestOf h (IsBefore h c) from row
-  row_done row made = rows_same h (IsUpTo h (Contains (parents h c))) (IsBefore h c) from row (up_to_parents h numbered c low all) made
+  row_done row made = rows_same h (IsUpTo h (Contains (parents h c))) (IsBefore h c) from row (up_to_parents h numbered c (below_in numbering i inside) all) made
 
 -- ---- parents, by places of keys
 second_of : (f : ℕ → List ℕ) (reads : List (ℕ × ℕ)) → map (λ (r : List ℕ × ℕ). r.1) (map (λ (r : ℕ × ℕ). (f r.0, r.1)) reads) ≡ map (λ (r : ℕ × ℕ). r.1) reads

@@ -11,11 +11,13 @@ pub mod QueuedLemmas
 pub mod StepLemmas
 pub mod Fronts
 pub mod Links
+pub mod Along
 pub mod LastLemmas
 mod Worked
 mod WorkedClocks
 pub mod LatestLemmas
 pub mod Readings
+pub mod KeptRows
 pub mod Needing
 pub mod Finding
 pub mod Stepped

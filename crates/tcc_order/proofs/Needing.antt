@@ -19,6 +19,7 @@ use Rattle.tcc_order.specs.private.Lasts.{IsOneOf, IsBefore}
 use Rattle.tcc_order.specs.private.Latest.{AreOwners, IsLatestOf, AreLatestOf, IsLatestPast, AreLatestPast, AreClocks, TellsNothing, IsOverwritten, IsLiftable, IsLifted, lifted_by}
 use Rattle.tcc_order.specs.private.Latest.{IsCovered, AreDerived, AreEnough, Overwrites}
 use Rattle.tcc_order.specs.declared.latest.TheConstants.{WIDE}
+use Rattle.tcc_order.proofs.KeptRows.{row_here, rows_wider, rows_derived}
 use Rattle.tcc_order.proofs.Readings.{IsTaken, named_long, named_each, named_at}
 
 -- ---- one writer more
@@ -268,26 +269,16 @@ IsUpTo h from n a b = (owner h b < from) ⊎ ((owner h b < from + WIDE) × (a < 
 module _ (h : History) (numbered : IsBySession h.entries) (from a : ℕ) (low : a < count h) (kept : List (List ℕ)) (long : length kept ≡ count h)
     (new need clock : List ℕ) (needs : AreLatestPast h (IsOverwritten h (IsReadsPair h a) a) from clock need) (reaches : AreLatestOf h (IsBefore h a) from clock)
     (now : (b : ℕ) → Contains new b ↔ (Contains (row_of kept a) b ⊎ ((k : ℕ) × (k < length need) × (slice_index need k ≡ b) × (slice_index clock k < b)))) where
-  here : row_of (set kept a new) a ≡ new
-  here = get_or-set_same kept a new [] (omega (arith, low, long))
-
-  there : (d : ℕ) → d ≢ a → row_of (set kept a new) d ≡ row_of kept d
-  there d other = get_or-set_other kept a d new [] other
+  inside : a < length kept
+  inside = omega (arith, low, long)
 
   wider : (d b : ℕ) → Contains (row_of kept d) b → Contains (row_of (set kept a new) d) b
-  wider d b was = go (cases_eq d a)
-    where
-      go : (d ≡ a) ⊎ (d ≢ a) → Contains (row_of (set kept a new) d) b
-      go (inl same) = rw (same, here) ((now b).1 (inl (rw same at was)))
-      go (inr other) = rw (there d other) was
+  wider = rows_wider kept a new inside (λ b was. (now b).1 (inl was))
 
   pub kept_derived : AreDerived (Overwrites h) kept → AreDerived (Overwrites h) (set kept a new)
-  kept_derived are d b = go (cases_eq d a)
-    where
-      go : (d ≡ a) ⊎ (d ≢ a) → Contains (row_of (set kept a new) d) b → Overwrites h d b
-      go (inl same) is =
-          rw same (row_derived h numbered from a low (row_of kept a) new need clock needs reaches now (λ e was. are a e was) b (rw (same, here) at is))
-      go (inr other) is = are d b (rw (there d other) at is)
+  kept_derived are =
+      rows_derived kept a new inside (Overwrites h) are
+      (row_derived h numbered from a low (row_of kept a) new need clock needs reaches now (λ e was. are a e was))
 
   pub kept_enough : AreEnough h (Overwrites h) (IsUpTo h from a) kept → AreEnough h (Overwrites h) (IsUpTo h from (a + 1)) (set kept a new)
   kept_enough are d b over some meant = go meant (cases_eq d a) (cases_lt (owner h b) from)
@@ -300,7 +291,7 @@ module _ (h : History) (numbered : IsBySession h.entries) (from a : ℕ) (low : 
       go (inl early) kind (inr high) = old (inl early)
       go (inr w) (inl same) (inr high) =
           subst (λ (z : ℕ). IsCovered h (set kept a new) z b) (sym same)
-          (row_covers h numbered from a low (row_of kept a) new need clock needs reaches now (set kept a new) here b
+          (row_covers h numbered from a low (row_of kept a) new need clock needs reaches now (set kept a new) (row_here kept a new inside) b
           (subst (λ (z : ℕ). Overwrites h z b) same over) some high w.0)
       go (inr w) (inr other) (inr high) = old (inr (w.0, omega (arith, w.1, other)))
 

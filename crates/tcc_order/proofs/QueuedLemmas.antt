@@ -14,9 +14,11 @@ use Rattle.std.proofs.lemmas.List.Sorted.{Contains-permutation, IsPermutation-sy
 use Rattle.tcc_graph.specs.Tables.{row_of}
 use Rattle.tcc_bits.specs.Bits.{is_marked}
 use Rattle.tcc_bits.proofs.Lists.{one_of_taken, still_taken, last_taken, nothing_in}
-use Rattle.tcc_order.specs.private.Held.{IsFreeBy, AreRoots, onward}
+use Rattle.tcc_reads.specs.History.{History, count}
+use Rattle.tcc_order.specs.private.Parents.{ArePrevious}
+use Rattle.tcc_order.specs.private.Held.{holds, IsFreeBy, AreRoots, onward}
 use Rattle.tcc_order.specs.private.Queued.{IsPopped, IsQueued, AreQueued, IsAny, IsNot}
-use Rattle.tcc_order.proofs.Fronts.{AreParentsBy}
+use Rattle.tcc_order.proofs.Fronts.{AreParentsBy, session_fronts}
 use Rattle.tcc_txn.proofs.Lists.{in_map, from_map}
 
 -- ---- the least of a heap
@@ -303,3 +305,10 @@ woken_more old mid new numbers n inside before put x = (λ there. from ((put x).
     to : Contains old x ⊎ Contains (take (n + 1) numbers) x → Contains mid x ⊎ (x ≡ get_or numbers n 0)
     to (inl there) = inl ((before x).1 (inl there))
     to (inr there) = one (one_of_taken numbers n inside x there)
+
+-- ---- by what is kept
+-- who may come next is ready
+pub all_ready : (h : History) (kept : List (List ℕ)) (ps : List ℕ) → ArePrevious h ps → {placed ready : List ℕ} {waiting : List (List ℕ)}
+    → AreQueued (holds h kept) ps placed IsAny ready waiting → (x : ℕ) → IsFreeBy (holds h kept) (count h) placed x → Contains ready x
+all_ready h kept ps are {placed} {ready} {waiting} is x free =
+    free_ready (holds h kept) (count h) ps (session_fronts h kept ps are) placed ready waiting is x free

@@ -54,8 +54,8 @@ latest_clock h owners known c from clock are k l = go (are.each k (omega (arith,
 -- ---- the last up to a number
 module _ (xs : List ℕ) (rising : IsNonDecreasing xs) (top end : ℕ) (within : end ≤ length xs)
     (point : IsPartitionPoint (λ b. nat_le b top ≡ true) (λ b. nat_le b top ≡ false) xs end) where
-  place : (b : ℕ) → Contains xs b → b ≤ top → (k : ℕ) × (k < end) × (get_or xs k 0 ≡ b)
-  place b (k, l, e) up = (k, go (cases_lt k end), at)
+  index_of : (b : ℕ) → Contains xs b → b ≤ top → (k : ℕ) × (k < end) × (get_or xs k 0 ≡ b)
+  index_of b (k, l, e) up = (k, go (cases_lt k end), at)
     where
       at : get_or xs k 0 ≡ b
       at = get_or_default xs k 0 b l ∙ e
@@ -65,7 +65,7 @@ module _ (xs : List ℕ) (rising : IsNonDecreasing xs) (top end : ℕ) (within :
       go (inr more) = absurd (omega (arith, leb-false (get_or xs k 0) top (point.1 k 0 more l), at, up))
 
   pub last_none : end ≡ 0 → IsLastUpTo xs top 0
-  last_none none = record { attained = inl refl; greatest = λ b in_xs up. let w = place b in_xs up in absurd (omega (arith, w.1, none)) }
+  last_none none = record { attained = inl refl; greatest = λ b in_xs up. let w = index_of b in_xs up in absurd (omega (arith, w.1, none)) }
 
   pub last_there : 0 < end → IsLastUpTo xs top (get_or xs (end - 1) 0)
   last_there some = record {
@@ -73,7 +73,7 @@ module _ (xs : List ℕ) (rising : IsNonDecreasing xs) (top end : ℕ) (within :
       (end - 1, omega (arith, some, within), get_or_default xs (end - 1) (get_or xs (end - 1) 0) 0 (omega (arith, some, within))),
       leb-true (get_or xs (end - 1) 0) top (point.0 (end - 1) 0 (omega (arith, some, within)) (omega (arith, some))),
     );
-    greatest = λ b in_xs up. let w = place b in_xs up in
+    greatest = λ b in_xs up. let w = index_of b in_xs up in
         omega (arith, w.2, rising w.0 (end - 1) 0 (omega (arith, w.1)) (omega (arith, some, within)));
   }
 
@@ -167,7 +167,7 @@ lifted_at owners from k clock ws a old new session top here at is = record {
     go (inr w) = inr (w.0, w.1, w.2, omega (arith, w.3, here), omega (arith, w.4, at))
 
 -- ---- one session more
-module _ (owners : List ℕ) (from : ℕ) (clock ws : List ℕ) (a : ℕ) (old mid : List ℕ) (n v : ℕ) (inside : n < length mid)
+module _ {owners : List ℕ} {from : ℕ} {clock ws : List ℕ} {a : ℕ} (old mid : List ℕ) {n v : ℕ} (inside : n < length mid)
     (before : (k : ℕ) → k < n → IsLifted owners from clock ws a k (slice_index old k) (slice_index mid k))
     (after : (k : ℕ) → n ≤ k → slice_index mid k ≡ slice_index old k)
     (here : IsLifted owners (from + n) (slice_index clock n ∷ []) ws a 0 (slice_index mid n) v) where

@@ -25,9 +25,9 @@ counted xs bound end within point = record {
     go k l small (inr more) = absurd (false≢true (sym (point.1 k 0 more l) ∙ lt-ltb (get_or xs k 0) bound small))
 
 module _ (xs : List ℕ) (rising : IsNonDecreasing xs) (low high start end : ℕ) (first : IsCountBelow xs low start) (last : IsCountBelow xs high end) where
-  -- the place of one of those between
-  place : (b : ℕ) → Contains xs b → low ≤ b → b < high → (k : ℕ) × (start ≤ k) × (k < end) × (k < length xs) × (get_or xs k 0 ≡ b)
-  place b (k, l, e) above below = (k, go (cases_lt k start), last.others k l (omega (arith, at, below)), l, at)
+  -- the index of one of those between
+  index_of : (b : ℕ) → Contains xs b → low ≤ b → b < high → (k : ℕ) × (start ≤ k) × (k < end) × (k < length xs) × (get_or xs k 0 ≡ b)
+  index_of b (k, l, e) above below = (k, go (cases_lt k start), last.others k l (omega (arith, at, below)), l, at)
     where
       at : get_or xs k 0 ≡ b
       at = get_or_default xs k 0 b l ∙ e
@@ -39,7 +39,7 @@ module _ (xs : List ℕ) (rising : IsNonDecreasing xs) (low high start end : ℕ
   pub none_between : end ≤ start → IsBetween xs low high []
   none_between none = record {
     among = λ b w. absurd (omega (arith, w.1));
-    all = λ b there above below. let w = place b there above below in absurd (omega (arith, w.1, w.2, none));
+    all = λ b there above below. let w = index_of b there above below in absurd (omega (arith, w.1, w.2, none));
     rising = IsNonDecreasingBy-short (λ (n : ℕ). n) [] (omega arith);
   }
 
@@ -68,7 +68,7 @@ module _ (xs : List ℕ) (rising : IsNonDecreasing xs) (low high start end : ℕ
       where
         all : (b : ℕ) → Contains xs b → low ≤ b → b < high → Contains (take (end - start) (drop start xs)) b
         all b there above below =
-            let w = place b there above below in
+            let w = index_of b there above below in
             let k : ℕ = w.0 - start in
             let l : w.0 - start < end - start = omega (arith, w.1, w.2) in
             let back : start + (w.0 - start) ≡ w.0 = omega (arith, w.1) in
@@ -92,16 +92,16 @@ pub spans_more : (h : History) (low high : ℕ) (spans : List (ℕ × ℕ)) (n :
     → IsSpan (writers h (key_at h n)) low high span.0 span.1 → AreSpans h low high (spans ++ span ∷ []) (n + 1)
 spans_more h low high spans n span are one = record {
   long = omega (arith, length-append spans (span ∷ []), are.long);
-  each = λ place l. go place l (cases_lt place n);
+  each = λ key_index l. go key_index l (cases_lt key_index n);
 }
   where
-    go : (place : ℕ) → place < n + 1 → (place < n) ⊎ (n ≤ place)
-        → IsSpan (writers h (key_at h place)) low high (get_or (spans ++ span ∷ []) place (0, 0)).0 (get_or (spans ++ span ∷ []) place (0, 0)).1
-    go place l (inl early) = rw (get_or_append_left spans (span ∷ []) (0, 0) place (omega (arith, early, are.long))) (are.each place early)
-    go place l (inr late) =
-        let here : length spans ≡ place = omega (arith, l, late, are.long) in
-        let at : place ≡ n = omega (arith, l, late) in
-        rw (get_or_at spans span [] (0, 0) place here, at) one
+    go : (key_index : ℕ) → key_index < n + 1 → (key_index < n) ⊎ (n ≤ key_index)
+        → IsSpan (writers h (key_at h key_index)) low high (get_or (spans ++ span ∷ []) key_index (0, 0)).0 (get_or (spans ++ span ∷ []) key_index (0, 0)).1
+    go key_index l (inl early) = rw (get_or_append_left spans (span ∷ []) (0, 0) key_index (omega (arith, early, are.long))) (are.each key_index early)
+    go key_index l (inr late) =
+        let here : length spans ≡ key_index = omega (arith, l, late, are.long) in
+        let at : key_index ≡ n = omega (arith, l, late) in
+        rw (get_or_at spans span [] (0, 0) key_index here, at) one
 
 pub all_between : (P : ℕ → Type 0) (xs : List ℕ) (low high : ℕ) (part : List ℕ) → IsBetween xs low high part → All P xs → All P part
 all_between P xs low high part are all =

@@ -22,6 +22,7 @@ use Rattle.tcc_bits.proofs.Lists.{one_of_taken, still_taken, last_taken, nothing
 use Rattle.tcc_order.specs.private.Parents.{HasSourcesAt, parents, previous_one, sources}
 use Rattle.tcc_order.specs.private.Latest.{AreOwners, IsLiftable, IsLifted, IsCovered, AreLinks, HasNone, Derives}
 use Rattle.tcc_order.specs.private.Stepping.{IsOther, StepsOver, KeepsRead, AreStepped, IsReadSoFar}
+use Rattle.tcc_order.proofs.KeptRows.{row_here, rows_wider, rows_derived}
 use Rattle.tcc_order.proofs.Needing.{same_session, covered_wider}
 use Rattle.tcc_order.proofs.Reaching.{parent_pair, reads_source, session_rises}
 
@@ -114,23 +115,13 @@ module _ (h : History) (numbered : IsBySession h.entries) (c : ℕ) (low : c < c
 module _ (h : History) (kept : List (List ℕ)) (IsDone IsNext : ℕ → List ℕ → ℕ → Type 0) (are : AreStepped h IsDone kept) (c : ℕ) (x : List ℕ) (a : ℕ)
     (pair : IsReadsPair h a c x) (new : List ℕ) (keeps : KeepsRead h c x a (row_of kept a) new)
     (split : (d : ℕ) (y : List ℕ) (e : ℕ) → IsNext d y e → IsDone d y e ⊎ ((d ≡ c) × (y ≡ x) × (e ≡ a))) where
-  here : row_of (set kept a new) a ≡ new
-  here = get_or-set_same kept a new [] (omega (arith, pair.0, are.long))
-
-  there : (d : ℕ) → d ≢ a → row_of (set kept a new) d ≡ row_of kept d
-  there d other = get_or-set_other kept a d new [] other
-
-  wider : (d b : ℕ) → Contains (row_of kept d) b → Contains (row_of (set kept a new) d) b
-  wider d b was = go (cases_eq d a)
-    where
-      go : (d ≡ a) ⊎ (d ≢ a) → Contains (row_of (set kept a new) d) b
-      go (inl same) = rw (same, here) (keeps.wider b (rw same at was))
-      go (inr other) = rw (there d other) was
+  inside : a < length kept
+  inside = omega (arith, pair.0, are.long)
 
   pub stepped_more : AreStepped h IsNext (set kept a new)
   stepped_more = record {
     long = length-set kept a new ∙ are.long;
-    derived = λ d b is. derived d b (cases_eq d a) is;
+    derived = rows_derived kept a new inside (Derives (atomically h)) are.derived (λ b is. fresh b (keeps.sound b is));
     enough = λ d y e b read next steps. enough d y e b read steps (split d y e next);
   }
     where
@@ -141,16 +132,12 @@ module _ (h : History) (kept : List (List ℕ)) (IsDone IsNext : ℕ → List �
       fresh b (inl was) = are.derived a b was
       fresh b (inr w) = over b w
 
-      derived : (d b : ℕ) → (d ≡ a) ⊎ (d ≢ a) → Contains (row_of (set kept a new) d) b → Derives (atomically h) d b
-      derived d b (inl same) is = rw same (fresh b (keeps.sound b (rw (same, here) at is)))
-      derived d b (inr other) is = are.derived d b (rw (there d other) at is)
-
       row : (b : ℕ) → StepsOver h c x a b → IsCovered h (set kept a new) a b
-      row b w = let found = keeps.enough b w in (found.0, found.1, inl (rw here found.2))
+      row b w = let found = keeps.enough b w in (found.0, found.1, inl (rw (row_here kept a new inside) found.2))
 
       enough : (d : ℕ) (y : List ℕ) (e b : ℕ) → IsReadsPair h e d y → StepsOver h d y e b → IsDone d y e ⊎ ((d ≡ c) × (y ≡ x) × (e ≡ a))
           → IsCovered h (set kept a new) e b
-      enough d y e b read steps (inl done) = covered_wider h kept (set kept a new) e b (wider e) (are.enough d y e b read done steps)
+      enough d y e b read steps (inl done) = covered_wider h kept (set kept a new) e b (rows_wider kept a new inside keeps.wider e) (are.enough d y e b read done steps)
       enough d y e b read steps (inr same) = rw same.2 (row b (rw (← same.0, ← same.1, ← same.2) steps))
 
 -- ---- the reads of one transaction
@@ -319,11 +306,6 @@ put_none old last none b = (inl, back)
     back (inr w) = absurd (none w.0)
 
 -- ---- what the calls ask
-pub parents_below : (h : History) → IsBySession h.entries → (c : ℕ) → c < count h → HasSourcesAt h c → All (λ b. b < count h) (parents h c)
-parents_below h numbered c low all =
-    All-weaker (Contains (parents h c)) (λ b. b < count h) (λ b there. (pair_below h b c (parent_pair h numbered c low all b there)).0) (parents h c)
-    (All-contains_itself (parents h c))
-
 pub writers_inside : (h : History) (owners : List ℕ) → AreOwners h owners → (x : List ℕ) → All (λ b. b < length owners) (writers h x)
 writers_inside h owners known x =
     All-weaker (λ b. b < count h) (λ b. b < length owners) (λ b l. omega (arith, l, known.long)) (writers h x) (writers_below h x)

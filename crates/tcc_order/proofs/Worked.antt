@@ -54,7 +54,7 @@ later_writer-reason k = (
   ((omega arith, (refl, (omega arith, omega arith, (0, omega arith, refl)), refl)), one_pair k),
 )
 
--- in 0, 1, 2, 3 the number 1 stands at place 1 alone, and 2 at place 2 alone
+-- in 0, 1, 2, 3 the number 1 stands at position 1 alone, and 2 at position 2 alone
 one_at : (i : ℕ) → slice_index (0 ∷ 1 ∷ 2 ∷ 3 ∷ []) i ≡ 1 → i ≡ 1
 one_at zero e = absurd (omega (arith, e))
 one_at (suc zero) e = refl

@@ -9,7 +9,7 @@ ghost use Rattle.tcc_graph.specs.Keys.{keys};
 ghost use Rattle.tcc_graph.specs.Tables.{row_of};
 ghost use Rattle.tcc_graph.specs.Orders.{IsNumbering};
 ghost use Rattle.tcc_order.specs.private.Parents.{ArePrevious};
-ghost use Rattle.tcc_order.specs.private.Latest.{AreOrdered, IsClock, IsLastUpTo, IsLastBut, IsCountBelow, AreLatestPast, TellsNothing, IsSpan, AreSpans, AreBounds};
+ghost use Rattle.tcc_order.specs.private.Latest.{AreOrdered, CanLift, IsLastUpTo, IsLastBut, IsCountBelow, AreLatestPast, TellsNothing, IsSpan, AreSpans, AreBounds};
 ghost use Rattle.tcc_order.specs.declared.latest.TheConstants.{WIDE};
 ghost use Rattle.std.specs.List.Sorted.{IsNonDecreasing, IsPartitionPoint};
 ghost use Rattle.std.specs.Prelude.{nat_le, true, false, ◌∷◌, []};
@@ -80,11 +80,11 @@ fn find_spans(
     ensures { OnOk result (AreSpans graph.now bounds.0 bounds.1 spans.new.items (length (keys graph.now))) }
 {
     spans.clear();
-    for (place, _key) in graph.keys().iter().enumerate() {
-        let Ok(key) = u32::try_from(place) else {
+    for (index, _key) in graph.keys().iter().enumerate() {
+        let Ok(key_index) = u32::try_from(index) else {
             return Err(NoMemory);
         };
-        spans.push(span_of(graph.writers_at(key), bounds.0, bounds.1))?;
+        spans.push(span_of(graph.writers_at(key_index), bounds.0, bounds.1))?;
     }
     Ok(())
 }
@@ -156,11 +156,7 @@ fn lift_sessions(
     writers: &[u32],
     a: u32,
 )
-    requires same { length need.old ≡ length clock.now }
-    requires ordered { AreOrdered owners.now }
-    requires rising { IsNonDecreasing writers.now }
-    requires inside { All (λ b. b < length owners.now) writers.now }
-    requires clock { IsClock owners.now from clock.now }
+    requires { CanLift owners.now from clock.now writers.now need.old }
     ensures same { length need.new ≡ length need.old }
     ensures each { (k : ℕ) → k < length need.old → IsLifted owners.now from clock.now writers.now a k (slice_index need.old k) (slice_index need.new k) }
 {
@@ -173,11 +169,7 @@ fn lift_sessions(
 /// Raises the numbers of the sessions to those of writers, other than `a`, that the clock reaches: writer by writer where they
 /// are few, and else session by session.
 fn lift_writers(need: &mut [u32], owners: &[u32], from: u32, clock: &[u32], writers: &[u32], a: u32)
-    requires same { length need.old ≡ length clock.now }
-    requires ordered { AreOrdered owners.now }
-    requires rising { IsNonDecreasing writers.now }
-    requires inside { All (λ b. b < length owners.now) writers.now }
-    requires clock { IsClock owners.now from clock.now }
+    requires { CanLift owners.now from clock.now writers.now need.old }
     ensures same { length need.new ≡ length need.old }
     ensures each { (k : ℕ) → k < length need.old → IsLifted owners.now from clock.now writers.now a k (slice_index need.old k) (slice_index need.new k) }
 {
@@ -221,11 +213,11 @@ fn needed(
     ensures { AreLatestPast graph.now (IsOverwritten graph.now (IsReadsPair graph.now a) a) from (row_of table.now a) need.new }
 {
     need.fill(0);
-    let (readers, places) = graph.readings_at(a);
-    for (place, reader) in readers.iter().enumerate() {
+    let (readers, key_indices) = graph.readings_at(a);
+    for (index, reader) in readers.iter().enumerate() {
         if !table.are_same(*reader, a) {
-            let key = places[place];
-            let writers = between(graph.writers_at(key), spans[key as usize]);
+            let key_index = key_indices[index];
+            let writers = between(graph.writers_at(key_index), spans[key_index as usize]);
             lift_writers(need, owners, from, table.get(*reader), writers, a);
         }
     }
@@ -237,7 +229,7 @@ fn has_news(graph: &LargeGraph, table: &SharedRows, a: u32) -> bool
     requires below { a < count graph.now }
     ensures { result ≡ false → TellsNothing graph.now table.now a }
 {
-    let (readers, _places) = graph.readings_at(a);
+    let (readers, _key_indices) = graph.readings_at(a);
     for reader in readers {
         if !table.are_same(*reader, a) {
             return true;

@@ -139,8 +139,8 @@ pub(crate) fn find_clocks(
     ensures { OnOk result (AreClocks graph.now from table.new) }
 {
     table.clear();
-    for (place, number) in order.iter().enumerate() {
-        let found = between(&steps.numbers, steps.spans[place]);
+    for (position, number) in order.iter().enumerate() {
+        let found = between(&steps.numbers, steps.spans[position]);
         put_row(table, graph, owners, from, found, *number)?;
     }
     Ok(())

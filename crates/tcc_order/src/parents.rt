@@ -66,7 +66,7 @@ pub(crate) fn find_parents(
     Ok(())
 }
 
-/// The transactions right before each one of an order, in one list: where those of each place of the order begin and end.
+/// The transactions right before each one of an order, in one list: where those of each position of the order begin and end.
 #[derive(Drop)]
 pub(crate) struct Steps {
     pub(crate) spans: Vec<(usize, usize)>,
@@ -96,7 +96,7 @@ pub(crate) fn steps_along(
     Ok(Steps { spans, numbers })
 }
 
-/// Of these numbers those from one place to before the other.
+/// Of these numbers those from one index to before the other.
 pub(crate) fn between(numbers: &[u32], span: (usize, usize)) -> &[u32]
     requires { span.1 ≤ length numbers.now }
     ensures { result.now ≡ take (span.1 - span.0) (drop span.0 numbers.now) }

@@ -4,9 +4,9 @@ ghost use Rattle.std.specs.Prelude.{◌≡◌, ◌≢◌, ◌<◌, ◌≤◌, �
 ghost use Rattle.tcc_reads.specs.History.{IsBySession, count};
 ghost use Rattle.tcc_graph.specs.Keys.{keys, key_at, writers, IsWriter};
 ghost use Rattle.tcc_graph.specs.Levels.{atomically};
-ghost use Rattle.tcc_order.specs.private.Parents.{ArePrevious, HasSourcesAt, parents};
-ghost use Rattle.tcc_order.specs.private.Latest.{AreOwners, IsLifted, AreLinks, lifted_by};
-ghost use Rattle.tcc_order.specs.private.Stepping.{IsOther, KeepsRead, AreStepped};
+ghost use Rattle.tcc_order.specs.private.Parents.{ArePrevious};
+ghost use Rattle.tcc_order.specs.private.Latest.{IsLifted, AreLinks, lifted_by};
+ghost use Rattle.tcc_order.specs.private.Stepping.{IsOther, IsReader, KeepsRead, AreStepped};
 
 use crate::keeping::no_links;
 use crate::latest::owners;
@@ -80,11 +80,7 @@ fn keep_read(
     key: u32,
     a: u32,
 ) -> Result<(), NoMemory>
-    requires numbered { IsBySession graph.now.entries }
-    requires owners { AreOwners graph.now owners.now }
-    requires below { c < count graph.now }
-    requires numbers { numbers.now ≡ parents graph.now c }
-    requires sources { HasSourcesAt graph.now c }
+    requires reader { IsReader graph.now owners.now numbers.now c }
     requires key { key < length (keys graph.now) }
     ensures { OnOk result (KeepsRead graph.now c (key_at graph.now key) a kept.old kept.new) }
 {
@@ -104,11 +100,7 @@ fn keep_reads(
     numbers: &[u32],
     c: u32,
 ) -> Result<(), NoMemory>
-    requires numbered { IsBySession graph.now.entries }
-    requires owners { AreOwners graph.now owners.now }
-    requires below { c < count graph.now }
-    requires numbers { numbers.now ≡ parents graph.now c }
-    requires sources { HasSourcesAt graph.now c }
+    requires reader { IsReader graph.now owners.now numbers.now c }
     requires stepped { AreStepped graph.now (λ d x a. d < c) kept.old }
     ensures same { length kept.new ≡ length kept.old }
     ensures stepped { OnOk result (AreStepped graph.now (λ d x a. d < c + 1) kept.new) }

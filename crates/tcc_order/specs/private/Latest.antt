@@ -1,5 +1,5 @@
 -- The greatest numbers of the sessions of a block, of some transactions alone; and the links that are kept by them.
-use Rattle.std.specs.Prelude.{ℕ, ◌<◌, ◌≤◌, ◌+◌, ◌≡◌, ◌≢◌, ◌⊎◌, ◌==◌, ◌&&◌, nat_lt, nat_le, not, if◌then◌else◌, max, List, length, slice_index, slice_index_or, Contains}
+use Rattle.std.specs.Prelude.{ℕ, ◌<◌, ◌≤◌, ◌+◌, ◌≡◌, ◌≢◌, ◌⊎◌, ◌==◌, ◌&&◌, nat_lt, nat_le, not, if◌then◌else◌, max, List, length, slice_index, slice_index_or, All, Contains}
 use Rattle.std.specs.List.Sorted.{IsNonDecreasing}
 use Rattle.tcc_reads.specs.History.{History, count, owner}
 use Rattle.tcc_graph.specs.Relations.{IsCausalPair, IsReadsPair, IsSessionPair}
@@ -126,6 +126,14 @@ IsClock owners from clock =
     (k : ℕ) → k < length clock
     → (slice_index clock k ≡ 0) ⊎ ((slice_index clock k < length owners) × (slice_index owners (slice_index clock k) ≡ from + k))
 
+-- numbers of the sessions of a block that a clock and writers may lift: each writer is a transaction, and they rise
+pub record CanLift (owners : List ℕ) (from : ℕ) (clock : List ℕ) (writers : List ℕ) (need : List ℕ) : Type 0 where
+  pub same : length need ≡ length clock
+  pub ordered : AreOrdered owners
+  pub owned : IsClock owners from clock
+  pub rising : IsNonDecreasing writers
+  pub inside : All (λ b. b < length owners) writers
+
 -- the greatest of these that is no greater than `top`, or 0 where there is none
 pub record IsLastUpTo (numbers : List ℕ) (top : ℕ) (last : ℕ) : Type 0 where
   pub attained : (last ≡ 0) ⊎ (Contains numbers last × (last ≤ top))
@@ -148,7 +156,7 @@ pub record IsBetween (numbers : List ℕ) (low : ℕ) (high : ℕ) (found : List
   pub all : (b : ℕ) → Contains numbers b → low ≤ b → b < high → Contains found b
   pub rising : IsNonDecreasing found
 
--- those of these numbers from `low` to below `high` begin and end at these places
+-- those of these numbers from `low` to below `high` begin and end at these indices
 pub record IsSpan (numbers : List ℕ) (low : ℕ) (high : ℕ) (start : ℕ) (end : ℕ) : Type 0 where
   pub first : IsCountBelow numbers low start
   pub last : IsCountBelow numbers high end
@@ -156,8 +164,8 @@ pub record IsSpan (numbers : List ℕ) (low : ℕ) (high : ℕ) (start : ℕ) (e
 -- so for the writers of each key
 pub record AreSpans (h : History) (low : ℕ) (high : ℕ) (spans : List (ℕ × ℕ)) (end : ℕ) : Type 0 where
   pub long : length spans ≡ end
-  pub each : (place : ℕ) → place < end
-      → IsSpan (writers h (key_at h place)) low high (slice_index_or spans place (0, 0)).0 (slice_index_or spans place (0, 0)).1
+  pub each : (key_index : ℕ) → key_index < end
+      → IsSpan (writers h (key_at h key_index)) low high (slice_index_or spans key_index (0, 0)).0 (slice_index_or spans key_index (0, 0)).1
 
 -- the transactions of the sessions of a block stand from `low` to below `high`
 abbrev pub AreBounds : List ℕ → ℕ → ℕ → ℕ → Type 0

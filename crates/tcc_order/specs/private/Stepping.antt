@@ -1,10 +1,11 @@
 -- Writers one pair before a reader, and the links that are kept by them.
 use Rattle.std.specs.Prelude.{ℕ, ◌<◌, ◌≡◌, ◌≢◌, ◌⊎◌, List, length, take, Contains}
-use Rattle.tcc_reads.specs.History.{History, count, entry_at}
+use Rattle.tcc_reads.specs.History.{History, IsBySession, count, entry_at}
 use Rattle.tcc_graph.specs.Relations.{IsCausalPair, IsReadsPair, IsSessionPair}
 use Rattle.tcc_graph.specs.Keys.{writers, IsWriter}
 use Rattle.tcc_graph.specs.Levels.{atomically}
-use Rattle.tcc_order.specs.private.Latest.{IsCovered, AreDerived, Derives}
+use Rattle.tcc_order.specs.private.Parents.{HasSourcesAt, parents}
+use Rattle.tcc_order.specs.private.Latest.{AreOwners, IsCovered, AreDerived, Derives}
 
 -- the committed transaction b, another than a, writes x
 abbrev pub IsOther : History → List ℕ → ℕ → ℕ → Type 0
@@ -22,6 +23,14 @@ pub record KeepsRead (h : History) (c : ℕ) (x : List ℕ) (a : ℕ) (old : Lis
   pub sound : (b : ℕ) → Contains new b → Contains old b ⊎ StepsOver h c x a b
   pub wider : (b : ℕ) → Contains old b → Contains new b
   pub enough : (b : ℕ) → StepsOver h c x a b → (d : ℕ) × ((b ≡ d) ⊎ IsSessionPair h b d) × Contains new d
+
+-- a transaction whose reads are gone through: the sessions of all are known, and these are its parents
+pub record IsReader (h : History) (owners : List ℕ) (numbers : List ℕ) (c : ℕ) : Type 0 where
+  pub numbered : IsBySession h.entries
+  pub owned : AreOwners h owners
+  pub below : c < count h
+  pub listed : numbers ≡ parents h c
+  pub sources : HasSourcesAt h c
 
 -- each link that is kept is a derived pair, and those by some reads are covered
 pub record AreStepped (h : History) (IsDone : ℕ → List ℕ → ℕ → Type 0) (kept : List (List ℕ)) : Type 0 where

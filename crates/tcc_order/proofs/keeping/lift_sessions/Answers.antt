@@ -5,16 +5,11 @@ use Rattle.tcc_order.proofs.keeping.lift_sessions.Goals as goal
 
 pub loop-column-preserved : goal.loop-column-preserved
 loop-column-preserved c =
-    let owners = c.args.owners.now in
-    let clock = c.args.clock.now in
-    let ws = c.args.writers.now in
-    let old = c.args.need.now in
     let mid = c.loop-column.need in
     let n = c.loop-column.column in
-    let v = c.lift_session.result in
     let inv = c.loop-column.invariant in
     let inside : n < length mid = omega (arith, c.loop-column-test.true, inv.0) in (
-      length-set mid n v ∙ inv.0,
-      session_lifted owners c.args.from clock ws c.args.a old mid n v inside inv.1 inv.2 c.lift_session.ensures,
-      session_after owners c.args.from clock ws c.args.a old mid n v inside inv.1 inv.2 c.lift_session.ensures,
+      length-set mid n c.lift_session.result ∙ inv.0,
+      session_lifted c.args.need.now mid inside inv.1 inv.2 c.lift_session.ensures,
+      session_after c.args.need.now mid inside inv.1 inv.2 c.lift_session.ensures,
     )

@@ -6,6 +6,6 @@ use Rattle.tcc_order.specs.private.Latest.{AreLatestPast, IsOverwritten}
 use Rattle.tcc_order.proofs.Readings.{IsTaken}
 use Rattle.tcc_order.proofs.keeping.needed.Given as goal
 
-abbrev pub invariant-loop-place : goal.invariant-loop-place
-invariant-loop-place l =
-    AreLatestPast l.graph (IsOverwritten l.graph (IsTaken (zip l.readers (map (key_at l.graph) l.places)) l.place) l.a) l.from (row_of l.table l.a) l.need
+abbrev pub invariant-loop-index : goal.invariant-loop-index
+invariant-loop-index l =
+    AreLatestPast l.graph (IsOverwritten l.graph (IsTaken (zip l.readers (map (key_at l.graph) l.key_indices)) l.index) l.a) l.from (row_of l.table l.a) l.need

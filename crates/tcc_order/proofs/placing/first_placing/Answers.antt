@@ -35,13 +35,11 @@ loop-init c =
 pub returns-in_default : goal.returns-in_default
 returns-in_default c =
     let h = c.args.graph.now in
-    let kept = c.args.kept.now in
-    let order = c.loop.order.items in
+    let held = holds h c.args.kept.now in
     let placed = c.loop.placed.items in
-    let inv = c.loop.invariant in
-    let none : (x : ℕ) → IsFreeBy (holds h kept) (count h) placed x → ⊥ = rw (c.in_default.is, c.deref.ensures.value) at c.in_ok-found.ensures.none in
-    short_circle (holds h kept) (count h) order (holds_below h kept)
-    (λ x free. none x (placed_free (holds h kept) (count h) placed order inv.2 x free)) (omega (arith, inv.1))
+    let none : (x : ℕ) → IsFreeBy held (count h) placed x → ⊥ = rw (c.in_default.is, c.deref.ensures.value) at c.in_ok-found.ensures.none in
+    short_circle held (count h) c.loop.order.items (holds_below h c.args.kept.now)
+    (λ x free. none x (placed_free held (count h) placed c.loop.order.items c.loop.invariant.2 x free)) (omega (arith, c.loop.invariant.1))
 
 pub loop-preserved : goal.loop-preserved
 loop-preserved c =

@@ -4,17 +4,18 @@ use Rattle.std.proofs.lemmas.List.{get_or_read}
 use Rattle.tcc_graph.specs.Keys.{keys, key_at}
 use Rattle.tcc_order.specs.private.Parents.{parents}
 use Rattle.tcc_order.specs.private.Stepping.{IsOther}
-use Rattle.tcc_order.proofs.Stepped.{last_steps, last_covers, read_kept, put_one, put_none, parents_below, writers_inside}
+use Rattle.tcc_order.proofs.Along.{parents_below}
+use Rattle.tcc_order.proofs.Stepped.{last_steps, last_covers, read_kept, put_one, put_none, writers_inside}
 use Rattle.tcc_order.proofs.stepping.keep_read.Goals as goal
 use Rattle.tcc_order.proofs.stepping.keep_read.Goals.{then-last-gt0+in_ok-push, else-last-gt0}
 
 pub last_writer-last-requires-clause-writers : goal.last_writer-last-requires-clause-writers
 last_writer-last-requires-clause-writers c =
-    rw c.writers_at.ensures (writers_inside c.args.graph.now c.args.owners.now c.requires.owners (key_at c.args.graph.now c.args.key))
+    rw c.writers_at.ensures (writers_inside c.args.graph.now c.args.owners.now c.requires.reader.owned (key_at c.args.graph.now c.args.key))
 
 pub keep_others-requires : goal.keep_others-requires
 keep_others-requires c =
-    rw c.requires.numbers (parents_below c.args.graph.now c.requires.numbered c.args.c c.requires.below c.requires.sources)
+    rw c.requires.reader.listed (parents_below c.args.graph.now c.requires.reader.numbered c.args.c c.requires.reader.below c.requires.reader.sources)
 
 pub returns : goal.returns
 returns c =
@@ -35,10 +36,10 @@ returns c =
       | else-last-gt0 w ↦ rw w.kept-is (put_none old last (λ some. omega (arith, some, w.if-last-gt0.false)))
     ] in
     let x = key_at h key in
-    let steps = last_steps h c.requires.numbered owners c.requires.owners c.args.c c.requires.below x a last is in
-    let covers = last_covers h c.requires.numbered owners c.requires.owners c.args.c c.requires.below x a last is in
+    let steps = last_steps h c.requires.reader.numbered owners c.requires.reader.owned c.args.c c.requires.reader.below x a last is in
+    let covers = last_covers h c.requires.reader.numbered owners c.requires.reader.owned c.args.c c.requires.reader.below x a last is in
     let name : c.index-keys-key.result ≡ key_at h key
     = get_or_read (keys h) key c.index-keys-key.result c.requires.key (rw c.keys.ensures at c.index-keys-key.is) [] in
     let now : (b : ℕ) → Contains new b ↔ (Contains mid b ⊎ (Contains (parents h c.args.c) b × IsOther h (key_at h key) a b))
-    = rw (c.requires.numbers, name) at c.in_ok-keep_others.ensures in
-    read_kept h c.requires.numbered c.args.c c.requires.below c.requires.sources key a c.requires.key old mid new last steps covers put now
+    = rw (c.requires.reader.listed, name) at c.in_ok-keep_others.ensures in
+    read_kept h c.requires.reader.numbered c.args.c c.requires.reader.below c.requires.reader.sources key a c.requires.key old mid new last steps covers put now

@@ -28,7 +28,7 @@ loop-read-preserved c =
     let keeps : KeepsRead h c.args.c (key_at h key) a (row_of kept a) new = rw was at c.in_ok-keep_read.ensures in (
       length-set kept a new ∙ inv.0,
       stepped_more h kept (IsReadSoFar h c.args.c n) (IsReadSoFar h c.args.c (n + 1)) inv.1 c.args.c (key_at h key) a
-          (next_pair h c.args.c c.requires.below reads value n inside from) new keeps (next_split h c.args.c c.requires.below reads value n inside),
+          (next_pair h c.args.c c.requires.reader.below reads value n inside from) new keeps (next_split h c.args.c c.requires.reader.below reads value n inside),
     )
 
 pub returns-clause-stepped : goal.returns-clause-stepped
