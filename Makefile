@@ -25,24 +25,25 @@ nothing is proved; make build proves and builds the program
 
 .PHONY: run build checker install dist pack demo demo-postgres test
 
-# A program that is older than a source is not run.
+# Whether the program is built, and no older than a source.
+IS_BUILT = test -x out/tcc && test -z "$$(find ../../crates.txt ../*/src ../*/specs ../*/proofs -newer out/tcc -print -quit)"
+
 run:
 	@cd crates/tcc && \
-	if test -x out/tcc && test -z "$$(find ../../crates.txt ../*/src ../*/specs -newer out/tcc -print -quit)"; \
+	if $(IS_BUILT); \
 	then out/tcc explain < $(HISTORY); \
 	else echo '$(UNPROVED)' >&2; rt try -- explain < $(HISTORY); fi
 
 # The three crates that all others wait for are proved with several jobs each, and then all others side by side, with one
-# each. What was proved before and has not changed since is not proved again.
+# each; the program is checked, built and run on its stored records in one go. What was proved before and has not changed
+# since is not proved again.
 build:
 	@cd crates/tcc_graph && rt lib --jobs $(JOBS) >&2
-	@cd crates/tcc && rt all check --jobs $(JOBS) >&2
-	@cd crates/tcc && rt run --jobs $(JOBS) -- explain < $(HISTORY) > /dev/null
+	@cd crates/tcc && if ! $(IS_BUILT); then rt all test --jobs $(JOBS) >&2; fi
 
-# What checks answers, and nothing that finds them.
+# What checks answers, and nothing that finds them. Nearly each of its crates waits for the one before it, so they are proved
+# one after the other, with several jobs each.
 checker:
-	@cd crates/tcc_graph && rt lib --jobs $(JOBS) >&2
-	@cd crates/tcc_checker && rt all check --jobs $(JOBS) >&2
 	@cd crates/tcc_checker && rt run --jobs $(JOBS) -- check $(CHECKED) > /dev/null
 
 install: build
