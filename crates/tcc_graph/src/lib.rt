@@ -16,7 +16,6 @@ mod placed;
 mod renumbering;
 mod step;
 mod tables;
-mod walk;
 
 pub use graph::Graph;
 pub use key_table::place_of;
@@ -25,5 +24,4 @@ pub use level::Level;
 pub use limits::{MAX_CYCLE_COST, MAX_LINK_COST};
 pub use link::Link;
 pub use renumbering::Renumbering;
-pub use step::Step;
-pub use walk::Walk;
+pub use step::{Step, Walk};
