@@ -145,7 +145,7 @@ impl<R: Read + Drop> Rows<R> {
         }
     }
 
-    /// The field at the index of the record that was read last.
+    /// The field at an index, counted from 0, of the record that was read last.
     pub fn last_field(&self, index: usize) -> Option<&[u8]>
         ensures { option_map (λ field. field.now) result ≡ field_at (last_record self.now) index }
     {

@@ -59,7 +59,7 @@ impl<T: Copy> ListOf<T> {
         ensures { IfOk result (λ copy. copy ≡ self.now) }
     {
         Ok(ListOf {
-            items: self.items.as_slice().to_vec(alloc)?,
+            items: self.items.iter().copied().collect(alloc)?,
         })
     }
 }

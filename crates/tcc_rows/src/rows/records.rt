@@ -113,7 +113,7 @@ impl<R: Read> Records<R> {
         &self.record
     }
 
-    /// The field of the record that was read last at the index.
+    /// The field of the record that was read last at an index, counted from 0.
     pub(crate) fn field(&self, index: usize) -> Option<&[u8]>
         ensures { option_map (λ field. field.now) result ≡ field_at (record_of self.now) index }
     {

@@ -1,7 +1,7 @@
 use Rattle.std.proofs.Common.{◌≡◌, [], take, drop}
 use Rattle.tcc_txn.specs.Snapshots.{first_repeated}
 use Rattle.tcc_txn.proofs.Parts.{names_of}
-use Rattle.tcc_txn.proofs.snapshot.repeated_by_place.Given as goal
+use Rattle.tcc_txn.proofs.snapshot.repeated_by_pairs.Given as goal
 
 -- the first name that is repeated stands from here on
 abbrev pub invariant-loop-earlier : goal.invariant-loop-earlier

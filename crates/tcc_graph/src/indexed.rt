@@ -4,10 +4,10 @@ ghost use Rattle.std.specs.List.Sorted.{IsStrictlySortedBy};
 ghost use Rattle.std.specs.Ordering.{nat_cmp};
 ghost use Rattle.std.specs.Cmp.Lexicographic.{slice_cmp};
 ghost use Rattle.tcc_graph.specs.Keys.{has_name, keys_of};
-ghost use Rattle.tcc_graph.specs.Places.{name_of};
-ghost use Rattle.tcc_graph.specs.private.ReadTables.{IsPlaced, ArePlaced};
+ghost use Rattle.tcc_graph.specs.KeyIndices.{name_of};
+ghost use Rattle.tcc_graph.specs.private.ReadTables.{IsIndexed, AreIndexed};
 
-use crate::key_table::place_of;
+use crate::key_table::key_index_of;
 use std::alloc::Global;
 use std::marker::Model;
 use tcc_reads::Transaction;
@@ -15,32 +15,32 @@ use tcc_txn::{Name, NoMemory};
 
 /// What a transaction writes and reads: indices among the keys, those read each with its source.
 #[derive(Drop)]
-pub(crate) struct Placed {
+pub(crate) struct Indexed {
     writes: Vec<u32>,
     reads: Vec<(u32, u32)>,
 }
 
-impl Model for Placed {
-    ghost use Rattle.tcc_graph.specs.private.ReadTables.{Placed};
+impl Model for Indexed {
+    ghost use Rattle.tcc_graph.specs.private.ReadTables.{Indexed};
 
-    ghost Value = { Placed };
+    ghost Value = { Indexed };
 
     ghost view = { λ p. record { writes = p.writes.items; reads = p.reads.items } };
 }
 
 /// The index of a key that is among the sorted keys.
-fn place_in(keys: &[Name], key: &Name) -> u32
+fn key_index_in(keys: &[Name], key: &Name) -> u32
     requires sorted { IsStrictlySortedBy (slice_cmp nat_cmp) keys.now }
     requires few { length keys.now ≤ u32.MAX }
     requires there { has_name keys.now key.now ≡ true }
     ensures within { result < length keys.now }
     ensures here { name_of keys.now result ≡ key.now }
 {
-    place_of(keys, key).unwrap() as u32
+    key_index_of(keys, key).unwrap() as u32
 }
 
 /// The indices of names that are all among the sorted keys.
-fn places_of(alloc: Global, keys: &[Name], names: &[Name]) -> Result<Vec<u32>, NoMemory>
+fn key_indices_of(alloc: Global, keys: &[Name], names: &[Name]) -> Result<Vec<u32>, NoMemory>
     requires sorted { IsStrictlySortedBy (slice_cmp nat_cmp) keys.now }
     requires few { length keys.now ≤ u32.MAX }
     requires there { All (λ x. has_name keys.now x ≡ true) names.now }
@@ -49,13 +49,13 @@ fn places_of(alloc: Global, keys: &[Name], names: &[Name]) -> Result<Vec<u32>, N
 {
     let mut key_indices = Vec::new(alloc);
     for name in names {
-        key_indices.push(place_in(keys, name))?;
+        key_indices.push(key_index_in(keys, name))?;
     }
     Ok(key_indices)
 }
 
 /// The indices of keys that are read, each with its source; all keys are among the sorted ones.
-fn read_places(
+fn indexed_reads(
     alloc: Global,
     keys: &[Name],
     reads: &[(Name, u32)],
@@ -68,22 +68,22 @@ fn read_places(
 {
     let mut key_indices = Vec::new(alloc);
     for (key, source) in reads {
-        key_indices.push((place_in(keys, key), *source))?;
+        key_indices.push((key_index_in(keys, key), *source))?;
     }
     Ok(key_indices)
 }
 
-impl Placed {
+impl Indexed {
     /// What the transaction writes and reads.
-    fn of(alloc: Global, keys: &[Name], transaction: &Transaction) -> Result<Placed, NoMemory>
+    fn of(alloc: Global, keys: &[Name], transaction: &Transaction) -> Result<Indexed, NoMemory>
         requires sorted { IsStrictlySortedBy (slice_cmp nat_cmp) keys.now }
         requires few { length keys.now ≤ u32.MAX }
         requires there { All (λ x. has_name keys.now x ≡ true) (keys_of transaction.now) }
-        ensures { IfOk result (λ placed. IsPlaced keys.now transaction.now placed) }
+        ensures { IfOk result (λ indexed. IsIndexed keys.now transaction.now indexed) }
     {
-        Ok(Placed {
-            writes: places_of(alloc, keys, transaction.writes())?,
-            reads: read_places(alloc, keys, transaction.reads())?,
+        Ok(Indexed {
+            writes: key_indices_of(alloc, keys, transaction.writes())?,
+            reads: indexed_reads(alloc, keys, transaction.reads())?,
         })
     }
 
@@ -103,19 +103,19 @@ impl Placed {
 }
 
 /// What each transaction writes and reads, by the indices of the keys.
-pub(crate) fn placed_by(
+pub(crate) fn indexed_by(
     alloc: Global,
     keys: &[Name],
     transactions: &[Transaction],
-) -> Result<Vec<Placed>, NoMemory>
+) -> Result<Vec<Indexed>, NoMemory>
     requires sorted { IsStrictlySortedBy (slice_cmp nat_cmp) keys.now }
     requires few { length keys.now ≤ u32.MAX }
     requires there { All (λ e. All (λ x. has_name keys.now x ≡ true) (keys_of e)) transactions.now }
-    ensures { IfOk result (λ placed. ArePlaced keys.now transactions.now placed.items) }
+    ensures { IfOk result (λ indexed. AreIndexed keys.now transactions.now indexed.items) }
 {
-    let mut placed = Vec::new(alloc);
+    let mut indexed = Vec::new(alloc);
     for transaction in transactions {
-        placed.push(Placed::of(alloc, keys, transaction)?)?;
+        indexed.push(Indexed::of(alloc, keys, transaction)?)?;
     }
-    Ok(placed)
+    Ok(indexed)
 }

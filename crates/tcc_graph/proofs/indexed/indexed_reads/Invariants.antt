@@ -1,7 +1,7 @@
 use Rattle.std.proofs.Common.{◌≡◌, ◌<◌, length, take}
 use Rattle.std.specs.Prelude.{All, map}
-use Rattle.tcc_graph.specs.Places.{name_of}
-use Rattle.tcc_graph.proofs.placed.read_places.Given as goal
+use Rattle.tcc_graph.specs.KeyIndices.{name_of}
+use Rattle.tcc_graph.proofs.indexed.indexed_reads.Given as goal
 
 abbrev pub invariant-loop-key : goal.invariant-loop-key
 invariant-loop-key l =
