@@ -105,7 +105,7 @@ fn link_json(alloc: Global, labels: &Labels, link: &Link) -> Result<Value, Alloc
             key,
             reader: by,
             walk,
-        } => derived_json(alloc, labels, *from, *to, key, walk.steps(), *by),
+        } => derived_json(alloc, labels, *from, *to, key, walk.as_slice(), *by),
         Link::Session { from, to } => session_json(alloc, labels, *from, *to),
         Link::Reads { from, to, key } => reads_json(alloc, labels, *from, *to, key),
     }

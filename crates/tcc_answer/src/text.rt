@@ -115,7 +115,7 @@ fn push_link(text: &mut Vec<u8>, labels: &Labels, link: &Link) -> Result<(), NoM
             key: x,
             reader: c,
             walk,
-        } => push_derived(text, labels, *b, *a, x, *c, walk.steps()),
+        } => push_derived(text, labels, *b, *a, x, *c, walk.as_slice()),
         Link::Session { from, to } => push_session(text, labels, *from, *to),
         Link::Reads { from, to, key } => push_reads(text, labels, *from, *to, key),
     }

@@ -21,7 +21,7 @@ fn steps(links: &[Link]) -> u32 {
     for link in links {
         steps = steps.saturating_add(1);
         if let Link::Derived { walk, .. } = link {
-            steps = steps.saturating_add(walk.steps().len().min(1 << 20) as u32);
+            steps = steps.saturating_add(walk.as_slice().len().min(1 << 20) as u32);
         }
     }
     steps

@@ -243,7 +243,7 @@ impl<'w, W: Write> CycleWriter<'w, W> {
         ensures part { (before : Option (List ℕ)) (count : ℕ) (k : CycleClaim) → HasTaken W.contents before count k self.old → k.near ≡ [] → k.far ≡ []
             → OnErr result ((n : ℕ) × Appends before (W.contents self.new.out.now) (take n (lines_text (given_lines count (record k { near = table.now }))))) }
     {
-        for row in table.rows() {
+        for row in table.as_slice() {
             self.near_row(row.as_slice())?;
         }
         Ok(())
@@ -257,7 +257,7 @@ impl<'w, W: Write> CycleWriter<'w, W> {
         ensures part { (before : Option (List ℕ)) (count : ℕ) (k : CycleClaim) → HasTaken W.contents before count k self.old → k.far ≡ []
             → OnErr result ((n : ℕ) × Appends before (W.contents self.new.out.now) (take n (lines_text (given_lines count (record k { far = table.now }))))) }
     {
-        for row in table.rows() {
+        for row in table.as_slice() {
             self.far_row(row.as_slice())?;
         }
         Ok(())
@@ -269,7 +269,7 @@ pub(crate) fn write_cycle<W: Write>(out: &mut W, claim: &CycleClaim) -> Result<(
     ensures whole { OnOk result (Appends (W.contents out.old) (W.contents out.new) (certificate_text (Cycle claim.now))) }
     ensures part { OnErr result ((n : ℕ) × Appends (W.contents out.old) (W.contents out.new) (take n (certificate_text (Cycle claim.now)))) }
 {
-    let count = claim.near.rows().len();
+    let count = claim.near.as_slice().len();
     let begun = write_first_lines(
         out,
         claim.version,

@@ -60,7 +60,7 @@ pub(crate) fn number_line<W: Write>(
 pub(crate) fn table<W: Write>(outgoing: &mut Outgoing, out: &mut W, table: &Table) -> io::Result<()>
     ensures { IsSent result (W.contents out.old) outgoing.old (W.contents out.new) outgoing.new (lines_text (table_lines table.now)) }
 {
-    for row in table.rows() {
+    for row in table.as_slice() {
         number_line(outgoing, out, row.as_slice())?;
     }
     Ok(())

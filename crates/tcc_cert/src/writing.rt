@@ -105,8 +105,9 @@ fn link<W: Write>(outgoing: &mut Outgoing, out: &mut W, link: &Link) -> io::Resu
             reader,
             walk,
         } => {
-            derived(outgoing, out, *from, *to, key, *reader, walk.steps().len())?;
-            steps(outgoing, out, walk.steps())
+            let taken = walk.as_slice();
+            derived(outgoing, out, *from, *to, key, *reader, taken.len())?;
+            steps(outgoing, out, taken)
         }
     }
 }

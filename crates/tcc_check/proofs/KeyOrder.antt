@@ -3,7 +3,7 @@ use Rattle.std.proofs.Common.{ℕ, ◌<◌, ◌≡◌, ◌⊎◌, inl, inr, leng
 use Rattle.std.proofs.lemmas.Bool.{cases_eq}
 use Rattle.tcc_reads.specs.History.{History}
 use Rattle.tcc_graph.specs.Keys.{key_at, keys}
-use Rattle.tcc_graph.proofs.NameLemmas.{places_differ}
+use Rattle.tcc_graph.proofs.NameLemmas.{indices_differ}
 use Rattle.tcc_graph.proofs.SortedKeys.{keys_sorted}
 
 -- one key stands at one place
@@ -12,4 +12,4 @@ one_place h i j inside there same = go (cases_eq i j)
   where
     go : (i ≡ j) ⊎ (i ≡ j → ⊥) → i ≡ j
     go (inl e) = e
-    go (inr other) = absurd (places_differ (keys h) i j (keys_sorted h) inside there other same)
+    go (inr other) = absurd (indices_differ (keys h) i j (keys_sorted h) inside there other same)

@@ -19,8 +19,8 @@ fn has_right_sizes(graph: &Graph, claim: &CycleClaim) -> bool
     ensures { IsTrue result ↔ HasRightSizes graph.now claim.now }
 {
     let count = graph.count();
-    let near = claim.near.rows();
-    let far = claim.far.rows();
+    let near = claim.near.as_slice();
+    let far = claim.far.as_slice();
     has_size(near, count as usize, count as usize)
         && has_far_size(claim.version, far, count)
         && are_links_below(claim.links.as_slice(), count)
@@ -33,8 +33,10 @@ fn bounds_verdict(alloc: Global, graph: &Graph, claim: &CycleClaim) -> Result<Ve
     requires sizes { HasRightSizes graph.now claim.now }
     ensures { IfOk result (IsAnswer (bounds_rules graph.now claim.now)) }
 {
-    let near = near_table(alloc, graph, claim.level, claim.near.rows(), claim.least)?;
-    let of_far = far_table(graph, claim.version, &near, claim.far.rows(), claim.least);
+    let rows = claim.near.as_slice();
+    let near = near_table(alloc, graph, claim.level, rows, claim.least)?;
+    let far = claim.far.as_slice();
+    let of_far = far_table(graph, claim.version, &near, far, claim.least);
     Ok(first_rejected(near.verdict, of_far))
 }
 

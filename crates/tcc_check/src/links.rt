@@ -61,7 +61,7 @@ fn link_cost(link: &Link) -> usize
     match link {
         Link::Session { .. } => 1,
         Link::Reads { .. } => 1,
-        Link::Derived { walk, .. } => walk.steps().len() + 1,
+        Link::Derived { walk, .. } => walk.as_slice().len() + 1,
     }
 }
 

@@ -203,7 +203,7 @@ fn broken_by(
     requires b { b < count graph.now }
     ensures { IfOk result (IsFoundBelow (count graph.now) (λ a. BreaksAxiom graph.now claim.now (b, a))) }
 {
-    let row = gaps(alloc, graph, claim.level, claim.clocks.rows(), b)?;
+    let row = gaps(alloc, graph, claim.level, claim.clocks.as_slice(), b)?;
     let weights = contradicted_weights(alloc, graph, readings, &row, b)?;
     Ok(first_behind(places, &weights, b))
 }
@@ -251,7 +251,7 @@ fn has_order_sizes(graph: &Graph, claim: &OrderClaim) -> bool
     let all = graph.sessions().len();
     claim.order.as_slice().len() == count
         && claim.sessions as usize == all
-        && has_clocks(claim.level, claim.clocks.rows(), count, all)
+        && has_clocks(claim.level, claim.clocks.as_slice(), count, all)
 }
 
 /// The place of each number, none where a number is there twice or a causal pair is not kept.
@@ -269,7 +269,7 @@ fn kept_places(
     let Some(places) = places_of(alloc, claim.order.as_slice())? else {
         return Ok(None);
     };
-    if !keeps_pairs(graph, claim.level, &places, claim.clocks.rows()) {
+    if !keeps_pairs(graph, claim.level, &places, claim.clocks.as_slice()) {
         return Ok(None);
     }
     Ok(Some(places))
@@ -289,7 +289,7 @@ pub(crate) fn order_verdict(
     let Some(places) = kept_places(alloc, graph, claim)? else {
         return Ok(rejected(Rule::Pairs, 0));
     };
-    let kept = keeps_axiom(alloc, graph, claim.level, &places, claim.clocks.rows())?;
+    let kept = keeps_axiom(alloc, graph, claim.level, &places, claim.clocks.as_slice())?;
     if kept {
         return Ok(Verdict::Accepted);
     }

@@ -92,7 +92,10 @@ pub(crate) fn is_link_below(link: &Link, count: u32) -> bool
             walk,
             ..
         } => {
-            *from < count && *to < count && *reader < count && are_steps_below(walk.steps(), count)
+            *from < count
+                && *to < count
+                && *reader < count
+                && are_steps_below(walk.as_slice(), count)
         }
     }
 }

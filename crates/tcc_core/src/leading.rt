@@ -91,7 +91,7 @@ fn offer_others(
     if are_classed(prices, left) {
         let links = prices.by_class(u);
         offer_classes(queue, levels, &links.classes, start, so_far, left);
-        offer_cheapest(queue, links.rest.values(), start, so_far, left);
+        offer_cheapest(queue, links.rest.as_slice(), start, so_far, left);
     } else {
         offer_within(queue, prices.others(u), start, so_far, left);
     }

@@ -104,7 +104,7 @@ pub(crate) fn offer_classes(
         let cost = so_far + class.cost as u32;
         if class.cost as u32 <= left && queue.floor() < cost {
             let level = &mut levels[cost as usize % LEVELS];
-            offer_at(queue, level, class.marks.values(), start, cost);
+            offer_at(queue, level, class.marks.as_slice(), start, cost);
         }
     }
 }

@@ -9,7 +9,7 @@ use Rattle.std.proofs.lemmas.List.Elements.{Contains-get_or}
 use Rattle.tcc_reads.specs.History.{History, count}
 use Rattle.tcc_graph.specs.Relations.{IsReadsPair}
 use Rattle.tcc_graph.specs.Keys.{keys, writers, IsWriter}
-use Rattle.tcc_graph.specs.Places.{name_of}
+use Rattle.tcc_graph.specs.KeyIndices.{name_of}
 use Rattle.tcc_derive.specs.private.Buckets.{bucket, Puts}
 use Rattle.tcc_derive.specs.private.KeyTables.{AreReadsAt, IsReadsOf, HasWrites, IsWritesOf}
 use Rattle.tcc_derive.specs.private.Lowering.{HaveReads}

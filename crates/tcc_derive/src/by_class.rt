@@ -62,7 +62,7 @@ fn by_class_row(
     let mut classes = Vec::new(alloc);
     let mut rest = Vec::new(alloc);
     for (cost, bucket) in buckets.iter().enumerate() {
-        let links = bucket.values();
+        let links = bucket.as_slice();
         if cost <= DEAREST && links.len() >= many {
             let marks = marks_of(alloc, links, count)?;
             classes.push(Class {
@@ -103,7 +103,7 @@ pub(crate) fn by_class_rows(
             {
                 by_class_row(
                     alloc,
-                    others[u].values(),
+                    others[u].as_slice(),
                     u as u32 + 1,
                     ends[u],
                     limit,

@@ -81,7 +81,7 @@ fn take_level(
 {
     for (reader, row) in rows.iter().enumerate() {
         if steps[reader] == distance {
-            take_reader(nearest, seen, fresh, row.values(), distance)?;
+            take_reader(nearest, seen, fresh, row.as_slice(), distance)?;
         }
     }
     Ok(())

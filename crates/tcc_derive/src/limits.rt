@@ -63,8 +63,8 @@ fn least_from(
 {
     let mut least = NONE;
     for b in 0..prices.len() {
-        if others[b].values().len() > prices.len() / PART {
-            least = least.min(least_back(near, prices[b].values(), from, to, b));
+        if others[b].as_slice().len() > prices.len() / PART {
+            least = least.min(least_back(near, prices[b].as_slice(), from, to, b));
         }
     }
     least
@@ -81,9 +81,9 @@ fn least_of_few(near: &Near, prices: &[Row<u16>], others: &[Row<(u32, u32)>]) ->
     let mut least = NONE;
     for b in 0..prices.len() {
         least = least.min(near.row(b as u32)[b]);
-        let row = others[b].values();
+        let row = others[b].as_slice();
         if row.len() <= prices.len() / PART {
-            least = least.min(least_of_others(near, prices[b].values(), row, b));
+            least = least.min(least_of_others(near, prices[b].as_slice(), row, b));
         }
     }
     least
@@ -124,7 +124,7 @@ pub(crate) fn are_within(others: &[Row<(u32, u32)>], limit: u16) -> bool
     ensures { (result ≡ true) ↔ AreWithin limit others.now }
 {
     for row in others {
-        if has_dearer(row.values(), limit) {
+        if has_dearer(row.as_slice(), limit) {
             return false;
         }
     }

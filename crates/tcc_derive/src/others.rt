@@ -52,7 +52,7 @@ fn others_row(
     ensures { IfOk result (IsOtherRow graph.now u steps.now prices.now) }
 {
     let made = cost_row(alloc, steps, prices)?;
-    let costs = made.values();
+    let costs = made.as_slice();
     let mut others = Vec::new(alloc);
     for v in 0..graph.count() {
         let cost = costs[v as usize];
@@ -84,7 +84,7 @@ pub(crate) fn other_rows(
                 ensures { IfOk result (IsOtherRow graph.entry.now u (row_of near.entry.now.rows u) (row_of prices.entry.now u)) }
             {
                 let steps = near.row(u as u32);
-                others_row(alloc, graph, u as u32, steps, prices[u].values())
+                others_row(alloc, graph, u as u32, steps, prices[u].as_slice())
             },
         )
         .with_min_len(ROWS_A_THREAD)

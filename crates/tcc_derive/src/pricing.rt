@@ -93,8 +93,9 @@ fn price_row(
     let mut costs = vec![in alloc; NONE; steps.len()]?;
     for place in written {
         let key = *place;
-        let rows = sources[key].rows();
-        lower_by_key(alloc, &mut costs, reads[key].values(), rows, steps, levels)?;
+        let rows = sources[key].as_slice();
+        let of_key = reads[key].as_slice();
+        lower_by_key(alloc, &mut costs, of_key, rows, steps, levels)?;
     }
     add_step(&mut costs);
     costs[b] = NONE;
@@ -129,7 +130,7 @@ pub(crate) fn price_rows(
                 ensures { IfOk result
                     (ArePricedBy (flat_map (bucket reads.entry.now) (bucket written.entry.now b)) (row_of near.entry.now.rows b) b) }
             {
-                let keys = written[b].values();
+                let keys = written[b].as_slice();
                 price_row(alloc, reads, sources, keys, near.row(b as u32), b)
             },
         )

@@ -6,39 +6,11 @@ ghost use Rattle.tcc_derive.specs.private.Sources.{AreByReader, AreSources, Have
 use crate::bucket::empty_buckets;
 use crate::read::Read;
 use std::alloc::Global;
-use std::marker::Model;
 use tcc_bits::{Row, mark_each, words_for};
-use tcc_txn::NoMemory;
+use tcc_txn::{ListOf, NoMemory};
 
 /// A key's rows of marks, one for each transaction: from whom it reads the key; or none at all.
-#[derive(Drop)]
-pub(crate) struct Sources {
-    rows: Vec<Row<u64>>,
-}
-
-impl Model for Sources {
-    ghost use Rattle.std.specs.Prelude.{ℕ, List};
-
-    ghost Value = { List (List ℕ) };
-
-    ghost view = { λ s. s.rows.items };
-}
-
-impl Sources {
-    /// These rows.
-    pub(crate) fn new(rows: Vec<Row<u64>>) -> Sources
-        ensures { result ≡ rows.items }
-    {
-        Sources { rows }
-    }
-
-    /// The rows, in order.
-    pub(crate) fn rows(&self) -> &[Row<u64>]
-        ensures { result.now ≡ self.now }
-    {
-        &self.rows
-    }
-}
+pub(crate) type Sources = ListOf<Row<u64>>;
 
 /// The sources of a key's reads, a bucket for each transaction that may read it.
 fn by_reader(alloc: Global, reads: &[Read], count: usize) -> Result<Vec<Row<u32>>, NoMemory>
@@ -72,7 +44,7 @@ fn sources_of(alloc: Global, reads: &[Read], count: usize) -> Result<Sources, No
     let buckets = by_reader(alloc, reads, count)?;
     let mut rows = Vec::new(alloc);
     for bucket in &buckets {
-        rows.push(marks_of(alloc, bucket.values(), count)?)?;
+        rows.push(marks_of(alloc, bucket.as_slice(), count)?)?;
     }
     Ok(Sources::new(rows))
 }
@@ -102,7 +74,7 @@ pub(crate) fn source_table(
 {
     let mut table = Vec::new(alloc);
     for bucket in reads {
-        table.push(sources_at(alloc, bucket.values(), count)?)?;
+        table.push(sources_at(alloc, bucket.as_slice(), count)?)?;
     }
     Ok(table)
 }

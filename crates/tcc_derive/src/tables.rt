@@ -97,7 +97,7 @@ impl Prices {
         requires to { a < length self.now.prices }
         ensures { result ≡ price_at self.now b a }
     {
-        cell(self.prices[b as usize].values()[a as usize])
+        cell(self.prices[b as usize].as_slice()[a as usize])
     }
 
     /// The least cost of a link from `u` to `v`: 1 on a causal pair, else the price.
@@ -110,7 +110,7 @@ impl Prices {
         if u < v && v < end {
             return Some(1);
         }
-        cost_among(self.others[u as usize].values(), v)
+        cost_among(self.others[u as usize].as_slice(), v)
     }
 
     /// The first number with a session pair from `u`, and one past the last one, all between them having one too; both
@@ -133,7 +133,7 @@ impl Prices {
         ensures value { result.now ≡ others_at self.now u }
         ensures within { All (λ p. p.0 < length self.now.prices) result.now }
     {
-        self.others[u as usize].values()
+        self.others[u as usize].as_slice()
     }
 
     /// What links cost at most that `by_class` has: what the least of the cycles costs that a walk makes, or a walk and one
@@ -166,7 +166,7 @@ impl Prices {
         ensures value { result.now ≡ row_of self.now.prices b }
         ensures long { length result.now ≡ length self.now.prices }
     {
-        self.prices[b as usize].values()
+        self.prices[b as usize].as_slice()
     }
 }
 

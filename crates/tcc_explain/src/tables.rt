@@ -58,7 +58,7 @@ fn clock_table(alloc: Global, clocks: &[Row<u32>]) -> Result<Table, NoMemory>
 {
     let mut rows = Vec::new(alloc);
     for row in clocks {
-        rows.push(Numbers::new(row.values().iter().copied().collect(alloc)?))?;
+        rows.push(Numbers::new(row.as_slice().iter().copied().collect(alloc)?))?;
     }
     Ok(Table::new(rows))
 }

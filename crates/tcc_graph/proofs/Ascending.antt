@@ -14,7 +14,7 @@ use Rattle.std.proofs.lemmas.List.Kept.{IsStrictlySortedBy-filter}
 use Rattle.std.proofs.lemmas.Map.Keys.{Less-from_sorted, sorted_from_strictly_increasing}
 use Rattle.tcc_reads.specs.Sources.{name_cmp, pair_cmp}
 use Rattle.tcc_graph.specs.private.Grouped.{as_group, groups}
-use Rattle.tcc_graph.specs.Places.{name_of}
+use Rattle.tcc_graph.specs.KeyIndices.{name_of}
 use Rattle.tcc_graph.specs.private.ReadTables.{values_from}
 use Rattle.tcc_graph.specs.Relations.{by_number}
 
@@ -124,11 +124,11 @@ values_sorted (read ∷ reads) a sorted = go (read.1 == a) refl (values_sorted r
     )
     go false is rest = rest
 
--- ---- places of names in order
+-- ---- indices of names in order
 
 module _ (names : List (List ℕ)) (sorted : IsStrictlySortedBy name_cmp names) where
-  lower_place : (i j : ℕ) → i < length names → name_cmp (name_of names i) (name_of names j) ≡ Less → i < j
-  lower_place i j within less =
+  lower_index : (i j : ℕ) → i < length names → name_cmp (name_of names i) (name_of names j) ≡ Less → i < j
+  lower_index i j within less =
       elim (cases_order i j) [
         | inl same ↦ absurd (let tie = tied_itself nat_list_cmp_total (name_of names j) in not_less (rw same at less) tie)
         | inr other ↦ elim other [
@@ -143,15 +143,15 @@ module _ (names : List (List ℕ)) (sorted : IsStrictlySortedBy name_cmp names) 
       not_above : name_cmp (name_of names j) (name_of names i) ≡ Less → ⊥
       not_above low = let turned = nat_list_cmp_total.antisymm (name_of names i) (name_of names j) in cc
 
-  above_places : (i : ℕ) (ks : List ℕ) → i < length names → AllByRecursion (λ y. name_cmp (name_of names i) y ≡ Less) (map (name_of names) ks)
+  above_indices : (i : ℕ) (ks : List ℕ) → i < length names → AllByRecursion (λ y. name_cmp (name_of names i) y ≡ Less) (map (name_of names) ks)
       → AllByRecursion (λ k. nat_cmp i k ≡ Less) ks
-  above_places i [] within all = tt
-  above_places i (k ∷ ks) within all = (sym (nat_cmp_is i k Less (lower_place i k within all.0)), above_places i ks within all.1)
+  above_indices i [] within all = tt
+  above_indices i (k ∷ ks) within all = (sym (nat_cmp_is i k Less (lower_index i k within all.0)), above_indices i ks within all.1)
 
-  pub places_sorted : (ks : List ℕ) → All (λ k. k < length names) ks → IsStrictlySortedBy name_cmp (map (name_of names) ks) → IsStrictlySortedBy nat_cmp ks
+  pub indices_sorted : (ks : List ℕ) → All (λ k. k < length names) ks → IsStrictlySortedBy name_cmp (map (name_of names) ks) → IsStrictlySortedBy nat_cmp ks
   unfolding IsStrictlySortedBy
-  places_sorted [] within ordered = tt
-  places_sorted (k ∷ ks) within ordered = (
-    above_places k ks (within 0 k (omega arith)) ordered.0,
-    places_sorted ks (λ i d less. within (suc i) d (omega arith)) ordered.1,
+  indices_sorted [] within ordered = tt
+  indices_sorted (k ∷ ks) within ordered = (
+    above_indices k ks (within 0 k (omega arith)) ordered.0,
+    indices_sorted ks (λ i d less. within (suc i) d (omega arith)) ordered.1,
   )

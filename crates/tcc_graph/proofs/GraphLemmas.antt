@@ -15,15 +15,15 @@ use Rattle.tcc_reads.specs.Sources.{name_cmp}
 use Rattle.tcc_graph.specs.Relations.{session_pair, causal_pair, has_items, reads_from, IsReadsPair, AreInOrder}
 use Rattle.tcc_graph.specs.Keys.{has_name, keys, is_key, writes, writers, readers}
 use Rattle.tcc_graph.specs.private.Grouped.{of_group, groups}
-use Rattle.tcc_graph.specs.private.ReadTables.{over, Placed, placed_of, values_from, HasReadsInOrder, IsReadTable, ArePlaced, IsPlaceTable}
-use Rattle.tcc_graph.specs.Places.{IsAbsent, name_of}
-use Rattle.tcc_graph.specs.private.KeyRows.{KeyRow, key_row_of, marked, writes_place, reads_place, IsKeyTable}
-use Rattle.tcc_graph.proofs.Ascending.{groups_sorted, values_sorted, places_sorted, filtered_sorted}
+use Rattle.tcc_graph.specs.private.ReadTables.{over, Indexed, indexed_of, values_from, HasReadsInOrder, IsReadTable, AreIndexed, IsIndexTable}
+use Rattle.tcc_graph.specs.KeyIndices.{IsAbsent, name_of}
+use Rattle.tcc_graph.specs.private.KeyRows.{KeyRow, key_row_of, marked, writes_key, reads_key, IsKeyTable}
+use Rattle.tcc_graph.proofs.Ascending.{groups_sorted, values_sorted, indices_sorted, filtered_sorted}
 use Rattle.tcc_graph.proofs.GroupedLemmas.{of_group-groups, zip-map, in_groups, from_groups}
 use Rattle.tcc_graph.proofs.KeysLemmas.{has_name-keys, present, absent, no_readers}
 use Rattle.tcc_graph.proofs.KeyTableLemmas.{filter_range-more, All-filter_range}
 use Rattle.tcc_graph.proofs.NameLemmas.{has_name-contains, contains-has_name}
-use Rattle.tcc_graph.proofs.PlacedLemmas.{stands_there, has_name-places, values_from-named, values_within, values_in_groups}
+use Rattle.tcc_graph.proofs.IndexedLemmas.{stands_there, has_name-indices, values_from-named, values_within, values_in_groups}
 
 pub reads_at : (entries : List Entry) (table : List (List (ℕ × List ℕ))) (a : ℕ) (b : ℕ) (row : List (ℕ × List ℕ)) → IsReadTable entries (length entries) table
     → a < length entries → b < length entries → row ≡ get_or table a row → of_group row b ≡ reads_from (over entries) a b
@@ -86,102 +86,102 @@ filter_same p q (suc n) same =
     ∙ ap (λ b. filter q (range_with_len 0 n) ++ marked b n) (same n (omega arith))
     ∙ sym (filter_range-more q n) ∙ ap (λ m. filter q (range_with_len 0 m)) (sym next)
 
--- ---- by places
+-- ---- by indices
 
-module _ (entries : List Entry) (names : List (List ℕ)) (placed : List Placed) (sorted : IsStrictlySortedBy name_cmp names)
-    (are : ArePlaced names entries placed) where
-  writes_same : (b k : ℕ) → b < length entries → k < length names → writes_place placed k b ≡ writes (over entries) b (name_of names k)
+module _ (entries : List Entry) (names : List (List ℕ)) (indexed : List Indexed) (sorted : IsStrictlySortedBy name_cmp names)
+    (are : AreIndexed names entries indexed) where
+  writes_same : (b k : ℕ) → b < length entries → k < length names → writes_key indexed k b ≡ writes (over entries) b (name_of names k)
   writes_same b k h i =
       let at = are.each b h in
-      ap (λ z. (b == 0) || z) (sym (has_name-places names sorted (placed_of placed b).writes k at.writes_within i)
+      ap (λ z. (b == 0) || z) (sym (has_name-indices names sorted (indexed_of indexed b).writes k at.writes_within i)
       ∙ ap (λ ws. has_name ws (name_of names k)) at.writes)
 
-  pub reads_same : (a b k : ℕ) → b < length entries → k < length names → reads_place placed k a b ≡ has_name (reads_from (over entries) a b) (name_of names k)
+  pub reads_same : (a b k : ℕ) → b < length entries → k < length names → reads_key indexed k a b ≡ has_name (reads_from (over entries) a b) (name_of names k)
   reads_same a b k h i =
       let at = are.each b h in
-      sym (has_name-places names sorted (values_from (placed_of placed b).reads a) k
-      (values_within (length names) (placed_of placed b).reads a at.reads_within) i)
-      ∙ ap (λ xs. has_name xs (name_of names k)) (sym (values_from-named names (placed_of placed b).reads a) ∙ ap (λ reads. values_from reads a) at.reads)
+      sym (has_name-indices names sorted (values_from (indexed_of indexed b).reads a) k
+      (values_within (length names) (indexed_of indexed b).reads a at.reads_within) i)
+      ∙ ap (λ xs. has_name xs (name_of names k)) (sym (values_from-named names (indexed_of indexed b).reads a) ∙ ap (λ reads. values_from reads a) at.reads)
 
-  -- the readings of a source, by places
-  module _ (table : List (List (ℕ × ℕ))) (tables : IsPlaceTable (length entries) placed (length entries) table) (a : ℕ) (from : a < length entries)
+  -- the readings of a source, by indices
+  module _ (table : List (List (ℕ × ℕ))) (tables : IsIndexTable (length entries) indexed (length entries) table) (a : ℕ) (from : a < length entries)
       (row : List (ℕ × ℕ)) (is : row ≡ get_or table a row) where
-    whole_row : row ≡ groups (λ b. values_from (placed_of placed b).reads a) (length entries)
+    whole_row : row ≡ groups (λ b. values_from (indexed_of indexed b).reads a) (length entries)
     whole_row = let inside : a < length table = omega (arith, tables.long) in get_or_read table a row inside is [] ∙ tables.rows a from
 
-    pub places_within : All (λ place. place < length names) (map (λ p. p.1) row)
-    places_within = rw whole_row (All-map (λ place. place < length names) (λ p. p.1) (groups (λ b. values_from (placed_of placed b).reads a) (length entries))
-        (values_in_groups (λ place. place < length names) (λ b. values_from (placed_of placed b).reads a) (length entries)
-        (λ b h. values_within (length names) (placed_of placed b).reads a (are.each b h).reads_within)))
+    pub indices_within : All (λ key_index. key_index < length names) (map (λ p. p.1) row)
+    indices_within = rw whole_row (All-map (λ key_index. key_index < length names) (λ p. p.1) (groups (λ b. values_from (indexed_of indexed b).reads a) (length entries))
+        (values_in_groups (λ key_index. key_index < length names) (λ b. values_from (indexed_of indexed b).reads a) (length entries)
+        (λ b h. values_within (length names) (indexed_of indexed b).reads a (are.each b h).reads_within)))
 
-    pub places_order : All HasReadsInOrder entries → AreInOrder nat_cmp (map (λ p. p.0) row) (map (λ p. p.1) row)
-    places_order reads =
-        rw (zip-map row, whole_row) (groups_sorted nat_cmp (λ b. values_from (placed_of placed b).reads a) (length entries) (λ b h.
+    pub indices_order : All HasReadsInOrder entries → AreInOrder nat_cmp (map (λ p. p.0) row) (map (λ p. p.1) row)
+    indices_order reads =
+        rw (zip-map row, whole_row) (groups_sorted nat_cmp (λ b. values_from (indexed_of indexed b).reads a) (length entries) (λ b h.
         let at = are.each b h in
-        places_sorted names sorted (values_from (placed_of placed b).reads a) (values_within (length names) (placed_of placed b).reads a at.reads_within)
-        (subst (IsStrictlySortedBy name_cmp) (ap (λ rs. values_from rs a) (sym at.reads) ∙ values_from-named names (placed_of placed b).reads a)
+        indices_sorted names sorted (values_from (indexed_of indexed b).reads a) (values_within (length names) (indexed_of indexed b).reads a at.reads_within)
+        (subst (IsStrictlySortedBy name_cmp) (ap (λ rs. values_from rs a) (sym at.reads) ∙ values_from-named names (indexed_of indexed b).reads a)
         (values_sorted (entry_at (over entries) b).reads a (reads b initial h)))))
 
-    pub place_readings : (c k : ℕ) → Contains (zip (map (λ p. p.0) row) (map (λ p. p.1) row)) (c, k) ↔
+    pub index_readings : (c k : ℕ) → Contains (zip (map (λ p. p.0) row) (map (λ p. p.1) row)) (c, k) ↔
         ((k < length names) × IsReadsPair (over entries) a c (name_of names k))
-    place_readings c k = rw (zip-map row, whole_row) (
+    index_readings c k = rw (zip-map row, whole_row) (
       λ h.
-          let w = from_groups (λ b. values_from (placed_of placed b).reads a) (length entries) c k h in
+          let w = from_groups (λ b. values_from (indexed_of indexed b).reads a) (length entries) c k h in
           let at = are.each c w.0 in
           let below =
-          All-contains (λ j. j < length names) (values_from (placed_of placed c).reads a) k
-          (values_within (length names) (placed_of placed c).reads a at.reads_within) w.1 in (
+          All-contains (λ j. j < length names) (values_from (indexed_of indexed c).reads a) k
+          (values_within (length names) (indexed_of indexed c).reads a at.reads_within) w.1 in (
             below,
             (
               from,
               w.0,
               has_name-contains (reads_from (over entries) a c) (name_of names k)
-                  (sym (reads_same a c k w.0 below) ∙ number_found (values_from (placed_of placed c).reads a) k w.1),
+                  (sym (reads_same a c k w.0 below) ∙ number_found (values_from (indexed_of indexed c).reads a) k w.1),
             ),
           ),
-      λ p. in_groups (λ b. values_from (placed_of placed b).reads a) (length entries) c k p.1.1
-          (found_number (values_from (placed_of placed c).reads a) k
+      λ p. in_groups (λ b. values_from (indexed_of indexed b).reads a) (length entries) c k p.1.1
+          (found_number (values_from (indexed_of indexed c).reads a) k
           (reads_same a c k p.1.1 p.0 ∙ contains-has_name (reads_from (over entries) a c) (name_of names k) p.1.2)),
     )
 
   -- the rows of the keys
-  module _ (rows : List KeyRow) (tables : IsKeyTable placed (length names) (length entries) (length entries) rows) (k : ℕ) (within : k < length names)
+  module _ (rows : List KeyRow) (tables : IsKeyTable indexed (length names) (length entries) (length entries) rows) (k : ℕ) (within : k < length names)
       (row : KeyRow) (is : row ≡ get_or rows k row) where
     is_row : row ≡ key_row_of rows k
     is_row = let inside : k < length rows = omega (arith, tables.long) in get_or_read rows k row inside is _
 
-    pub writers_placed : names ≡ keys (over entries) → row.writers ≡ writers (over entries) (name_of names k)
-    writers_placed keyed =
+    pub writers_here : names ≡ keys (over entries) → row.writers ≡ writers (over entries) (name_of names k)
+    writers_here keyed =
         let key : is_key (over entries) (name_of names k) ≡ true =
         sym (has_name-keys (over entries) (name_of names k)) ∙ rw (← keyed) (present names (name_of names k) k (stands_there names sorted k within)) in
         rw key (ap (λ (r : KeyRow). r.writers) is_row ∙ tables.writers k within
-        ∙ filter_same (writes_place placed k) (λ b. writes (over entries) b (name_of names k)) (length entries) (λ b h. writes_same b k h within))
+        ∙ filter_same (writes_key indexed k) (λ b. writes (over entries) b (name_of names k)) (length entries) (λ b h. writes_same b k h within))
 
-    whole_readers : row.readers ≡ groups (λ a. filter (reads_place placed k a) (range_with_len 0 (length entries))) (length entries)
+    whole_readers : row.readers ≡ groups (λ a. filter (reads_key indexed k a) (range_with_len 0 (length entries))) (length entries)
     whole_readers =
         ap (λ (r : KeyRow). r.readers) is_row ∙ tables.readers k within
-        ∙ ap (λ n. groups (λ a. filter (reads_place placed k a) (range_with_len 0 n)) (length entries)) are.long
+        ∙ ap (λ n. groups (λ a. filter (reads_key indexed k a) (range_with_len 0 n)) (length entries)) are.long
 
-    pub readers_placed : (a : ℕ) → a < length entries → of_group row.readers a ≡ readers (over entries) a (name_of names k)
-    readers_placed a from =
+    pub readers_here : (a : ℕ) → a < length entries → of_group row.readers a ≡ readers (over entries) a (name_of names k)
+    readers_here a from =
         ap (λ grouped. of_group grouped a) whole_readers
-        ∙ of_group-groups (λ s. filter (reads_place placed k s) (range_with_len 0 (length entries))) (length entries) a from
-        ∙ filter_same (reads_place placed k a) (λ b. has_name (reads_from (over entries) a b) (name_of names k)) (length entries)
+        ∙ of_group-groups (λ s. filter (reads_key indexed k s) (range_with_len 0 (length entries))) (length entries) a from
+        ∙ filter_same (reads_key indexed k a) (λ b. has_name (reads_from (over entries) a b) (name_of names k)) (length entries)
         (λ b h. reads_same a b k h within)
 
     pub key_order : AreInOrder nat_cmp (map (λ p. p.0) row.readers) (map (λ p. p.1) row.readers)
     key_order =
-        rw (zip-map row.readers, whole_readers) (groups_sorted nat_cmp (λ s. filter (reads_place placed k s) (range_with_len 0 (length entries))) (length entries)
-        (λ s h. filtered_sorted (reads_place placed k s) (length entries)))
+        rw (zip-map row.readers, whole_readers) (groups_sorted nat_cmp (λ s. filter (reads_key indexed k s) (range_with_len 0 (length entries))) (length entries)
+        (λ s h. filtered_sorted (reads_key indexed k s) (length entries)))
 
     pub key_readings : (a c : ℕ) → Contains (zip (map (λ p. p.0) row.readers) (map (λ p. p.1) row.readers)) (a, c) ↔ IsReadsPair (over entries) a c
         (name_of names k)
     key_readings a c = rw (zip-map row.readers, whole_readers) (
       λ h.
-          let w = from_groups (λ s. filter (reads_place placed k s) (range_with_len 0 (length entries))) (length entries) a c h in
-          let v = in_filter (reads_place placed k a) (length entries) c w.1 in
+          let w = from_groups (λ s. filter (reads_key indexed k s) (range_with_len 0 (length entries))) (length entries) a c h in
+          let v = in_filter (reads_key indexed k a) (length entries) c w.1 in
           (w.0, v.0, has_name-contains (reads_from (over entries) a c) (name_of names k) (sym (reads_same a c k v.0 within) ∙ v.1)),
-      λ p. in_groups (λ s. filter (reads_place placed k s) (range_with_len 0 (length entries))) (length entries) a c p.0
-          (to_filter (reads_place placed k a) (length entries) c p.1
+      λ p. in_groups (λ s. filter (reads_key indexed k s) (range_with_len 0 (length entries))) (length entries) a c p.0
+          (to_filter (reads_key indexed k a) (length entries) c p.1
           (reads_same a c k p.1 within ∙ contains-has_name (reads_from (over entries) a c) (name_of names k) p.2)),
     )

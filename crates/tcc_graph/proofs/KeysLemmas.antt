@@ -15,7 +15,7 @@ use Rattle.tcc_reads.specs.Sources.{name_cmp}
 use Rattle.tcc_reads.specs.History.{Entry, History, entry_at, initial}
 use Rattle.tcc_graph.specs.Relations.{reads_from}
 use Rattle.tcc_graph.specs.Keys.{has_name, with_names, keys_of, keys, is_key, readers, numbers}
-use Rattle.tcc_graph.specs.Places.{IsAbsent, StandsAt, name_of}
+use Rattle.tcc_graph.specs.KeyIndices.{IsAbsent, StandsAt, name_of}
 use Rattle.tcc_graph.proofs.NameLemmas.{bytes_eq-same, bytes_eq-other}
 
 or_again : (a : Bool) (b : Bool) → (a || b) ≡ (a || (a || b))

@@ -3,6 +3,7 @@ use Rattle.std.proofs.Common.{ℕ, ◌+◌, ◌<◌, ◌≤◌, ◌≡◌, ◌�
 use Rattle.std.specs.Prelude.{nat_le, ◌↔◌}
 use Rattle.std.specs.List.Sorted.{IsPartitionPoint, IsPartitionedBy, IsNonDecreasingBy}
 use Rattle.std.proofs.lemmas.List.Sorted.{IsPartitionedBy-leb, IsNonDecreasingBy-from_default}
+use Rattle.std.proofs.Math.Nat.{lt_of_not-le}
 use Rattle.std.proofs.lemmas.Bool.{cases_lt, leb-true, leb-false}
 use Rattle.tcc_reads.specs.History.{Entry, History, IsBySession, initial, count, owner, place}
 use Rattle.tcc_graph.specs.Relations.{IsSessionPair}
@@ -18,22 +19,14 @@ all_later h v some = (
 -- numbers below `end` are of no later session than u, and those from there on of a later one
 module _ (h : History) (ordered : IsBySession h.entries) (u end : ℕ) (some : 0 < u) (below : u < count h) (within : end ≤ count h)
     (before : (k : ℕ) → k < end → owner h k ≤ owner h u) (after : (k : ℕ) → end ≤ k → k < count h → owner h u < owner h k) where
-  pub past : u < end
-  past = go (cases_lt u end)
-    where
-      go : (u < end) ⊎ (end ≤ u) → u < end
-      go (inl less) = less
-      go (inr more) = let over : owner h u < owner h u = after u more below in absurd (omega arith)
+  past : u < end
+  past = lt_of_not-le (λ more. let over : owner h u < owner h u = after u more below in omega arith)
 
   inside : (v : ℕ) → IsSessionPair h u v → v < end
-  inside v p = go (cases_lt v end)
-    where
-      parts : PairParts h u v
-      parts = pair_parts h u v p
-
-      go : (v < end) ⊎ (end ≤ v) → v < end
-      go (inl less) = less
-      go (inr more) = let over : owner h u < owner h v = after v more parts.to in let same : owner h u ≡ owner h v = parts.same some in absurd (omega arith)
+  inside v p = lt_of_not-le (λ more.
+      let parts : PairParts h u v = pair_parts h u v p in
+      let over : owner h u < owner h v = after v more parts.to in
+      omega (arith, parts.same some))
 
   over_it : (v : ℕ) → IsSessionPair h u v → u < v
   over_it v p = go (cases_lt u v)
@@ -41,28 +34,28 @@ module _ (h : History) (ordered : IsBySession h.entries) (u end : ℕ) (some : 0
       parts : PairParts h u v
       parts = pair_parts h u v p
 
+      lower : place h u < place h v
+      lower = parts.lower some
+
       go : (u < v) ⊎ (v ≤ u) → u < v
       go (inl less) = less
       go (inr more) = go' (cases_lt v u)
         where
-          lower : place h u < place h v
-          lower = parts.lower some
-
           go' : (v < u) ⊎ (u ≤ v) → u < v
           go' (inl less) = let back : place h v < place h u = (ordered v u less below).1 (sym (parts.same some)) in absurd (omega (arith, lower, back))
           go' (inr equal) = let same : u ≡ v = omega (arith, more, equal) in let itself : place h u ≡ place h v =
               ap (λ n. place h n) same in absurd (omega (arith, lower, itself))
 
-  pub later : (v : ℕ) → IsSessionPair h u v ↔ ((u + 1 ≤ v) × (v < end))
+  later : (v : ℕ) → IsSessionPair h u v ↔ ((u + 1 ≤ v) × (v < end))
   later v = (
     (λ p. let less = over_it v p in (omega (arith, less), inside v p)),
     (λ w.
         let less : u < v = omega (arith, w.0) in
         let bound : v < count h = omega (arith, w.1) in
-        let step = ordered u v less bound in
+        let rises = ordered u v less bound in
         let back = before v w.1 in
-        let same : owner h u ≡ owner h v = omega (arith, step.0, back) in
-        lower_first h u v some below (omega arith) bound same (step.1 same)),
+        let same : owner h u ≡ owner h v = omega (arith, rises.0, back) in
+        lower_first h u v some below (omega arith) bound same (rises.1 same)),
   )
 
 owners_rise : (h : History) → IsBySession h.entries → IsNonDecreasingBy (λ (e : Entry). e.owner) h.entries
@@ -85,8 +78,5 @@ module _ (h : History) (ordered : IsBySession h.entries) (u end mine : ℕ) (is 
   after : (k : ℕ) → end ≤ k → k < count h → owner h u < owner h k
   after k more less = omega (arith, is, leb-false (owner h k) mine (point.1 k initial more less))
 
-  pub point_past : 0 < u → u < end
-  point_past some = past h ordered u end some below within before after
-
-  pub point_later : 0 < u → (v : ℕ) → IsSessionPair h u v ↔ ((u + 1 ≤ v) × (v < end))
-  point_later some = later h ordered u end some below within before after
+  pub ends : 0 < u → (u < end) × ((v : ℕ) → IsSessionPair h u v ↔ ((u + 1 ≤ v) × (v < end)))
+  ends some = (past h ordered u end some below within before after, later h ordered u end some below within before after)

@@ -7,7 +7,7 @@
 --   Tied         the comparisons of steps and links are total orders, and what ties is the same
 --   Numberings   where numbers stand in an order
 --   Kept         what a map of numbers keeps of pairs, it keeps of walks, reasons, links and cycles
---   NameLemmas   names in lists: found by a test, and by place in a sorted list
+--   NameLemmas   names in lists: found by a test, and by index in a sorted list
 --   KeysLemmas   which names are keys
 --   SortedKeys   the keys are in byte order
 --   WriterLemmas what is read is a key, and who its writers are
@@ -16,6 +16,7 @@
 pub mod Ascending
 pub mod GraphLemmas
 pub mod GroupedLemmas
+pub mod IndexedLemmas
 pub mod Judged
 pub mod Kept
 pub mod KeyRowLemmas
@@ -28,7 +29,6 @@ pub mod Linking
 pub mod NameLemmas
 pub mod Numberings
 pub mod Pairs
-pub mod PlacedLemmas
 pub mod SortedKeys
 pub mod TableLemmas
 pub mod Tied

@@ -20,7 +20,7 @@ use Rattle.std.proofs.lemmas.List.Folds.{list_any-append}
 use Rattle.std.proofs.lemmas.List.Sorted.{searchable_from_sorted}
 use Rattle.tcc_reads.specs.Sources.{name_cmp}
 use Rattle.tcc_graph.specs.Keys.{has_name}
-use Rattle.tcc_graph.specs.Places.{IsAbsent, StandsAt, name_of}
+use Rattle.tcc_graph.specs.KeyIndices.{IsAbsent, StandsAt, name_of}
 
 pub bytes_eq-true : (x : List ℕ) (y : List ℕ) → bytes_eq x y ≡ true → x ≡ y
 bytes_eq-true x y = (bytes_eq-Decides x y).0
@@ -37,10 +37,10 @@ apart e f = cc
 apart_above : {o : Ordering} → o ≡ Greater → o ≡ Equal → ⊥
 apart_above e f = cc
 
--- two places of a sorted list have different names
-pub places_differ : (names : List (List ℕ)) (i : ℕ) (j : ℕ) → IsStrictlySortedBy name_cmp names → i < length names → j < length names → i ≢ j
+-- two indices of a sorted list have different names
+pub indices_differ : (names : List (List ℕ)) (i : ℕ) (j : ℕ) → IsStrictlySortedBy name_cmp names → i < length names → j < length names → i ≢ j
     → name_of names i ≢ name_of names j
-places_differ names i j sorted h k ne same =
+indices_differ names i j sorted h k ne same =
     elim (cases_order i j) [
       | inl e ↦ ne e
       | inr less ↦ elim less [
@@ -55,9 +55,9 @@ pub sorted_names : (names : List (List ℕ)) → IsStrictlySortedBy name_cmp nam
 sorted_names names sorted k d h i =
     rw (nat_list_cmp_total.antisymm (get_or names (k + 1) d) (get_or names k d), Less-from_sorted name_cmp names k (k + 1) d sorted (omega arith) i) refl
 
-pub place_found : (names : List (List ℕ)) (x : List ℕ) (r : Result ℕ ℕ) → IsStrictlySortedBy name_cmp names → IsSearchInRange r (length names)
+pub index_found : (names : List (List ℕ)) (x : List ℕ) (r : Result ℕ ℕ) → IsStrictlySortedBy name_cmp names → IsSearchInRange r (length names)
     → IsBinarySearchResult (λ y. name_cmp y x) names r → MatchOption (result_ok r) (IsAbsent names x) (λ i. StandsAt names x i)
-place_found names x (Ok i) sorted range found =
+index_found names x (Ok i) sorted range found =
     let here : name_of names i ≡ x = exact_bytes (name_of names i) x (found []) in
     record {
       within = range;
@@ -65,11 +65,11 @@ place_found names x (Ok i) sorted range found =
         | inl e ↦ rw (e, here, bytes_eq-same x x refl, eq-eqb i i refl) refl
         | inr differ ↦
             (let ne : k ≢ i = λ e. elim differ [ inl p ↦ absurd (omega arith) | inr p ↦ absurd (omega arith) ] in
-            rw (bytes_eq-other (name_of names k) x (λ same. places_differ names k i sorted h range ne (same ∙ sym here)), ne_eqb k i ne) refl)
+            rw (bytes_eq-other (name_of names k) x (λ same. indices_differ names k i sorted h range ne (same ∙ sym here)), ne_eqb k i ne) refl)
       ];
       here = here;
     }
-place_found names x (Err i) sorted range found = λ k h. bytes_eq-other (name_of names k) x (λ same.
+index_found names x (Err i) sorted range found = λ k h. bytes_eq-other (name_of names k) x (λ same.
     let point = found (searchable_from_sorted nat_list_cmp_total (λ y. y) names x (sorted_names names sorted)) in
     let tie : name_cmp (name_of names k) x ≡ Equal = rw same (tied_itself nat_list_cmp_total x) in
     elim (cases_lt k i) [

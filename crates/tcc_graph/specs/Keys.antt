@@ -6,7 +6,7 @@ use Rattle.std.specs.Cmp.Lexicographic.{slice_cmp}
 use Rattle.std.specs.BTreeSet.{insert_key}
 use Rattle.tcc_reads.specs.History.{Entry, History, count, entry_at}
 use Rattle.tcc_graph.specs.Relations.{reads_from}
-use Rattle.tcc_graph.specs.Places.{name_of}
+use Rattle.tcc_graph.specs.KeyIndices.{name_of}
 
 -- a list of names has the name x
 abbrev pub has_name : List (List ℕ) → List ℕ → Bool
@@ -17,7 +17,7 @@ has_name names x = list_any (bytes_eq x) names
 abbrev pub keys_of : Entry → List (List ℕ)
 keys_of e = e.writes ++ map (λ read. read.0) e.reads
 
--- the names, each put at its place in byte order unless it is there already
+-- the names, each put where it belongs in byte order unless it is there already
 abbrev pub with_names : List (List ℕ) → List (List ℕ) → List (List ℕ)
 with_names sorted names = fold (insert_key (slice_cmp nat_cmp)) sorted names
 

@@ -1,4 +1,5 @@
 pub mod Relations
+pub mod Readings
 pub mod Keys
 pub mod Walks
 pub mod Levels
@@ -9,6 +10,6 @@ pub mod Ties
 pub mod Answers
 pub mod Numbers
 pub mod Tables
-pub mod Places
+pub mod KeyIndices
 pub mod Renumbered
 pub mod private

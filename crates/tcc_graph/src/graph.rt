@@ -1,10 +1,9 @@
 //! The graph of a resolved history.
-ghost use Rattle.std.specs.Prelude.{◌≡◌, ◌≤◌, ◌<◌, ◌+◌, ◌↔◌, ℕ, List, length, zip, map, All, Contains, IfOk, IsTrue, string_bytes};
+ghost use Rattle.std.specs.Prelude.{◌≡◌, ◌≤◌, ◌<◌, ◌+◌, ◌↔◌, ℕ, List, length, map, All, IfOk, IsTrue, string_bytes};
 ghost use Rattle.tcc_txn.specs.declared.limits.TheConstants.{MAX_COUNT, MAX_SESSIONS};
 ghost use Rattle.tcc_reads.specs.History.{IsBySession, count, entry_at, owner};
-ghost use Rattle.tcc_graph.specs.Relations.{IsSessionPair, session_pair, reads_from, causal_pair, IsReadsPair, AreInOrder};
-ghost use Rattle.std.specs.Ordering.{nat_cmp};
-ghost use Rattle.tcc_reads.specs.Sources.{name_cmp};
+ghost use Rattle.tcc_graph.specs.Relations.{IsSessionPair, session_pair, reads_from, causal_pair};
+ghost use Rattle.tcc_graph.specs.Readings.{AreReadings, AreReadingsByIndex, AreReadingsOfKey};
 ghost use Rattle.tcc_graph.specs.Keys.{keys, key_at, writers, readers};
 ghost use Rattle.tcc_graph.specs.Levels.{judged};
 ghost use Rattle.tcc_graph.specs.Numbers.{at, label};
@@ -145,9 +144,7 @@ impl Graph {
     /// each once.
     pub fn readings(&self, a: u32) -> (&[u32], &[Name])
         requires { a < count self.now }
-        ensures long { length result.0.now ≡ length result.1.now }
-        ensures each { (c : ℕ) (x : List ℕ) → Contains (zip result.0.now result.1.now) (c, x) ↔ IsReadsPair self.now a c x }
-        ensures order { AreInOrder name_cmp result.0.now result.1.now }
+        ensures { AreReadings self.now a result.0.now result.1.now }
     {
         self.large.readings(a)
     }
@@ -202,9 +199,7 @@ impl Graph {
     /// source by ascending number, each once.
     pub fn readings_of(&self, key_index: u32) -> (&[u32], &[u32])
         requires { key_index < length (keys self.now) }
-        ensures long { length result.0.now ≡ length result.1.now }
-        ensures each { (a c : ℕ) → Contains (zip result.0.now result.1.now) (a, c) ↔ IsReadsPair self.now a c (key_at self.now key_index) }
-        ensures order { AreInOrder nat_cmp result.0.now result.1.now }
+        ensures { AreReadingsOfKey self.now key_index result.0.now result.1.now }
     {
         self.large.readings_of(key_index)
     }
@@ -213,11 +208,7 @@ impl Graph {
     /// ascending, each once.
     pub fn readings_at(&self, a: u32) -> (&[u32], &[u32])
         requires { a < count self.now }
-        ensures long { length result.0.now ≡ length result.1.now }
-        ensures within { All (λ key_index. key_index < length (keys self.now)) result.1.now }
-        ensures each { (c key_index : ℕ) → Contains (zip result.0.now result.1.now) (c, key_index)
-            ↔ ((key_index < length (keys self.now)) × IsReadsPair self.now a c (key_at self.now key_index)) }
-        ensures order { AreInOrder nat_cmp result.0.now result.1.now }
+        ensures { AreReadingsByIndex self.now a result.0.now result.1.now }
     {
         self.large.readings_at(a)
     }

@@ -98,6 +98,6 @@ pub(crate) fn is_link(graph: &LargeGraph, level: Level, link: &Link) -> bool
             key,
             reader,
             walk,
-        } => is_reason(graph, level, *from, *to, key, *reader, walk.steps()),
+        } => is_reason(graph, level, *from, *to, key, *reader, walk.as_slice()),
     }
 }

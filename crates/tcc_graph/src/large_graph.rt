@@ -1,22 +1,22 @@
 //! The graph of a resolved history of the large limits.
-ghost use Rattle.std.specs.Prelude.{◌≡◌, ◌≤◌, ◌<◌, ◌+◌, ◌++◌, ◌↔◌, ℕ, List, length, zip, map, All, Contains, IfOk, IsTrue, string_bytes};
+ghost use Rattle.std.specs.Prelude.{◌≡◌, ◌≤◌, ◌<◌, ◌+◌, ◌++◌, ◌↔◌, ℕ, List, length, map, All, IfOk, IsTrue, string_bytes, MatchOption, []};
+ghost use Rattle.tcc_graph.specs.private.Grouped.{of_group};
 ghost use Rattle.tcc_txn.specs.declared.limits.TheConstants.{LARGE_COUNT, LARGE_SESSIONS};
 ghost use Rattle.tcc_reads.specs.History.{History, IsBySession, count, entry_at, owner};
-ghost use Rattle.tcc_graph.specs.Relations.{IsSessionPair, session_pair, reads_from, causal_pair, IsReadsPair, AreInOrder};
-ghost use Rattle.std.specs.Ordering.{nat_cmp};
-ghost use Rattle.tcc_reads.specs.Sources.{name_cmp};
+ghost use Rattle.tcc_graph.specs.Relations.{IsSessionPair, session_pair, reads_from, causal_pair};
+ghost use Rattle.tcc_graph.specs.Readings.{AreReadings, AreReadingsByIndex, AreReadingsOfKey};
 ghost use Rattle.tcc_graph.specs.Keys.{keys, key_at, writers, readers};
 ghost use Rattle.tcc_graph.specs.Levels.{judged};
 ghost use Rattle.tcc_graph.specs.Numbers.{at, label};
 ghost use Rattle.tcc_graph.specs.Links.{IsLink};
 
 use crate::grouped::Grouped;
+use crate::indexed::{Indexed, indexed_by};
 use crate::judging::is_link;
 use crate::key_row::KeyRow;
-use crate::key_table::{key_table, place_of};
+use crate::key_table::{key_index_of, key_table};
 use crate::keys::sorted_keys;
-use crate::placed::{Placed, placed_by};
-use crate::tables::{parts_of, place_table, read_table};
+use crate::tables::{index_table, parts_of, read_table};
 use crate::{Level, Link};
 use std::alloc::Global;
 use std::marker::Model;
@@ -31,7 +31,7 @@ pub struct LargeGraph {
     transactions: Vec<Transaction>,
     reads: Vec<Grouped<Name>>,
     keys: Vec<Name>,
-    placed: Vec<Placed>,
+    indexed: Vec<Indexed>,
     key_indices: Vec<Grouped<u32>>,
     rows: Vec<KeyRow>,
 }
@@ -44,7 +44,7 @@ impl Model for LargeGraph {
 
     ghost view = { λ g. record { sessions = g.sessions.items; entries = g.transactions.items } };
 
-    ghost invariant = { λ g. IsGraph g.sessions.items g.transactions.items g.reads.items g.keys.items g.placed.items g.key_indices.items g.rows.items };
+    ghost invariant = { λ g. IsGraph g.sessions.items g.transactions.items g.reads.items g.keys.items g.indexed.items g.key_indices.items g.rows.items };
 }
 
 impl LargeGraph {
@@ -55,15 +55,15 @@ impl LargeGraph {
         let (sessions, transactions) = parts_of(resolved);
         let reads = read_table(alloc, &transactions)?;
         let keys = sorted_keys(alloc, &transactions)?;
-        let placed = placed_by(alloc, &keys, &transactions)?;
-        let key_indices = place_table(alloc, &placed)?;
-        let rows = key_table(alloc, keys.len(), &placed, &key_indices)?;
+        let indexed = indexed_by(alloc, &keys, &transactions)?;
+        let key_indices = index_table(alloc, &indexed)?;
+        let rows = key_table(alloc, keys.len(), &indexed, &key_indices)?;
         Ok(LargeGraph {
             sessions,
             transactions,
             reads,
             keys,
-            placed,
+            indexed,
             key_indices,
             rows,
         })
@@ -164,9 +164,7 @@ impl LargeGraph {
     /// each once.
     pub fn readings(&self, a: u32) -> (&[u32], &[Name])
         requires { a < count self.now }
-        ensures long { length result.0.now ≡ length result.1.now }
-        ensures each { (c : ℕ) (x : List ℕ) → Contains (zip result.0.now result.1.now) (c, x) ↔ IsReadsPair self.now a c x }
-        ensures order { AreInOrder name_cmp result.0.now result.1.now }
+        ensures { AreReadings self.now a result.0.now result.1.now }
     {
         let reads = &self.reads[a as usize];
         (reads.groups(), reads.values())
@@ -188,12 +186,24 @@ impl LargeGraph {
         &self.keys
     }
 
+    /// The row of a key; none where it is no key of the history.
+    fn row(&self, key: &Name) -> Option<&KeyRow>
+        ensures writers { MatchOption result ([] ≡ writers self.now key.now) (λ row. row.now.writers ≡ writers self.now key.now) }
+        ensures readers { (a : ℕ) → a < count self.now → MatchOption result ([] ≡ readers self.now a key.now)
+            (λ row. of_group row.now.readers a ≡ readers self.now a key.now) }
+    {
+        match key_index_of(&self.keys, key) {
+            Some(key_index) => Some(&self.rows[key_index]),
+            None => None,
+        }
+    }
+
     /// The transactions that write the key visibly, ascending, `init` first; none where it is no key of the history.
     pub fn writers(&self, key: &Name) -> &[u32]
         ensures { result.now ≡ writers self.now key.now }
     {
-        match place_of(&self.keys, key) {
-            Some(key_index) => self.rows[key_index].writers(),
+        match self.row(key) {
+            Some(row) => row.writers(),
             None => &[],
         }
     }
@@ -203,8 +213,8 @@ impl LargeGraph {
         requires { a < count self.now }
         ensures { result.now ≡ readers self.now a key.now }
     {
-        match place_of(&self.keys, key) {
-            Some(key_index) => self.rows[key_index].readers(a),
+        match self.row(key) {
+            Some(row) => row.readers(a),
             None => &[],
         }
     }
@@ -228,9 +238,7 @@ impl LargeGraph {
     /// source by ascending number, each once.
     pub fn readings_of(&self, key_index: u32) -> (&[u32], &[u32])
         requires { key_index < length (keys self.now) }
-        ensures long { length result.0.now ≡ length result.1.now }
-        ensures each { (a c : ℕ) → Contains (zip result.0.now result.1.now) (a, c) ↔ IsReadsPair self.now a c (key_at self.now key_index) }
-        ensures order { AreInOrder nat_cmp result.0.now result.1.now }
+        ensures { AreReadingsOfKey self.now key_index result.0.now result.1.now }
     {
         let readers = self.rows[key_index as usize].all_readers();
         (readers.groups(), readers.values())
@@ -240,11 +248,7 @@ impl LargeGraph {
     /// ascending, each once.
     pub fn readings_at(&self, a: u32) -> (&[u32], &[u32])
         requires { a < count self.now }
-        ensures long { length result.0.now ≡ length result.1.now }
-        ensures within { All (λ key_index. key_index < length (keys self.now)) result.1.now }
-        ensures each { (c key_index : ℕ) → Contains (zip result.0.now result.1.now) (c, key_index)
-            ↔ ((key_index < length (keys self.now)) × IsReadsPair self.now a c (key_at self.now key_index)) }
-        ensures order { AreInOrder nat_cmp result.0.now result.1.now }
+        ensures { AreReadingsByIndex self.now a result.0.now result.1.now }
     {
         let key_indices = &self.key_indices[a as usize];
         (key_indices.groups(), key_indices.values())
@@ -256,7 +260,7 @@ impl LargeGraph {
         ensures value { map (λ read. (key_at self.now read.0, read.1)) result.now ≡ (entry_at self.now c).reads }
         ensures within { All (λ read. (read.0 < length (keys self.now)) × (read.1 < count self.now)) result.now }
     {
-        self.placed[c as usize].reads()
+        self.indexed[c as usize].reads()
     }
 
     /// The indices of the keys that a transaction writes visibly, ascending; none for `init`, which writes every key.
@@ -265,7 +269,7 @@ impl LargeGraph {
         ensures value { map (key_at self.now) result.now ≡ (entry_at self.now b).writes }
         ensures within { All (λ key_index. key_index < length (keys self.now)) result.now }
     {
-        self.placed[b as usize].writes()
+        self.indexed[b as usize].writes()
     }
 
     /// `init` for number 0, else the name of the session, a slash and the place.

@@ -3,6 +3,7 @@
 
 mod graph;
 mod grouped;
+mod indexed;
 mod judging;
 mod key_row;
 mod key_table;
@@ -12,18 +13,15 @@ pub mod laws;
 mod level;
 mod limits;
 mod link;
-mod placed;
 mod renumbering;
 mod step;
 mod tables;
-mod walk;
 
 pub use graph::Graph;
-pub use key_table::place_of;
+pub use key_table::key_index_of;
 pub use large_graph::LargeGraph;
 pub use level::Level;
 pub use limits::{MAX_CYCLE_COST, MAX_LINK_COST};
 pub use link::Link;
 pub use renumbering::Renumbering;
-pub use step::Step;
-pub use walk::Walk;
+pub use step::{Step, Walk};

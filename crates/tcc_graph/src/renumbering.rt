@@ -36,17 +36,19 @@ impl Step {
     }
 }
 
-impl Walk {
-    /// The walk in other numbers.
-    fn renumbered<N: Renumbering>(&self, alloc: Global, numbers: &N) -> Result<Walk, NoMemory>
-        ensures { IfOk result (λ walk. walk ≡ map (step_by (N.by numbers.now)) self.now) }
-    {
-        let mut steps = Vec::new(alloc);
-        for step in self.steps() {
-            steps.push(step.renumbered(numbers))?;
-        }
-        Ok(Walk::new(steps))
+/// The walk in other numbers.
+fn renumbered_walk<N: Renumbering>(
+    alloc: Global,
+    walk: &Walk,
+    numbers: &N,
+) -> Result<Walk, NoMemory>
+    ensures { IfOk result (λ other. other ≡ map (step_by (N.by numbers.now)) walk.now) }
+{
+    let mut steps = Vec::new(alloc);
+    for step in walk.as_slice() {
+        steps.push(step.renumbered(numbers))?;
     }
+    Ok(Walk::new(steps))
 }
 
 impl Link {
@@ -71,7 +73,7 @@ impl Link {
                 reader,
                 walk,
             } => {
-                let walk = walk.renumbered(alloc, numbers)?;
+                let walk = renumbered_walk(alloc, walk, numbers)?;
                 Ok(Link::Derived {
                     from: numbers.number(*from),
                     to: numbers.number(*to),

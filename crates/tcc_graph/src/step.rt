@@ -1,5 +1,5 @@
-//! One step of a causal walk.
-use tcc_txn::Name;
+//! Causal walks, step by step.
+use tcc_txn::{ListOf, Name};
 
 /// A pair of session order or of reads-from, as a step of a walk.
 #[derive(Clone, Copy)]
@@ -34,3 +34,6 @@ impl Step {
         }
     }
 }
+
+/// Steps in order. That each begins where the one before it ends is said by the contracts that speak of walks.
+pub type Walk = ListOf<Step>;

@@ -30,7 +30,7 @@ fn cost(links: &[Link]) -> usize {
     for link in links {
         steps = steps.saturating_add(1);
         if let Link::Derived { walk, .. } = link {
-            steps = steps.saturating_add(walk.steps().len());
+            steps = steps.saturating_add(walk.as_slice().len());
         }
     }
     steps

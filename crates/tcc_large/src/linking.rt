@@ -125,7 +125,7 @@ impl Linker {
         let Some(walk) = self.walk(alloc, graph, sessions, wanted, readers)? else {
             return Ok(None);
         };
-        let (Some(first), Some(last)) = (walk.steps().first(), walk.steps().last()) else {
+        let (Some(first), Some(last)) = (walk.as_slice().first(), walk.as_slice().last()) else {
             return Ok(None);
         };
         let from = first.from();

@@ -75,7 +75,7 @@ impl Needs {
             } => {
                 self.add(*from, Need::Write { key: *key })?;
                 self.add_read(*to, *reader, *key)?;
-                for step in walk.steps() {
+                for step in walk.as_slice() {
                     self.add_step(step)?;
                 }
                 Ok(())

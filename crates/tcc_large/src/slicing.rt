@@ -23,7 +23,7 @@ fn moved(numbers: &[u32], number: u32) -> u32 {
 
 fn moved_walk(alloc: Global, numbers: &[u32], walk: &Walk) -> Result<Walk, NoMemory> {
     let mut steps = Vec::new(alloc);
-    for step in walk.steps() {
+    for step in walk.as_slice() {
         steps.push(match step {
             Step::Session { from, to } => Step::Session {
                 from: moved(numbers, *from),

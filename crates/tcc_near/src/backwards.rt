@@ -47,7 +47,7 @@ fn take_in_each(_graph: &Graph, row: &mut [u16], rows: &[Row<u16>], numbers: &[u
     ensures { IsLeastFrom _graph.now (IsNextOrOne _graph.now _from numbers.now) row.new }
 {
     for number in numbers {
-        take_in_one(row, rows[*number as usize].values(), *number);
+        take_in_one(row, rows[*number as usize].as_slice(), *number);
     }
 }
 
@@ -110,7 +110,7 @@ fn are_there(rows: &[Row<u16>], numbers: &[u32], count: usize) -> bool
 {
     for number in numbers {
         match rows.get(*number as usize) {
-            Some(row) if row.values().len() == count => {}
+            Some(row) if row.as_slice().len() == count => {}
             _ => return false,
         }
     }
@@ -134,7 +134,7 @@ fn row_of_head(
     requires run { IsLeastFrom graph.now (IsSessionPair graph.now head) run.now }
     ensures { IfOk result (HasLengths (causally graph.now) head) }
 {
-    let next = readers[head as usize].values();
+    let next = readers[head as usize].as_slice();
     if are_there(rows, next, ends.len()) {
         row_over(alloc, graph, run, rows, next, head)
     } else {
@@ -157,7 +157,7 @@ fn next_session(
         if *head == 0 {
             continue;
         }
-        if are_there(rows, readers[*head as usize].values(), count) {
+        if are_there(rows, readers[*head as usize].as_slice(), count) {
             return Some(session);
         }
         open = Some(session);
@@ -225,9 +225,9 @@ fn rows_of_sessions(
             return Ok(rows);
         };
         let head = heads[session];
-        let run = runs[session].values();
+        let run = runs[session].as_slice();
         let row = row_of_head(alloc, graph, ends, readers, &rows, run, head)?;
-        runs[session] = next_run(alloc, graph, run, row.values(), head)?;
+        runs[session] = next_run(alloc, graph, run, row.as_slice(), head)?;
         heads[session] = previous(ends, head);
         rows[head as usize] = row;
     }
@@ -247,7 +247,7 @@ pub(crate) fn rows_backwards(
 {
     let mut rows = rows_of_sessions(alloc, graph, ends, readers)?;
     for source in 0..ends.len() {
-        if rows[source].values().len() == ends.len() {
+        if rows[source].as_slice().len() == ends.len() {
             continue;
         }
         rows[source] = lengths_from(alloc, graph, ends, readers, source as u32)?;

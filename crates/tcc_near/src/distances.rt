@@ -65,7 +65,7 @@ impl Near {
         ensures value { result.now ≡ row_of self.now.rows a }
         ensures long { length result.now ≡ length self.now.rows }
     {
-        self.rows[a as usize].values()
+        self.rows[a as usize].as_slice()
     }
 
     /// The rows as they came, for those who keep them in another form.

@@ -111,7 +111,7 @@ pub(crate) fn take_in(
     ensures each { (b : ℕ) → (is_marked words.new b ≡ true) ↔ ((is_marked words.old b ≡ true) ⊎ (causal_pair _graph.now from b ≡ true)) }
 {
     mark_later(words, suffixes, from + 1, ends[from as usize]);
-    mark_each(words, readers[from as usize].values());
+    mark_each(words, readers[from as usize].as_slice());
 }
 
 /// The marks of the transactions to which a causal pair leads from this one, with the suffixes of sessions that they have.

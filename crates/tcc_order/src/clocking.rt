@@ -63,7 +63,7 @@ fn clock_row(
 {
     let mut row = vec![in alloc; 0; graph.sessions().len()]?;
     for number in numbers {
-        raise_each(&mut row, table[*number as usize].values());
+        raise_each(&mut row, table[*number as usize].as_slice());
         raise_one(&mut row, graph, *number);
     }
     Ok(Row::new(row))

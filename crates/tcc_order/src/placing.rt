@@ -80,7 +80,7 @@ fn missing(
     if let Some(source) = missing_source(graph.reads_at(x), placed) {
         return Some(source);
     }
-    missing_of(kept[x as usize].values(), placed)
+    missing_of(kept[x as usize].as_slice(), placed)
 }
 
 /// The least number that may be placed next. What is held back waits from now on for one that holds it back.
@@ -177,7 +177,7 @@ pub(crate) fn first_placing(
             return Ok(None);
         };
         mark(&mut placed, next as usize);
-        wake(&mut ready, waiting[next as usize].values())?;
+        wake(&mut ready, waiting[next as usize].as_slice())?;
         ready.push(onward(parents, next))?;
         order.push(next)?;
     }

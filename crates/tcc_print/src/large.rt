@@ -23,7 +23,7 @@ fn link_steps(link: &Link) -> usize
 {
     match link {
         Link::Session { .. } | Link::Reads { .. } => 1,
-        Link::Derived { walk, .. } => walk.steps().len() + 1,
+        Link::Derived { walk, .. } => walk.as_slice().len() + 1,
     }
 }
 

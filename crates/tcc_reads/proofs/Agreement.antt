@@ -68,15 +68,15 @@ kind_in (ReadsFrom number) = None
 kind_in Silent = None
 
 report : Stand → ℕ → Op → ReadFaultKind → ReadFault
-report stand place op kind =
-    record { session = stand.name; place = stand.place; op = place; key = op_key op; value = op_value op; kind = kind }
+report stand position op kind =
+    record { session = stand.name; place = stand.place; op = position; key = op_key op; value = op_value op; kind = kind }
 
-fault_in-kind : (stand : Stand) (place : ℕ) (op : Op) (judgement : OpJudgement)
-    → fault_in stand place op judgement ≡ option_map (report stand place op) (kind_in judgement)
+fault_in-kind : (stand : Stand) (position : ℕ) (op : Op) (judgement : OpJudgement)
+    → fault_in stand position op judgement ≡ option_map (report stand position op) (kind_in judgement)
 unfolding report
-fault_in-kind stand place op (Faulty kind) = refl
-fault_in-kind stand place op (ReadsFrom number) = refl
-fault_in-kind stand place op Silent = refl
+fault_in-kind stand position op (Faulty kind) = refl
+fault_in-kind stand position op (ReadsFrom number) = refl
+fault_in-kind stand position op Silent = refl
 
 module _ (n : Numbered) (before : List Op) (op : Op) (after : List Op) where
   abbrev site : Site

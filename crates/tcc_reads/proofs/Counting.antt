@@ -11,7 +11,7 @@ use Rattle.tcc_txn.specs.Transactions.{Transaction}
 use Rattle.tcc_reads.specs.Sites.{Stand, stands_in, stands_from}
 use Rattle.tcc_reads.specs.private.Numbers.{next_number, numbered_from}
 
--- some parts from a place on
+-- some parts from an index on
 pub drop_part : (parts : List (List ℕ × VecOf Transaction)) (i : ℕ) (part : List ℕ × VecOf Transaction) → i < length parts → part ≡ get_or parts i part
     → drop i (parts_of parts) ≡ (part.0, part.1.items) ∷ drop (i + 1) (parts_of parts)
 drop_part [] i part within is = absurd (omega arith)

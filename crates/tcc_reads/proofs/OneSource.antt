@@ -303,9 +303,9 @@ module _ (s : Sessions) (none : read_faults s ≡ []) where
 
           meets : i + 1 ≡ n → is_same_transaction first.stand reader ≡ true
           meets e =
-              let place : i ≡ number.0 = omega (arith, e, number.2) in
+              let index : i ≡ number.0 = omega (arith, e, number.2) in
               let same : first.stand ≡ reader =
-              sym at ∙ get_or_default (committed (stands s)) i first.stand reader l ∙ ap (λ (k : ℕ). get_or (committed (stands s)) k reader) place
+              sym at ∙ get_or_default (committed (stands s)) i first.stand reader l ∙ ap (λ (k : ℕ). get_or (committed (stands s)) k reader) index
               ∙ number.3 in
               subst (λ (z : Stand). is_same_transaction first.stand z ≡ true) same (same_true first.stand)
 

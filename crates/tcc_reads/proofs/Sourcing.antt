@@ -164,10 +164,10 @@ no_append : {A : Type 0} (xs ys : List A) → xs ++ ys ≡ [] → (xs ≡ []) ×
 no_append [] ys e = (refl, e)
 no_append (x ∷ xs) ys e = cc
 
-no_kind : (stand : Stand) (place : ℕ) (op : Op) (judgement : OpJudgement) → fault_in stand place op judgement ≡ None → kind_in judgement ≡ None
-no_kind stand place op (Faulty kind) e = cc
-no_kind stand place op (ReadsFrom number) e = refl
-no_kind stand place op Silent e = refl
+no_kind : (stand : Stand) (position : ℕ) (op : Op) (judgement : OpJudgement) → fault_in stand position op judgement ≡ None → kind_in judgement ≡ None
+no_kind stand position op (Faulty kind) e = cc
+no_kind stand position op (ReadsFrom number) e = refl
+no_kind stand position op Silent e = refl
 
 module _ (all : List Stand) (table : List ℕ → ℕ → Option Writer)
     (known : (x : List ℕ) (v : ℕ) (first : Writer) (m : ℕ) → table x v ≡ Some first → first.number ≡ Some m → first.last ≡ true
@@ -214,10 +214,10 @@ module _ (all : List Stand) (table : List ℕ → ℕ → Option Writer)
         | false ↦ λ quiet. found_source n key value quiet
       ] none
 
-  write_source : (n : Numbered) (key : List ℕ) (value place : ℕ) (found : Option Writer) → source_in (Put key value) (write_judgement n place found) ≡ None
-  write_source n key value place None = refl
-  write_source n key value place (Some first) =
-      elim (is_in n first && (first.op == place)) as (λ b. source_in (Put key value) (cond b Silent (Faulty Duplicate)) ≡ None) [ true ↦ refl | false ↦ refl ]
+  write_source : (n : Numbered) (key : List ℕ) (value position : ℕ) (found : Option Writer) → source_in (Put key value) (write_judgement n position found) ≡ None
+  write_source n key value position None = refl
+  write_source n key value position (Some first) =
+      elim (is_in n first && (first.op == position)) as (λ b. source_in (Put key value) (cond b Silent (Faulty Duplicate)) ≡ None) [ true ↦ refl | false ↦ refl ]
 
   site_source : (n : Numbered) → n.stand.txn.committed ≡ true → (before : List Op) (op : Op) (after : List Op)
       → let one : Site = record { stand = n.stand; before = before; op = op; after = after } in

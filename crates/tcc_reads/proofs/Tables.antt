@@ -44,12 +44,12 @@ put_visible old new key value before updates own x =
     ∙ sym (visible_write-push x before (Put key value))
 
 -- an own write is silent
-pub own_is_silent : (table : Writes) (n : Numbered) (before after : List Op) (op : Op) (place : ℕ)
-    → length before + 1 ≡ place → AreOwnIn table n before (op ∷ after) → IsOwn table n place op
-own_is_silent table n before after (Get key value) place counted own = tt
-own_is_silent table n before after (Put key value) place counted own =
-    ap (write_judgement n place) own.0
-    ∙ (λ i. cond ((numbers_same n.stand.session i && numbers_same n.stand.place i) && ((ap (λ k. k == place) counted ∙ numbers_same place) i)) Silent
+pub own_is_silent : (table : Writes) (n : Numbered) (before after : List Op) (op : Op) (position : ℕ)
+    → length before + 1 ≡ position → AreOwnIn table n before (op ∷ after) → IsOwn table n position op
+own_is_silent table n before after (Get key value) position counted own = tt
+own_is_silent table n before after (Put key value) position counted own =
+    ap (write_judgement n position) own.0
+    ∙ (λ i. cond ((numbers_same n.stand.session i && numbers_same n.stand.place i) && ((ap (λ k. k == position) counted ∙ numbers_same position) i)) Silent
     (Faulty Duplicate))
 
 pub own_after : (table : Writes) (n : Numbered) (before after : List Op) (op : Op)

@@ -1,4 +1,4 @@
--- Names and pairs that tie, and lists that are read at a place.
+-- Names and pairs that tie, and lists that are read at an index.
 use Rattle.std.proofs.Common.{◌≡◌, ℕ, ◌+◌, ◌-◌, ◌<◌, ◌≤◌, Bool, true, false, cond, ◌||◌, List, []}
 use Rattle.std.proofs.Common.{◌∷◌, ◌++◌, length, get_or, take, drop, refl, ap, sym, ◌∙◌, arith}
 use Rattle.std.proofs.lemmas.List.{drop_more, take_more, length-take}
@@ -30,30 +30,30 @@ pub cond_or : (b c : Bool) → cond b true c ≡ (b || c)
 cond_or true c = refl
 cond_or false c = refl
 
--- what a list is around the item before a place
-pub record IsReadBefore {A : Type 0} (xs : List A) (place : ℕ) (x : A) : Type 0 where
-  pub ahead : drop (place - 1) xs ≡ x ∷ drop place xs
-  pub behind : take (place - 1) xs ++ x ∷ [] ≡ take place xs
-  pub count : length (take (place - 1) xs) + 1 ≡ place - 1 + 1
+-- what a list is around the item before an index
+pub record IsReadBefore {A : Type 0} (xs : List A) (index : ℕ) (x : A) : Type 0 where
+  pub ahead : drop (index - 1) xs ≡ x ∷ drop index xs
+  pub behind : take (index - 1) xs ++ x ∷ [] ≡ take index xs
+  pub count : length (take (index - 1) xs) + 1 ≡ index - 1 + 1
 
-pub read_before : {A : Type 0} (xs : List A) (place : ℕ) (d x : A) → 0 < place → place ≤ length xs → get_or xs (place - 1) d ≡ x → IsReadBefore xs place x
-read_before xs place d x some within is =
-    let next : place - 1 + 1 ≡ place = omega arith in
+pub read_before : {A : Type 0} (xs : List A) (index : ℕ) (d x : A) → 0 < index → index ≤ length xs → get_or xs (index - 1) d ≡ x → IsReadBefore xs index x
+read_before xs index d x some within is =
+    let next : index - 1 + 1 ≡ index = omega arith in
     record {
-      ahead = drop_more xs (place - 1) d (omega arith) ∙ (λ i. is i ∷ drop (next i) xs);
-      behind = sym (take_more xs (place - 1) d (omega arith) ∙ ap (λ y. take (place - 1) xs ++ y ∷ []) is) ∙ ap (λ k. take k xs) next;
-      count = omega (arith, length-take (place - 1) xs);
+      ahead = drop_more xs (index - 1) d (omega arith) ∙ (λ i. is i ∷ drop (next i) xs);
+      behind = sym (take_more xs (index - 1) d (omega arith) ∙ ap (λ y. take (index - 1) xs ++ y ∷ []) is) ∙ ap (λ k. take k xs) next;
+      count = omega (arith, length-take (index - 1) xs);
     }
 
--- what a list is around the item at a place
-pub record IsReadAt {A : Type 0} (xs : List A) (place : ℕ) (x : A) : Type 0 where
-  pub ahead : drop place xs ≡ x ∷ drop (place + 1) xs
-  pub behind : take (place + 1) xs ≡ take place xs ++ x ∷ []
-  pub count : length (take place xs) ≡ place
+-- what a list is around the item at an index
+pub record IsReadAt {A : Type 0} (xs : List A) (index : ℕ) (x : A) : Type 0 where
+  pub ahead : drop index xs ≡ x ∷ drop (index + 1) xs
+  pub behind : take (index + 1) xs ≡ take index xs ++ x ∷ []
+  pub count : length (take index xs) ≡ index
 
-pub read_at : {A : Type 0} (xs : List A) (place : ℕ) (d x : A) → place < length xs → get_or xs place d ≡ x → IsReadAt xs place x
-read_at xs place d x within is = record {
-  ahead = drop_more xs place d within ∙ ap (λ y. y ∷ drop (place + 1) xs) is;
-  behind = take_more xs place d within ∙ ap (λ y. take place xs ++ y ∷ []) is;
-  count = omega (arith, length-take place xs);
+pub read_at : {A : Type 0} (xs : List A) (index : ℕ) (d x : A) → index < length xs → get_or xs index d ≡ x → IsReadAt xs index x
+read_at xs index d x within is = record {
+  ahead = drop_more xs index d within ∙ ap (λ y. y ∷ drop (index + 1) xs) is;
+  behind = take_more xs index d within ∙ ap (λ y. take index xs ++ y ∷ []) is;
+  count = omega (arith, length-take index xs);
 }

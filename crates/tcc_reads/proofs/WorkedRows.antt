@@ -59,7 +59,7 @@ pub duplicate : faults ((a, committed (Put x 1 ∷ []) ∷ []) ∷ (b, aborted (
     ≡ fault b 1 1 x 1 Duplicate ∷ []
 duplicate = refl
 
--- the last write of the key is again of the value that was written over: places count, not values
+-- the last write of the key is again of the value that was written over: positions count, not values
 pub written_again : faults ((a, committed (Put x 1 ∷ Put x 2 ∷ Put x 1 ∷ []) ∷ []) ∷ (b, committed (Get x 1 ∷ []) ∷ []) ∷ [])
     ≡ fault a 1 3 x 1 Duplicate ∷ fault b 1 1 x 1 Intermediate ∷ []
 written_again = refl

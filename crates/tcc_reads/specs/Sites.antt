@@ -43,7 +43,7 @@ pub record Site : Type 0 where
   pub op : Op
   pub after : List Op
 
--- its place in the transaction, from 1
+-- its position in the transaction, from 1
 abbrev pub at : Site → ℕ
 at site = length site.before + 1
 

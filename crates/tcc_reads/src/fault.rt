@@ -36,7 +36,7 @@ pub struct ReadFault {
     pub session: Name,
     /// The place of its transaction in the session, from 1, aborted ones counted.
     pub place: u32,
-    /// Its place in the transaction, from 1.
+    /// Its position in the transaction, from 1.
     pub op: u32,
     /// The key that it reads or writes.
     pub key: Name,

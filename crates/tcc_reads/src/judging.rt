@@ -34,14 +34,14 @@ fn is_in(standing: &Standing<'_>, first: &Writer) -> bool
     first.session == standing.session && first.place == standing.place
 }
 
-/// Of a write at a place of its transaction, from 1, by the first write of its value.
-fn write_judgement(standing: &Standing<'_>, place: u16, writer: Option<&Writer>) -> OpJudgement
-    ensures { result ≡ write_judgement standing.now place (option_copied writer.entry) }
+/// Of a write at a position of its transaction, from 1, by the first write of its value.
+fn write_judgement(standing: &Standing<'_>, position: u16, writer: Option<&Writer>) -> OpJudgement
+    ensures { result ≡ write_judgement standing.now position (option_copied writer.entry) }
 {
     match writer {
         None => OpJudgement::Faulty(ReadFaultKind::Duplicate),
         Some(first) => {
-            if is_in(standing, first) && first.op == place {
+            if is_in(standing, first) && first.op == position {
                 OpJudgement::Silent
             } else {
                 OpJudgement::Faulty(ReadFaultKind::Duplicate)
@@ -70,25 +70,25 @@ fn read_judgement(standing: &Standing<'_>, writer: Option<&Writer>) -> OpJudgeme
     }
 }
 
-/// Of an operation at a place of its transaction, from 1, where `own` has the latest own write of each key. Where no
+/// Of an operation at a position of its transaction, from 1, where `own` has the latest own write of each key. Where no
 /// value was written twice, writes need no look-up.
 fn judgement_of(
     writers: &Writers,
     distinct: bool,
     standing: &Standing<'_>,
-    place: u16,
+    position: u16,
     op: Op,
     own: &BTreeMap<Name, u64>,
 ) -> OpJudgement
-    requires { distinct ≡ true → IsOwn (writers_in writers.now) standing.now place op }
-    ensures { result ≡ op_judgement (writers_in writers.now) standing.now place op (tree.get name_cmp own.now (op_key op)) }
+    requires { distinct ≡ true → IsOwn (writers_in writers.now) standing.now position op }
+    ensures { result ≡ op_judgement (writers_in writers.now) standing.now position op (tree.get name_cmp own.now (op_key op)) }
 {
     match op {
         Op::Put { key, value } => {
             if distinct {
                 OpJudgement::Silent
             } else {
-                write_judgement(standing, place, first_writer(writers, &key, value))
+                write_judgement(standing, position, first_writer(writers, &key, value))
             }
         }
         Op::Get { key, value } => {
@@ -115,16 +115,16 @@ fn judgement_of(
     }
 }
 
-/// Adds what was found out about an operation at a place of its transaction, from 1.
+/// Adds what was found out about an operation at a position of its transaction, from 1.
 fn note(
     standing: &Standing<'_>,
-    place: u16,
+    position: u16,
     op: &Op,
     judgement: OpJudgement,
     faults: &mut Vec<ReadFault>,
     reads: &mut Vec<(Name, u32)>,
 ) -> Result<(), AllocError>
-    ensures fault { OnOk result (faults.new.items ≡ faults.old.items ++ option_to_list (fault_in standing.now.stand place op.now judgement)) }
+    ensures fault { OnOk result (faults.new.items ≡ faults.old.items ++ option_to_list (fault_in standing.now.stand position op.now judgement)) }
     ensures read { OnOk result (reads.new.items ≡ reads.old.items ++ option_to_list (source_in op.now judgement)) }
 {
     match judgement {
@@ -132,7 +132,7 @@ fn note(
             let fault = ReadFault {
                 session: standing.name,
                 place: standing.place,
-                op: u32::from(place),
+                op: u32::from(position),
                 key: op.key(),
                 value: op.value(),
                 kind,
@@ -179,9 +179,9 @@ pub(crate) fn judge(
     own.clear();
     let mut reads = Vec::new(alloc);
     for (before, op) in ops.iter().enumerate() {
-        let place = before as u16 + 1;
-        let judgement = judgement_of(writers, distinct, standing, place, *op, own);
-        note(standing, place, op, judgement, faults, &mut reads)?;
+        let position = before as u16 + 1;
+        let judgement = judgement_of(writers, distinct, standing, position, *op, own);
+        note(standing, position, op, judgement, faults, &mut reads)?;
         put_own(own, *op)?;
     }
     Ok(reads)

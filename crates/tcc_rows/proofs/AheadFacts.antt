@@ -19,7 +19,7 @@ use Rattle.tcc_txn.specs.Limits.{most_bytes}
 use Rattle.tcc_rows.specs.Lines.{Record, is_cut, line_of}
 use Rattle.tcc_rows.specs.Past.{fault_within, item_of}
 use Rattle.tcc_rows.specs.RecordsLeft.{HasLeft, record_of}
-use Rattle.tcc_rows.specs.private.Stages.{TakesRecord, Counts, IsAtLine, TakesFields, TakesStep}
+use Rattle.tcc_rows.specs.private.Stages.{TakesRecord, Counts, IsAtLine, TakesFields, TakesLine}
 use Rattle.tcc_rows.specs.Reached.{StandsIn, row_in, row_reached}
 use Rattle.tcc_rows.specs.Standing.{IsAfter}
 use Rattle.tcc_rows.specs.private.Passing.{PassesOperation}
@@ -262,7 +262,7 @@ module _ (limits : Limits) where
   -- one more line, whatever comes of it
   pub line-taken : {R : Type 0} (remaining : R → Option (List ℕ)) (at new : Rows R) (ahead : Answers) (last : Line) (here : IsAtLine limits remaining at ahead last)
       → new.records ≡ at.records → (result : Result (Option Item) RowFault) → TakesFields limits here.past here.fields result new
-      → TakesStep limits remaining ahead result new
+      → TakesLine limits remaining ahead result new
   line-taken {R = R} remaining at new ahead last here kept result fields = by result fields
     where
       has : HasLeft remaining new.records here.left
@@ -274,7 +274,7 @@ module _ (limits : Limits) where
       going : new.records.stage ≡ records_stage.Going
       going = rw kept here.going
 
-      by : (result : Result (Option Item) RowFault) → TakesFields limits here.past here.fields result new → TakesStep limits remaining ahead result new
+      by : (result : Result (Option Item) RowFault) → TakesFields limits here.past here.fields result new → TakesLine limits remaining ahead result new
       by (Ok None) f =
           let e : ahead ≡ answers_after_within limits (f.0 ∷ here.past) here.left =
           here.answers ∙ lawful here.past here.fields here.left f.0 f.1 ∙ ap (λ o. after_item o (answers_after_within limits (f.0 ∷ here.past) here.left)) (sym f.2) in
@@ -299,11 +299,11 @@ module _ (limits : Limits) where
   pub end-taken : {R : Type 0} (remaining : R → Option (List ℕ)) (new : Rows R) (ahead : Answers) (past : List Line)
       → ahead ≡ answers_after_within limits past [] → (result : Result (Option Item) RowFault)
       → IfErr result (λ fault. fault_at_end past ≡ Some fault) → OnOk result (fault_at_end past ≡ None) → IfOk result (λ given. given ≡ Some item.End)
-      → TakesStep limits remaining ahead result new
+      → TakesLine limits remaining ahead result new
   end-taken remaining new ahead past answers result = by result
     where
       by : (result : Result (Option Item) RowFault) → IfErr result (λ fault. fault_at_end past ≡ Some fault) → OnOk result (fault_at_end past ≡ None)
-          → IfOk result (λ given. given ≡ Some item.End) → TakesStep limits remaining ahead result new
+          → IfOk result (λ given. given ≡ Some item.End) → TakesLine limits remaining ahead result new
       by (Ok given) unfinished closed end = rw end (answers ∙ ap ending closed)
       by (Err fault) unfinished closed end = inl (answers ∙ ap ending unfinished)
 

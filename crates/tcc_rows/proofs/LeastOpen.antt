@@ -103,7 +103,7 @@ none-open test (n ∷ ns) none = by (test n) refl (none-open test ns none)
     by true e rest = absurd (none n e)
     by false e rest = rest
 
--- a session and its place
+-- a session and its seat
 abbrev Entry : Type 0
 Entry = List ℕ × Option (List Op)
 
@@ -185,10 +185,10 @@ least-begun P ((name, Some ops) ∷ es) (Some b) m was each e =
     least-begun P es (Some (lesser b name)) m (λ a at. let one : lesser b name ≡ a = cc at in rw (← one) here) (All-tail (BegunIs P) (name, Some ops) es each) e
 
 module _ (limits : Limits) where
-  -- a session that has begun a transaction has the place of one
-  begun-place : (t : List ℕ) (past : List Line) (seats : Seats) → HoldsSeats limits past seats → is_begun t past ≡ true
+  -- a session that has begun a transaction has the seat of one
+  begun-seat : (t : List ℕ) (past : List Line) (seats : Seats) → HoldsSeats limits past seats → is_begun t past ≡ true
       → get (slice_cmp nat_cmp) seats t ≡ Some (Some (ops_since t past))
-  begun-place t past seats holds begun = holds.each t ∙ rw begun refl
+  begun-seat t past seats holds begun = holds.each t ∙ rw begun refl
 
   open-taken : (o : Option (List Op)) → is_some o ≡ true → (ops : List Op) × (o ≡ Some ops)
   open-taken None e = cc e
@@ -207,7 +207,7 @@ module _ (limits : Limits) where
   fold-is-least past seats holds found = by (fold lower None seats.entries) refl
     where
       under : (t : List ℕ) → is_begun t past ≡ true → (m : List ℕ) × (fold lower None seats.entries ≡ Some m) × IsUpTo m t
-      under t begun = least-under seats.entries None t (ops_since t past) (sym (lookup-same t seats.entries) ∙ begun-place t past seats holds begun)
+      under t begun = least-under seats.entries None t (ops_since t past) (sym (lookup-same t seats.entries) ∙ begun-seat t past seats holds begun)
 
       none : fold lower None seats.entries ≡ None → (t : List ℕ) → is_begun t past ≡ true → ⊥
       none f t begun = let (m, there, up_to) = under t begun in cc (f, there)

@@ -57,14 +57,14 @@ digits_of-parsed bytes r parsed unsigned = by bytes r (parse_plain (numerals_by_
     by (c ∷ cs) (Err e) is =
         sym (digits-by _ _ _ (λ digits small. is (digits, omega arith, below _ _ small)))
 
--- each place of a record has a field
-pub field-there : {A : Type 0} (f : A → List ℕ) (o : Option A) (fields : Record) (place : ℕ) → place < length fields
-    → option_map f o ≡ field_at fields place → IsSome o
+-- a record has a field at each index below its length
+pub field-there : {A : Type 0} (f : A → List ℕ) (o : Option A) (fields : Record) (index : ℕ) → index < length fields
+    → option_map f o ≡ field_at fields index → IsSome o
 unfolding field_at
-field-there f (Some a) fields place within e = search rules
-field-there f None [] place within e = absurd (omega arith)
+field-there f (Some a) fields index within e = search rules
+field-there f None [] index within e = absurd (omega arith)
 field-there f None (field ∷ fields) zero within e = cc e
-field-there f None (field ∷ fields) (suc place) within e = field-there f None fields place (omega arith) e
+field-there f None (field ∷ fields) (suc index) within e = field-there f None fields index (omega arith) e
 
 -- a record of one field, of two and of four
 pub one-field : (fields : Record) (a : List ℕ) → length fields ≡ 1 → Some a ≡ field_at fields 0 → a ∷ [] ≡ fields

@@ -72,7 +72,7 @@ begun-seen q (line.Finish s committed ∷ past) e = by (same s q) e (begun-seen 
     by false e more = more e
 begun-seen q (line.Operation s op ∷ past) e = begun-seen q past e
 
--- what the places of the sessions say
+-- what the seats of the sessions say
 pub seat-free : (begun : Bool) (ops : List Op) (seen : Bool) → seat begun ops seen ≡ Some None → (begun ≡ false) × (seen ≡ true)
 seat-free true ops seen e = cc e
 seat-free false ops true e = (refl, refl)
@@ -88,7 +88,7 @@ seat-taken true ops seen o e = (refl, cc e)
 seat-taken false ops true o e = cc e
 seat-taken false ops false o e = cc e
 
--- the place of a session after one more line
+-- the seat of a session after one more line
 pub seat-begun : (s q : List ℕ) (past : List Line) → seat_of q (line.Begin s ∷ past) ≡ cond (same s q) (Some (Some [])) (seat_of q past)
 seat-begun s q past = by (same s q) refl
   where

@@ -140,7 +140,7 @@ next_record-shorter s (c ∷ rest) p between e =
     by true t e = let at : rest ≡ p.2 = some-rest _ _ _ p e in omega (arith, ap length at)
     by false t e = let h : length p.2 ≤ length rest = (next_record-leaves _ _ _ rest p e).shorter in omega arith
 
--- with bytes enough for each record that there may be, the number of turns makes no difference
+-- with bytes enough for each record that there may be, how many turns there are makes no difference
 records_from-turns : (m n : ℕ) (s : State) (text : List ℕ) → ends_at_end s ≡ false → length text < m → length text < n
     → records_from default_config m s text ≡ records_from default_config n s text
 unfolding records_from

@@ -29,14 +29,14 @@ use Rattle.tcc_rows.proofs.PastFacts.{same-itself, seat-operated, seen-noted, se
 use Rattle.tcc_rows.proofs.PastFacts.{with_name-new, with_name-seen}
 use Rattle.tcc_txn.specs.declared.limits.TheConstants.{MAX_OPERATIONS}
 
--- an operation that has its place
-pub record Placed (past : List Line) (s : List ℕ) (op : Op) (old : Progress) (seats : Seats) : Type 0 where
+-- an operation that has its seat
+pub record Seated (past : List Line) (s : List ℕ) (op : Op) (old : Progress) (seats : Seats) : Type 0 where
   pub begun : is_begun s past ≡ true
   pub room : length (ops_since s past) < MAX_OPERATIONS
   pub updates : Updates (slice_cmp nat_cmp) old.sessions seats s (Some (Some (ops_since s past ++ op ∷ [])))
   pub count : btree_map_len seats ≡ btree_map_len old.sessions
 
--- what the map has after a place was put there
+-- what the map has after a seat was put there
 put : (old new : Seats) (s : List ℕ) (w : Option (Option (List Op))) → Updates (slice_cmp nat_cmp) old new s w → (q : List ℕ)
     → get (slice_cmp nat_cmp) new q ≡ cond (same s q) w (get (slice_cmp nat_cmp) old q)
 put old new s w updates q = updates.0 q ∙ ap (λ b. cond b w (get (slice_cmp nat_cmp) old q)) (sym (texts_ties s q))
@@ -72,18 +72,18 @@ module _ (limits : Limits) where
       → contains (slice_cmp nat_cmp) set key ≡ true → HoldsNames limits (with_name key names) set
   names-kept names key set holds there = rw (with_name-seen key names (sym (holds.each key) ∙ there)) holds
 
-  -- what a look at the place of a session says of a begin
+  -- what a look at the seat of a session says of a begin
   pub begins-again : (past : List Line) (s : List ℕ) (seats : Seats) → HoldsSeats limits past seats
       → get (slice_cmp nat_cmp) seats s ≡ Some None → (is_begun s past ≡ false) × (length (with_name s (sessions past)) ≤ most_sessions limits)
   begins-again past s seats holds there =
-      let place = seat-free _ _ _ (sym (holds.each s) ∙ there) in
-      (place.0, rw (with_name-seen s (sessions past) place.1) holds.few)
+      let free = seat-free _ _ _ (sym (holds.each s) ∙ there) in
+      (free.0, rw (with_name-seen s (sessions past) free.1) holds.few)
 
   pub begins-first : (past : List Line) (s : List ℕ) (seats : Seats) → HoldsSeats limits past seats
       → get (slice_cmp nat_cmp) seats s ≡ None → (is_begun s past ≡ false) × (length (with_name s (sessions past)) ≡ btree_map_len seats + 1)
   begins-first past s seats holds absent =
-      let place = seat-none _ _ _ (sym (holds.each s) ∙ absent) in
-      (place.0, rw (with_name-new s (sessions past) place.1) (omega (arith, holds.count)))
+      let free = seat-none _ _ _ (sym (holds.each s) ∙ absent) in
+      (free.0, rw (with_name-new s (sessions past) free.1) (omega (arith, holds.count)))
 
   pub begun-there : (past : List Line) (s : List ℕ) (seats : Seats) (ops : List Op) → HoldsSeats limits past seats
       → get (slice_cmp nat_cmp) seats s ≡ Some (Some ops) → (is_begun s past ≡ true) × (ops_since s past ≡ ops)
@@ -141,8 +141,8 @@ module _ (limits : Limits) where
       → btree_map_len new.sessions ≡ btree_map_len old.sessions
       → new.keys ≡ old.keys → new.begun ≡ old.begun → new.seals ≡ old.seals → new.limits ≡ old.limits
       → (fault_within limits past (line.Finish s committed) ≡ None) × IsAfter limits (line.Finish s committed ∷ past) new
-  after-finish past s committed ops old new is place updates same_number keys_kept begun_kept seals_kept limits_kept =
-      let taken = seat-taken _ _ _ _ (sym (is.seats.each s) ∙ place) in (
+  after-finish past s committed ops old new is sits updates same_number keys_kept begun_kept seals_kept limits_kept =
+      let taken = seat-taken _ _ _ _ (sym (is.seats.each s) ∙ sits) in (
         rw taken.0 refl,
         record {
           kept = limits_kept ∙ is.kept;
@@ -170,15 +170,15 @@ module _ (limits : Limits) where
   pub operation-refused : (past : List Line) (s : List ℕ) (op : Op) (k : RowFaultKind) (begun : Option (List Op)) (seats : Seats) (new : Option (List Op))
       → HoldsSeats limits past seats → get (slice_cmp nat_cmp) seats s ≡ Some begun → AddsOp {U = Unit {0}} op begun (Err k) new
       → (fault_within limits past (line.Operation s op) ≡ Some k) ⊎ (k ≡ kind.NoMemory)
-  operation-refused past s op k None seats new holds place refused =
-      let free = seat-free _ _ _ (sym (holds.each s) ∙ place) in
+  operation-refused past s op k None seats new holds sits refused =
+      let free = seat-free _ _ _ (sym (holds.each s) ∙ sits) in
       inl (rw (free.0, refused) refl)
-  operation-refused past s op k (Some ops) seats new holds place (inl full) =
-      let there = begun-there past s seats ops holds place in
+  operation-refused past s op k (Some ops) seats new holds sits (inl full) =
+      let there = begun-there past s seats ops holds sits in
       let many : nat_lt MAX_OPERATIONS (length (ops_since s (line.Operation s op ∷ past))) ≡ true =
       above _ _ (omega (arith, more-ops past s op, ap length there.1, full.1)) in
       inl (rw (there.0, many, full.0) refl)
-  operation-refused past s op k (Some ops) seats new holds place (inr want) = inr want
+  operation-refused past s op k (Some ops) seats new holds sits (inr want) = inr want
 
   fault-of-key : (past : List Line) (s : List ℕ) (op : Op) → is_begun s past ≡ true → length (ops_since s past) < MAX_OPERATIONS
       → fault_within limits past (line.Operation s op) ≡ cond (nat_lt (most_keys limits) (length (with_name (op_key op) (keys past)))) (Some kind.TooManyKeys) None
@@ -186,18 +186,18 @@ module _ (limits : Limits) where
       let few : nat_lt MAX_OPERATIONS (length (ops_since s (line.Operation s op ∷ past))) ≡ false = within _ _ (omega (arith, more-ops past s op)) in
       rw (begun, few) refl
 
-  -- what comes of an operation that has its place, by whether its key can be noted
+  -- what comes of an operation that has its seat, by whether its key can be noted
   pub after-operation : {U : Type 0} (past : List Line) (s : List ℕ) (op : Op) (old : Progress) (seats : Seats) (names : NameSet) (result : Result U RowFaultKind)
-      → IsAfter limits past old → Placed past s op old seats → NotesName limits (keys past) (op_key op) result names
+      → IsAfter limits past old → Seated past s op old seats → NotesName limits (keys past) (op_key op) result names
       → PassesLine limits past (line.Operation s op) result (record { limits = old.limits; sessions = seats; keys = names; begun = old.begun; seals = old.seals })
-  after-operation past s op old seats names (Ok done) is placed noted =
+  after-operation past s op old seats names (Ok done) is seated noted =
       let few : nat_lt (most_keys limits) (length (with_name (op_key op) (keys past))) ≡ false = within _ _ noted.few in (
-        fault-of-key past s op placed.begun placed.room ∙ rw few refl,
+        fault-of-key past s op seated.begun seated.room ∙ rw few refl,
         record {
           kept = is.kept;
           seats = record {
-            each = λ q. put old.sessions seats s (Some (Some (ops_since s past ++ op ∷ []))) placed.updates q ∙ rw (is.seats.each q) (sym (seat-operated s q op past placed.begun));
-            count = placed.count ∙ is.seats.count;
+            each = λ q. put old.sessions seats s (Some (Some (ops_since s past ++ op ∷ []))) seated.updates q ∙ rw (is.seats.each q) (sym (seat-operated s q op past seated.begun));
+            count = seated.count ∙ is.seats.count;
             few = is.seats.few;
           };
           names = noted;
@@ -207,20 +207,20 @@ module _ (limits : Limits) where
           few_sealed = is.few_sealed;
         },
       )
-  after-operation past s op old seats names (Err k) is placed (inl many) =
+  after-operation past s op old seats names (Err k) is seated (inl many) =
       let over : nat_lt (most_keys limits) (length (with_name (op_key op) (keys past))) ≡ true = above _ _ many.1 in
-      inl (fault-of-key past s op placed.begun placed.room ∙ rw (over, many.0) refl)
-  after-operation past s op old seats names (Err k) is placed (inr want) = inr want
+      inl (fault-of-key past s op seated.begun seated.room ∙ rw (over, many.0) refl)
+  after-operation past s op old seats names (Err k) is seated (inr want) = inr want
 
-  -- an operation that was added has its place
-  pub placed-added : {U : Type 0} (past : List Line) (s : List ℕ) (op : Op) (old : Progress) (seats : Seats) (begun new : Option (List Op)) (done : U)
+  -- an operation that was added has its seat
+  pub seated-added : {U : Type 0} (past : List Line) (s : List ℕ) (op : Op) (old : Progress) (seats : Seats) (begun new : Option (List Op)) (done : U)
       → IsAfter limits past old → get (slice_cmp nat_cmp) old.sessions s ≡ Some begun → AddsOp op begun (Ok done) new
       → (IsSome (get (slice_cmp nat_cmp) old.sessions s) → Updates (slice_cmp nat_cmp) old.sessions seats s (Some new)) → btree_map_len seats ≡ btree_map_len old.sessions
-      → Placed past s op old seats
-  placed-added past s op old seats None new done is place added updates count = absurd added
-  placed-added past s op old seats (Some ops) new done is place added updates count =
-      let there = begun-there past s old.sessions ops is.seats place in
-      let found : IsSome (get (slice_cmp nat_cmp) old.sessions s) = rw place (search rules) in
+      → Seated past s op old seats
+  seated-added past s op old seats None new done is sits added updates count = absurd added
+  seated-added past s op old seats (Some ops) new done is sits added updates count =
+      let there = begun-there past s old.sessions ops is.seats sits in
+      let found : IsSome (get (slice_cmp nat_cmp) old.sessions s) = rw sits (search rules) in
       record {
         begun = there.0;
         room = rw there.1 added.0;

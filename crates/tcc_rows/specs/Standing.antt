@@ -16,18 +16,18 @@ use Rattle.tcc_rows.specs.Line.{Line}
 use Rattle.tcc_rows.specs.Line as line
 use Rattle.tcc_rows.specs.declared.rows.progress.Progress.{Progress}
 
--- a session's place: none before its first begin; then the operations of its transaction, if one is begun
+-- a session's seat: none before its first begin; then the operations of its transaction, if one is begun
 abbrev pub seat : Bool → List Op → Bool → Option (Option (List Op))
 seat begun ops seen = if begun then Some (Some ops) else if seen then Some None else None
 
 abbrev pub seat_of : List ℕ → List Line → Option (Option (List Op))
 seat_of name past = seat (is_begun name past) (ops_since name past) (list_any (same name) (sessions past))
 
--- a place for each of some sessions
+-- a seat for each of some sessions
 abbrev pub Seats : Type 0
 Seats = BTreeMap (List ℕ) (Option (List Op))
 
--- the map has a place for each session so far, of which there are not too many
+-- the map has a seat for each session so far, of which there are not too many
 pub record HoldsSeats (limits : Limits) (past : List Line) (seats : Seats) : Type 0 where
   pub each : (name : List ℕ) → get (slice_cmp nat_cmp) seats name ≡ seat_of name past
   pub count : btree_map_len seats ≡ length (sessions past)

@@ -125,12 +125,12 @@ impl<R: Read + Drop, B: Bounds> RecordingWithin<R, B> {
         Err(self.rows.give_up(RowFaultKind::NoMemory))
     }
 
-    /// The field at the place, counted from 0, of the record that was read last: of the one with the fault, where its row is
+    /// The field at an index, counted from 0, of the record that was read last: of the one with the fault, where its row is
     /// that of a record.
-    pub fn last_field(&self, place: usize) -> Option<&[u8]>
-        ensures { option_map (λ field. field.now) result ≡ field_at (last_record self.now.rows) place }
+    pub fn last_field(&self, index: usize) -> Option<&[u8]>
+        ensures { option_map (λ field. field.now) result ≡ field_at (last_record self.now.rows) index }
     {
-        self.rows.last_field(place)
+        self.rows.last_field(index)
     }
 
     /// What was finished so far.

@@ -74,11 +74,11 @@ impl<R: Read + Drop> Rows<R> {
     ghost use Rattle.tcc_rows.specs.private.Failing.{FailsIn};
     ghost use Rattle.tcc_rows.specs.Midway.{IsMidway};
     ghost use Rattle.tcc_rows.specs.Lines.{Record, is_cut, line_of};
-    ghost use Rattle.tcc_rows.specs.private.StagesAfter.{stage_after_step};
+    ghost use Rattle.tcc_rows.specs.private.StagesAfter.{stage_after_line};
     ghost use Rattle.tcc_rows.specs.Reached.{HasGivenUp, IsWithin, ReaderFailed, StandsBy, StandsIn, last_record, row_reached};
     ghost use Rattle.tcc_rows.specs.Recordings.{after_items};
     ghost use Rattle.tcc_rows.specs.declared.rows.Item.{Item};
-    ghost use Rattle.tcc_rows.specs.private.Stages.{LeavesIn, MeetsLine, TakesFields, TakesItem, TakesStep};
+    ghost use Rattle.tcc_rows.specs.private.Stages.{LeavesIn, MeetsLine, TakesFields, TakesItem, TakesLine};
     ghost use Rattle.tcc_rows.specs.declared.rows.records.RecordsStage.TheVariants as records_stage;
 
     /// The rows of what the reader gives; it is gone where memory is refused.
@@ -145,11 +145,11 @@ impl<R: Read + Drop> Rows<R> {
         }
     }
 
-    /// The field at the place, counted from 0, of the record that was read last.
-    pub fn last_field(&self, place: usize) -> Option<&[u8]>
-        ensures { option_map (λ field. field.now) result ≡ field_at (last_record self.now) place }
+    /// The field at an index, counted from 0, of the record that was read last.
+    pub fn last_field(&self, index: usize) -> Option<&[u8]>
+        ensures { option_map (λ field. field.now) result ≡ field_at (last_record self.now) index }
     {
-        self.records.field(place)
+        self.records.field(index)
     }
 
     /// Keeps the fault for all later answers.
@@ -194,7 +194,7 @@ impl<R: Read + Drop> Rows<R> {
             → MatchResult result (λ given. StandsBy self.new.stage R.remaining self.new.records all) (λ fault. self.new.records.count ≤ length all) }
     {
         'records: loop {
-            match self.step(alloc) {
+            match self.pass_line(alloc) {
                 Ok(Some(item)) => return Ok(item),
                 Ok(None) => {}
                 Err(fault) => return Err(fault),
@@ -203,10 +203,10 @@ impl<R: Read + Drop> Rows<R> {
     }
 
     /// Goes past one line that is no operation, or to the end.
-    fn step(&mut self, alloc: Global) -> Result<Option<Item>, RowFault>
+    fn pass_line(&mut self, alloc: Global) -> Result<Option<Item>, RowFault>
         requires { self.old.stage ≡ Stage.Reading }
-        ensures step { (limits : Limits) (ahead : Answers) → IsMidway limits R.remaining self.old ahead → TakesStep limits R.remaining ahead result self.new }
-        ensures stage { IfOk result (λ given. self.new.stage ≡ stage_after_step given) }
+        ensures line { (limits : Limits) (ahead : Answers) → IsMidway limits R.remaining self.old ahead → TakesLine limits R.remaining ahead result self.new }
+        ensures stage { IfOk result (λ given. self.new.stage ≡ stage_after_line given) }
         ensures row { IfErr result (λ fault. fault.row ≡ row_reached self.new) }
         ensures read { IfErr result (λ fault. fault.kind ≡ RowFaultKind.Read → ReaderFailed self.new) }
         ensures failed { IfErr result (λ fault. fault.kind ≡ RowFaultKind.Read → (limits : Limits) (all : List Record) (ahead : Answers)
@@ -259,7 +259,7 @@ impl<R: Read + Drop> Rows<R> {
             → row_reached self.old ≡ length past + 1
             → is_cut fields ≡ false → line_of fields ≡ Ok (line_by turn) → TakesFields limits past fields result self.new }
         ensures records { self.new.records ≡ self.old.records }
-        ensures stage { self.old.stage ≡ Stage.Reading → IfOk result (λ given. self.new.stage ≡ stage_after_step given) }
+        ensures stage { self.old.stage ≡ Stage.Reading → IfOk result (λ given. self.new.stage ≡ stage_after_line given) }
         ensures row { IfErr result (λ fault. fault.row ≡ row_reached self.new) }
         ensures read { IfErr result (λ fault. fault.kind ≢ RowFaultKind.Read) }
         ensures going { self.old.stage ≡ Stage.Reading → OnOk result (self.new.stage ≡ Stage.Reading) }

@@ -18,7 +18,7 @@ use Rattle.std.specs.Global.{Vec}
 use Rattle.std.proofs.lemmas.Cmp.{tied_itself}
 use Rattle.std.proofs.lemmas.Map.Lookups.{exact_bytes}
 use Rattle.tcc_txn.specs.Snapshots.{parts_of}
-use Rattle.tcc_txn.specs.private.SnapshotStorage.{StandsAt, place_in}
+use Rattle.tcc_txn.specs.private.SnapshotStorage.{StandsAt, index_in}
 use Rattle.tcc_txn.specs.Transactions.{Transaction}
 use Rattle.tcc_txn.proofs.SortedParts.{name_cmp, same_names}
 
@@ -54,39 +54,39 @@ sorted-before (e ∷ es) session (suc i) zero d sorted order within before = abs
 sorted-before (e ∷ es) session (suc i) (suc j) d sorted order within before =
     sorted-before es session i j d (both-parts _ _ sorted).1 (omega arith) (omega arith) before
 
--- the place behind all parts that stand before the session
-pub place_in-is : {X : Type 0} (session : List ℕ) (es : List (List ℕ × X)) (i : ℕ) → i ≤ length es
+-- the index behind all parts that stand before the session
+pub index_in-is : {X : Type 0} (session : List ℕ) (es : List (List ℕ × X)) (i : ℕ) → i ≤ length es
     → ((k : ℕ) (d : List ℕ × X) → k < i → is_lt (name_cmp (get_or es k d).0 session) ≡ true)
-    → ((d : List ℕ × X) → i < length es → is_lt (name_cmp (get_or es i d).0 session) ≡ false) → place_in session es ≡ i
-place_in-is session [] i within before after = omega arith
-place_in-is session (e ∷ es) zero within before after = rw (after e (omega arith)) refl
-place_in-is session (e ∷ es) (suc i) within before after =
+    → ((d : List ℕ × X) → i < length es → is_lt (name_cmp (get_or es i d).0 session) ≡ false) → index_in session es ≡ i
+index_in-is session [] i within before after = omega arith
+index_in-is session (e ∷ es) zero within before after = rw (after e (omega arith)) refl
+index_in-is session (e ∷ es) (suc i) within before after =
     rw (before zero e (omega arith))
-    (ap suc (place_in-is session es i (omega arith) (λ k d less. before (suc k) d (omega arith)) (λ d less. after d (omega arith))))
+    (ap suc (index_in-is session es i (omega arith) (λ k d less. before (suc k) d (omega arith)) (λ d less. after d (omega arith))))
 
-pub place_in-within : {X : Type 0} (session : List ℕ) (es : List (List ℕ × X)) → place_in session es ≤ length es
-place_in-within session [] = omega arith
-place_in-within session (e ∷ es) =
-    elim (is_lt (name_cmp e.0 session)) as (λ b. cond b (suc (place_in session es)) 0 ≤ suc (length es)) [
-      | true ↦ (let more = place_in-within session es in omega arith)
+pub index_in-within : {X : Type 0} (session : List ℕ) (es : List (List ℕ × X)) → index_in session es ≤ length es
+index_in-within session [] = omega arith
+index_in-within session (e ∷ es) =
+    elim (is_lt (name_cmp e.0 session)) as (λ b. cond b (suc (index_in session es)) 0 ≤ suc (length es)) [
+      | true ↦ (let more = index_in-within session es in omega arith)
       | false ↦ omega arith
     ]
 
 -- a session that has a part: its part is written over, and is the one that is found
-pub put-present : {X : Type 0} (k : List ℕ) (v : X) (es : List (List ℕ × X)) (d : List ℕ × X) → StandsAt es k (place_in k es)
-    → (put name_cmp k v es ≡ set es (place_in k es) ((get_or es (place_in k es) d).0, v)) × (find name_cmp k es ≡ Some (get_or es (place_in k es) d).1)
+pub put-present : {X : Type 0} (k : List ℕ) (v : X) (es : List (List ℕ × X)) (d : List ℕ × X) → StandsAt es k (index_in k es)
+    → (put name_cmp k v es ≡ set es (index_in k es) ((get_or es (index_in k es) d).0, v)) × (find name_cmp k es ≡ Some (get_or es (index_in k es) d).1)
 put-present k v [] d = λ stands. absurd (omega (arith, stands.0))
 put-present {X} k v (e ∷ es) d = by (name_cmp e.0 k) refl (nat_list_cmp_total.antisymm k e.0) (λ stands. put-present k v es d stands)
   where
     at : Ordering → ℕ
-    at r = cond (is_lt r) (suc (place_in k es)) 0
+    at r = cond (is_lt r) (suc (index_in k es)) 0
 
     apart : Greater ≡ Equal → ⊥
     apart e = cc
 
     by : (r : Ordering) → name_cmp e.0 k ≡ r → name_cmp k e.0 ≡ ordering_reverse (name_cmp e.0 k)
-        → (StandsAt es k (place_in k es) → (put name_cmp k v es ≡ set es (place_in k es) ((get_or es (place_in k es) d).0, v))
-        × (find name_cmp k es ≡ Some (get_or es (place_in k es) d).1))
+        → (StandsAt es k (index_in k es) → (put name_cmp k v es ≡ set es (index_in k es) ((get_or es (index_in k es) d).0, v))
+        × (find name_cmp k es ≡ Some (get_or es (index_in k es) d).1))
         → StandsAt (e ∷ es) k (at r)
         → (by_order (name_cmp k e.0) ((k, v) ∷ e ∷ es) ((e.0, v) ∷ es) (e ∷ put name_cmp k v es) ≡ set (e ∷ es) (at r) ((get_or (e ∷ es) (at r) d).0, v))
         × (cond (is_eq (name_cmp k e.0)) (Some e.1) (find name_cmp k es) ≡ Some (get_or (e ∷ es) (at r) d).1)
@@ -101,17 +101,17 @@ put-present {X} k v (e ∷ es) d = by (name_cmp e.0 k) refl (nat_list_cmp_total.
         let tie : name_cmp e.0 k ≡ Equal = ap (λ name. name_cmp e.0 name) (sym (stands.1 d)) ∙ tied_itself nat_list_cmp_total e.0 in
         absurd (apart (sym is ∙ tie))
 
--- a session without a part: its part goes to its place
-pub put-absent : {X : Type 0} (k : List ℕ) (v : X) (es : List (List ℕ × X)) → (StandsAt es k (place_in k es) → ⊥)
-    → put name_cmp k v es ≡ insert es (place_in k es) (k, v)
+-- a session without a part: its part goes to its index
+pub put-absent : {X : Type 0} (k : List ℕ) (v : X) (es : List (List ℕ × X)) → (StandsAt es k (index_in k es) → ⊥)
+    → put name_cmp k v es ≡ insert es (index_in k es) (k, v)
 put-absent k v [] = λ other. refl
 put-absent {X} k v (e ∷ es) = by (name_cmp e.0 k) refl (nat_list_cmp_total.antisymm k e.0) (λ other. put-absent k v es other)
   where
     at : Ordering → ℕ
-    at r = cond (is_lt r) (suc (place_in k es)) 0
+    at r = cond (is_lt r) (suc (index_in k es)) 0
 
     by : (r : Ordering) → name_cmp e.0 k ≡ r → name_cmp k e.0 ≡ ordering_reverse (name_cmp e.0 k)
-        → ((StandsAt es k (place_in k es) → ⊥) → put name_cmp k v es ≡ insert es (place_in k es) (k, v))
+        → ((StandsAt es k (index_in k es) → ⊥) → put name_cmp k v es ≡ insert es (index_in k es) (k, v))
         → (StandsAt (e ∷ es) k (at r) → ⊥)
         → by_order (name_cmp k e.0) ((k, v) ∷ e ∷ es) ((e.0, v) ∷ es) (e ∷ put name_cmp k v es) ≡ insert (e ∷ es) (at r) (k, v)
     by Less is turned more other =
@@ -137,9 +137,9 @@ length-insert [] (suc i) x = refl
 length-insert (e ∷ es) zero x = omega arith
 length-insert (e ∷ es) (suc i) x = let more = length-insert es i x in omega (arith, more)
 
-pub place_in-parts_of : (session : List ℕ) (es : List (List ℕ × Vec Transaction)) → place_in session (parts_of es) ≡ place_in session es
-place_in-parts_of session [] = refl
-place_in-parts_of session (e ∷ es) = ap (λ n. cond (is_lt (name_cmp e.0 session)) (suc n) 0) (place_in-parts_of session es)
+pub index_in-parts_of : (session : List ℕ) (es : List (List ℕ × Vec Transaction)) → index_in session (parts_of es) ≡ index_in session es
+index_in-parts_of session [] = refl
+index_in-parts_of session (e ∷ es) = ap (λ n. cond (is_lt (name_cmp e.0 session)) (suc n) 0) (index_in-parts_of session es)
 
 pub parts_of-set : (es : List (List ℕ × Vec Transaction)) (i : ℕ) (name : List ℕ) (v : Vec Transaction)
     → parts_of (set es i (name, v)) ≡ set (parts_of es) i (name, v.items)
@@ -211,19 +211,19 @@ stands-not-here es at part session within is other stands =
 
 module _ (es : List (List ℕ × Vec Transaction)) (k : List ℕ) (at : ℕ) where
   -- one more transaction in the session's part
-  pub written : (txn : Transaction) (part : List ℕ × Vec Transaction) (new : Vec Transaction) → at ≡ place_in k (parts_of es) → StandsAt (parts_of es) k at
+  pub written : (txn : Transaction) (part : List ℕ × Vec Transaction) (new : Vec Transaction) → at ≡ index_in k (parts_of es) → StandsAt (parts_of es) k at
       → part ≡ get_or es at part → new.items ≡ part.1.items ++ txn ∷ []
       → parts_of (set es at (part.0, new)) ≡ put name_cmp k (unwrap_or (find name_cmp k (parts_of es)) [] ++ txn ∷ []) (parts_of es)
-  written txn part new place stands is grown =
+  written txn part new index stands is grown =
       let d : List ℕ × List Transaction = (part.0, part.1.items) in
       let here : get_or (parts_of es) at d ≡ d = get_or-parts_of es at part d (omega (arith, stands.0, length-parts_of es)) is in
-      let present = put-present k (unwrap_or (find name_cmp k (parts_of es)) [] ++ txn ∷ []) (parts_of es) d (subst (StandsAt (parts_of es) k) place stands) in
+      let present = put-present k (unwrap_or (find name_cmp k (parts_of es)) [] ++ txn ∷ []) (parts_of es) d (subst (StandsAt (parts_of es) k) index stands) in
       let found : find name_cmp k (parts_of es) ≡ Some part.1.items =
-      present.1 ∙ ap (λ i. Some (get_or (parts_of es) i d).1) (sym place) ∙ ap (λ p. Some p.1) here in
+      present.1 ∙ ap (λ i. Some (get_or (parts_of es) i d).1) (sym index) ∙ ap (λ p. Some p.1) here in
       parts_of-set es at part.0 new
       ∙ ap (λ items. set (parts_of es) at (part.0, items)) (grown ∙ ap (λ o. unwrap_or o [] ++ txn ∷ []) (sym found))
       ∙ ap (λ p. set (parts_of es) at (p.0, unwrap_or (find name_cmp k (parts_of es)) [] ++ txn ∷ [])) (sym here)
-      ∙ ap (λ i. set (parts_of es) i ((get_or (parts_of es) i d).0, unwrap_or (find name_cmp k (parts_of es)) [] ++ txn ∷ [])) place
+      ∙ ap (λ i. set (parts_of es) i ((get_or (parts_of es) i d).0, unwrap_or (find name_cmp k (parts_of es)) [] ++ txn ∷ [])) index
       ∙ sym present.0
 
   -- the part is as it was
@@ -232,22 +232,22 @@ module _ (es : List (List ℕ × Vec Transaction)) (k : List ℕ) (at : ℕ) whe
   unwritten part new is same =
       map-set_same (λ p. (p.0, p.1.items)) es at (part.0, new) part (ap (λ items. (part.0, items)) same ∙ ap (λ p. (p.0, p.1.items)) is)
 
-  pub found-here : at ≡ place_in k (parts_of es) → StandsAt (parts_of es) k at → find name_cmp k (parts_of es) ≡ None → ⊥
-  found-here place stands none =
-      let present = put-present k [] (parts_of es) ([], []) (subst (StandsAt (parts_of es) k) place stands) in
+  pub found-here : at ≡ index_in k (parts_of es) → StandsAt (parts_of es) k at → find name_cmp k (parts_of es) ≡ None → ⊥
+  found-here index stands none =
+      let present = put-present k [] (parts_of es) ([], []) (subst (StandsAt (parts_of es) k) index stands) in
       none-some _ (sym none ∙ present.1)
 
   -- no part is the session's
-  pub missing : at ≡ place_in k (parts_of es) → T (is_sorted name_cmp (parts_of es)) → (StandsAt (parts_of es) k at → ⊥) → find name_cmp k (parts_of es) ≡ None
-  missing place sorted other =
-      let absent = put-absent k [] (parts_of es) (λ stands. other (subst (StandsAt (parts_of es) k) (sym place) stands)) in
-      find-absent k [] (parts_of es) sorted (ap length absent ∙ length-insert (parts_of es) (place_in k (parts_of es)) (k, []))
+  pub missing : at ≡ index_in k (parts_of es) → T (is_sorted name_cmp (parts_of es)) → (StandsAt (parts_of es) k at → ⊥) → find name_cmp k (parts_of es) ≡ None
+  missing index sorted other =
+      let absent = put-absent k [] (parts_of es) (λ stands. other (subst (StandsAt (parts_of es) k) (sym index) stands)) in
+      find-absent k [] (parts_of es) sorted (ap length absent ∙ length-insert (parts_of es) (index_in k (parts_of es)) (k, []))
 
-  pub inserted : (txn : Transaction) → at ≡ place_in k (parts_of es) → T (is_sorted name_cmp (parts_of es)) → (StandsAt (parts_of es) k at → ⊥)
+  pub inserted : (txn : Transaction) → at ≡ index_in k (parts_of es) → T (is_sorted name_cmp (parts_of es)) → (StandsAt (parts_of es) k at → ⊥)
       → insert (parts_of es) at (k, txn ∷ []) ≡ put name_cmp k (unwrap_or (find name_cmp k (parts_of es)) [] ++ txn ∷ []) (parts_of es)
-  inserted txn place sorted other =
-      rw (missing place sorted other) (ap (λ i. insert (parts_of es) i (k, txn ∷ [])) place
-      ∙ sym (put-absent k (txn ∷ []) (parts_of es) (λ stands. other (subst (StandsAt (parts_of es) k) (sym place) stands))))
+  inserted txn index sorted other =
+      rw (missing index sorted other) (ap (λ i. insert (parts_of es) i (k, txn ∷ [])) index
+      ∙ sym (put-absent k (txn ∷ []) (parts_of es) (λ stands. other (subst (StandsAt (parts_of es) k) (sym index) stands))))
 
 pub ok-then : {A E : Type 0} {P Q : Type 0} (r : Result A E) → (P → Q) → OnOk r P → OnOk r Q
 ok-then (Ok a) f p = f p

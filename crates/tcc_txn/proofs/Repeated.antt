@@ -39,7 +39,7 @@ module _ {X : Type 0} (parts : List (List ℕ × X)) (i : ℕ) (part : List ℕ 
       ∙ ap (λ b. b || (pointwise nat_eq q part.0 || false)) (holds q)
       ∙ sym (has_name-more q)
 
-  -- the step at the part
+  -- what the part adds
   pub at_part : (b : Bool) → b ≡ has_name (take i parts) part.0
       → first_repeated (names_of (take i parts)) (names_of (drop i parts))
       ≡ cond b (Some part.0) (first_repeated (names_of (take (i + 1) parts)) (names_of (drop (i + 1) parts)))

@@ -38,7 +38,7 @@ cmp-parts (suc n) (x ∷ xs) [] = refl
 cmp-parts (suc n) (x ∷ xs) (y ∷ ys) =
     ap (ordering_then (nat_cmp x y)) (cmp-parts n xs ys) ∙ then_assoc (nat_cmp x y) _ _
 
--- the order of the eight bytes from a place on
+-- the order of the eight bytes from an index on
 abbrev pub word_cmp : ℕ → List ℕ → List ℕ → Ordering
 word_cmp at xs ys = slice_cmp nat_cmp (take 8 (drop at xs)) (take 8 (drop at ys))
 
@@ -66,7 +66,7 @@ cmp-four xs ys e f =
     (slice_cmp nat_cmp (drop_all 32 xs (omega (arith, e)) i) (drop_all 32 ys (omega (arith, f)) i)))
     ∙ sym (then_equal (ordering_then three (word_cmp 24 xs ys)))
 
--- the number that `high` makes with n bytes from a place on behind it
+-- the number that `high` makes with n bytes from an index on behind it
 abbrev number_from : ℕ → ℕ → ℕ → List ℕ → ℕ
 number_from high at zero bytes = high
 number_from high at (suc n) bytes = number_from (high * 256 + get_or bytes at 0) (suc at) n bytes

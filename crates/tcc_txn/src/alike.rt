@@ -33,8 +33,8 @@ pub fn are_same<T: Alike>(some: &[T], others: &[T]) -> bool
     if some.len() != others.len() {
         return false;
     }
-    for place in 0..some.len() {
-        if !some[place].is_same(&others[place]) {
+    for index in 0..some.len() {
+        if !some[index].is_same(&others[index]) {
             return false;
         }
     }
@@ -48,15 +48,15 @@ fn is_same_part(session: &Name, some: &[Txn], other: &Name, others: &[Txn]) -> b
     session == other && are_same(some, others)
 }
 
-/// Whether each session has the name and the transactions of the one at its place.
+/// Whether each session has the name and the transactions of the one at its index.
 pub(crate) fn are_same_parts(some: &[(Name, Vec<Txn>)], others: &[(Name, Vec<Txn>)]) -> bool
     ensures { IsTrue result → parts_of some.now ≡ parts_of others.now }
 {
     if some.len() != others.len() {
         return false;
     }
-    for place in 0..some.len() {
-        let (one, other) = (&some[place], &others[place]);
+    for index in 0..some.len() {
+        let (one, other) = (&some[index], &others[index]);
         if !is_same_part(&one.0, &one.1, &other.0, &other.1) {
             return false;
         }

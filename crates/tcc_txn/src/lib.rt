@@ -3,6 +3,7 @@
 
 mod alike;
 mod limits;
+mod list;
 mod memory;
 mod name;
 mod op;
@@ -15,6 +16,7 @@ pub use limits::{
     LargeLimits, Limits, MAX_COUNT, MAX_INPUT_BYTES, MAX_KEYS, MAX_NAME_BYTES, MAX_OPERATIONS,
     MAX_SEALS, MAX_SESSIONS, MAX_TRANSACTIONS, SmallLimits,
 };
+pub use list::ListOf;
 pub use memory::NoMemory;
 pub use name::{Name, NameFault};
 pub use op::Op;

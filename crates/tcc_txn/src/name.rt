@@ -92,7 +92,7 @@ fn fault_of(bytes: &[u8]) -> Option<NameFault>
     Some(NameFault::BadByte { at: before + 1 })
 }
 
-/// The eight bytes from a place on as a number, the first of them highest.
+/// The eight bytes from an index on as a number, the first of them highest.
 fn word(buffer: &[u8; MAX_NAME_BYTES], at: usize) -> u64
     requires { at + 8 ≤ MAX_NAME_BYTES }
     ensures { result ≡ from_be_bytes w64 (take 8 (drop at buffer.now)) }
@@ -109,7 +109,7 @@ fn word(buffer: &[u8; MAX_NAME_BYTES], at: usize) -> u64
     ])
 }
 
-/// The order of the eight bytes from a place on.
+/// The order of the eight bytes from an index on.
 fn cmp_word(one: &[u8; MAX_NAME_BYTES], other: &[u8; MAX_NAME_BYTES], at: usize) -> Ordering
     requires { at + 8 ≤ MAX_NAME_BYTES }
     ensures { result ≡ slice_cmp nat_cmp (take 8 (drop at one.now)) (take 8 (drop at other.now)) }

@@ -11,14 +11,14 @@ ghost use Rattle.tcc_txn.specs.Finished.{IsWithinLimits, KeepsLimits, transactio
 ghost use Rattle.tcc_txn.specs.Limits.{most_sessions, most_transactions};
 ghost use Rattle.std.specs.Cmp.Lexicographic.{pointwise, slice_cmp};
 ghost use Rattle.tcc_txn.specs.Snapshots.{parts_of, first_repeated, snapshot_fault, snapshot_fault_within};
-ghost use Rattle.tcc_txn.specs.private.SnapshotStorage.{IsStoredWithin, StandsAt, place_in, shown};
+ghost use Rattle.tcc_txn.specs.private.SnapshotStorage.{IsStoredWithin, StandsAt, index_in, shown};
 ghost use Rattle.tcc_txn.specs.declared.limits.TheConstants.{LARGE_SESSIONS, LARGE_TRANSACTIONS, MAX_SESSIONS, MAX_TRANSACTIONS};
 
 use crate::alike::are_same_parts;
 use crate::{
     Bounds, LargeLimits, Limits, MAX_SESSIONS, MAX_TRANSACTIONS, Name, NoMemory, SmallLimits, Txn,
 };
-use std::alloc::Global;
+use std::alloc::{AllocFailed, Global};
 use std::collections::BTreeSet;
 use std::marker::{Model, PhantomData};
 use thiserror::Error;
@@ -53,6 +53,16 @@ pub enum GrowFault {
     /// Out of memory.
     #[error("out of memory")]
     NoMemory,
+}
+
+impl<T: Drop> From<AllocFailed<T>> for GrowFault {
+    ghost use Rattle.tcc_txn.specs.declared.snapshot.GrowFault.TheVariants.{NoMemory};
+
+    ghost from_gives = { λ _ fault. fault ≡ NoMemory };
+
+    fn from(_refused: AllocFailed<T>) -> GrowFault {
+        GrowFault::NoMemory
+    }
 }
 
 /// What the sessions had finished at one moment, within the limits that `B` stands for: the sessions
@@ -101,7 +111,7 @@ fn is_among(parts: &[(Name, Vec<Txn>)], name: Name) -> bool
 }
 
 /// The first name that an earlier one equals, each compared with all before it.
-fn repeated_by_place(parts: &[(Name, Vec<Txn>)]) -> Option<Name>
+fn repeated_by_pairs(parts: &[(Name, Vec<Txn>)]) -> Option<Name>
     ensures { result ≡ first_repeated [] (map (λ part. part.0) parts.now) }
 {
     for (earlier, part) in parts.iter().enumerate() {
@@ -131,7 +141,7 @@ fn first_repeated(alloc: Global, parts: &[(Name, Vec<Txn>)]) -> Option<Name>
 {
     match repeated_by_order(alloc, parts) {
         Ok(found) => found,
-        Err(_) => repeated_by_place(parts),
+        Err(_) => repeated_by_pairs(parts),
     }
 }
 
@@ -201,7 +211,7 @@ fn in_order(
     Ok(sessions)
 }
 
-/// The part at the place, counted from 0.
+/// The part at the index.
 fn part_at(parts: &[(Name, Vec<Txn>)], i: u32) -> Option<(&Name, &[Txn])>
     ensures { option_map (λ s. (s.0.now, s.1.now)) result ≡ slice_get (parts_of parts.now) i }
 {
@@ -237,14 +247,14 @@ fn copied_parts(
 }
 
 /// How many parts stand before the session.
-fn place_of(parts: &[(Name, Vec<Txn>)], session: &Name) -> usize
+fn index_of(parts: &[(Name, Vec<Txn>)], session: &Name) -> usize
     requires { T (is_sorted (slice_cmp nat_cmp) (parts_of parts.now)) }
-    ensures { result ≡ place_in session.now (parts_of parts.now) }
+    ensures { result ≡ index_in session.now (parts_of parts.now) }
 {
     parts.partition_point(|part| part.0 < *session)
 }
 
-/// Whether the part at the place is the session's.
+/// Whether the part at the index is the session's.
 fn stands_at(parts: &[(Name, Vec<Txn>)], at: usize, session: &Name) -> bool
     ensures stands { result ≡ true → StandsAt (parts_of parts.now) session.now at }
     ensures not { result ≡ false → StandsAt (parts_of parts.now) session.now at → ⊥ }
@@ -255,19 +265,32 @@ fn stands_at(parts: &[(Name, Vec<Txn>)], at: usize, session: &Name) -> bool
     }
 }
 
+/// The index of the session's part, or else the one that it would have.
+fn part_of(parts: &[(Name, Vec<Txn>)], session: &Name) -> Result<usize, usize>
+    requires { T (is_sorted (slice_cmp nat_cmp) (parts_of parts.now)) }
+    ensures { MatchResult result
+        (λ at. (at ≡ index_in session.now (parts_of parts.now)) × StandsAt (parts_of parts.now) session.now at)
+        (λ at. (at ≡ index_in session.now (parts_of parts.now)) × (StandsAt (parts_of parts.now) session.now at → ⊥)) }
+{
+    let at = index_of(parts, session);
+    if stands_at(parts, at, session) {
+        Ok(at)
+    } else {
+        Err(at)
+    }
+}
+
 /// One more transaction at the end.
 fn push(txns: &mut Vec<Txn>, txn: Txn) -> Result<(), GrowFault>
     ensures pushed { OnOk result (txns.new.items ≡ txns.old.items ++ txn ∷ []) }
     ensures kept { OnErr result (txns.new.items ≡ txns.old.items) }
     ensures refused { IfErr result (λ k. k ≡ GrowFault.NoMemory) }
 {
-    match txns.push(txn) {
-        Ok(()) => Ok(()),
-        Err(_) => Err(GrowFault::NoMemory),
-    }
+    txns.push(txn)?;
+    Ok(())
 }
 
-/// The first transaction of a session, whose part goes to the place.
+/// The first transaction of a session, whose part goes to the index.
 fn insert(
     parts: &mut Vec<(Name, Vec<Txn>)>,
     alloc: Global,
@@ -282,10 +305,8 @@ fn insert(
 {
     let mut txns = Vec::new(alloc);
     push(&mut txns, txn)?;
-    match parts.insert(at, (session, txns)) {
-        Ok(()) => Ok(()),
-        Err(_) => Err(GrowFault::NoMemory),
-    }
+    parts.insert(at, (session, txns))?;
+    Ok(())
 }
 
 /// The session has one more transaction.
@@ -305,14 +326,15 @@ fn add_to(
         (λ k. (k ≡ GrowFault.NoMemory) ⊎ ((most_sessions limits ≤ length parts.old.items)
         × (find (slice_cmp nat_cmp) session (parts_of parts.old.items) ≡ None))) }
 {
-    let at = place_of(parts, &session);
-    if stands_at(parts, at, &session) {
-        return push(&mut parts[at].1, txn);
+    match part_of(parts, &session) {
+        Ok(at) => push(&mut parts[at].1, txn),
+        Err(at) => {
+            if parts.len() >= limits.sessions() {
+                return Err(GrowFault::TooManySessions);
+            }
+            insert(parts, alloc, at, session, txn)
+        }
     }
-    if parts.len() >= limits.sessions() {
-        return Err(GrowFault::TooManySessions);
-    }
-    insert(parts, alloc, at, session, txn)
 }
 
 impl<B: Bounds> SnapshotWithin<B> {
@@ -365,7 +387,7 @@ impl<B: Bounds> SnapshotWithin<B> {
         })
     }
 
-    /// The number of sessions.
+    /// How many sessions there are.
     pub fn sessions(&self) -> u32
         ensures value { result ≡ sessions.len self.now }
         ensures few { result ≤ most_sessions B.limits }
@@ -382,7 +404,7 @@ impl<B: Bounds> SnapshotWithin<B> {
         self.transactions
     }
 
-    /// The session at this place in byte order of the names, counted from 0, with its transactions.
+    /// The session at this index in byte order of the names, with its transactions.
     pub fn session(&self, i: u32) -> Option<(&Name, &[Txn])>
         ensures { option_map (λ s. (s.0.now, s.1.now)) result ≡ slice_get (sessions.entries self.now) i }
     {

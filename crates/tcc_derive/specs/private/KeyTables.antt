@@ -3,7 +3,7 @@ use Rattle.std.specs.Prelude.{ℕ, ◌<◌, ◌≡◌, ◌↔◌, List, length, 
 use Rattle.tcc_reads.specs.History.{History, count}
 use Rattle.tcc_graph.specs.Relations.{IsReadsPair}
 use Rattle.tcc_graph.specs.Keys.{IsWriter, keys}
-use Rattle.tcc_graph.specs.Places.{name_of}
+use Rattle.tcc_graph.specs.KeyIndices.{name_of}
 use Rattle.tcc_derive.specs.private.Buckets.{bucket}
 use Rattle.tcc_derive.specs.declared.read.Read.{Read}
 

@@ -6,12 +6,12 @@ use Rattle.std.specs.List.Sorted.{IsStrictlySortedBy}
 use Rattle.tcc_txn.specs.declared.limits.TheConstants.{LARGE_COUNT, LARGE_SESSIONS}
 use Rattle.tcc_reads.specs.History.{Entry, IsBySession, initial}
 use Rattle.tcc_graph.specs.Keys.{keys}
-use Rattle.tcc_graph.specs.private.ReadTables.{over, HasSources, HasReadsInOrder, Placed, IsReadTable, ArePlaced, IsPlaceTable}
+use Rattle.tcc_graph.specs.private.ReadTables.{over, HasSources, HasReadsInOrder, Indexed, IsReadTable, AreIndexed, IsIndexTable}
 use Rattle.tcc_graph.specs.private.KeyRows.{KeyRow, IsKeyTable}
 
 -- the tables are those of these transactions
-pub record IsGraph (sessions : List (List ℕ)) (entries : List Entry) (reads : List (List (ℕ × List ℕ))) (names : List (List ℕ)) (places : List Placed)
-    (read_places : List (List (ℕ × ℕ))) (rows : List KeyRow) : Type 0 where
+pub record IsGraph (sessions : List (List ℕ)) (entries : List Entry) (reads : List (List (ℕ × List ℕ))) (names : List (List ℕ)) (indices : List Indexed)
+    (read_indices : List (List (ℕ × ℕ))) (rows : List KeyRow) : Type 0 where
   pub few_sessions : length sessions ≤ LARGE_SESSIONS
   pub some : 0 < length entries
   pub few : length entries ≤ LARGE_COUNT
@@ -22,6 +22,6 @@ pub record IsGraph (sessions : List (List ℕ)) (entries : List Entry) (reads : 
   pub read : IsReadTable entries (length entries) reads
   pub keyed : names ≡ keys (over entries)
   pub sorted : IsStrictlySortedBy (slice_cmp nat_cmp) names
-  pub placed : ArePlaced names entries places
-  pub read_placed : IsPlaceTable (length entries) places (length entries) read_places
-  pub rowed : IsKeyTable places (length names) (length entries) (length entries) rows
+  pub indexed : AreIndexed names entries indices
+  pub read_indexed : IsIndexTable (length entries) indices (length entries) read_indices
+  pub rowed : IsKeyTable indices (length names) (length entries) (length entries) rows

@@ -1,11 +1,11 @@
--- The tables of reads, by names and by places, and how they are made.
+-- The tables of reads, by names and by indices, and how they are made.
 use Rattle.std.specs.Prelude.{ℕ, ◌<◌, ◌≤◌, ◌≡◌, ◌==◌, List, [], ◌++◌, length, map, filter, slice_index_or, All}
 use Rattle.tcc_txn.specs.declared.limits.TheConstants.{LARGE_COUNT}
 use Rattle.std.specs.List.Sorted.{IsStrictlySortedBy}
 use Rattle.tcc_reads.specs.History.{Entry, History, IsBySession, initial}
 use Rattle.tcc_reads.specs.Sources.{pair_cmp}
 use Rattle.tcc_graph.specs.private.Grouped.{as_group, groups}
-use Rattle.tcc_graph.specs.Places.{name_of}
+use Rattle.tcc_graph.specs.KeyIndices.{name_of}
 use Rattle.tcc_graph.specs.Tables.{row_of}
 
 -- what is read from a, of reads with their sources
@@ -31,28 +31,28 @@ abbrev pub IsReadTable : List Entry → ℕ → List (List (ℕ × List ℕ)) �
 IsReadTable entries n table = IsSourceTable (List ℕ) (length entries) (λ b. (slice_index_or entries b initial).reads) n table
 
 -- what a transaction writes and reads, by the indices of the keys
-pub record Placed : Type 0 where
+pub record Indexed : Type 0 where
   pub writes : List ℕ
   pub reads : List (ℕ × ℕ)
 
-abbrev pub placed_of : List Placed → ℕ → Placed
-placed_of placed n = slice_index_or placed n (record { writes = []; reads = [] })
+abbrev pub indexed_of : List Indexed → ℕ → Indexed
+indexed_of indexed n = slice_index_or indexed n (record { writes = []; reads = [] })
 
--- the places are those of the transaction's keys among these names
-pub record IsPlaced (names : List (List ℕ)) (e : Entry) (p : Placed) : Type 0 where
+-- the indices are those of the transaction's keys among these names
+pub record IsIndexed (names : List (List ℕ)) (e : Entry) (p : Indexed) : Type 0 where
   pub writes : map (name_of names) p.writes ≡ e.writes
   pub reads : map (λ read. (name_of names read.0, read.1)) p.reads ≡ e.reads
   pub writes_within : All (λ k. k < length names) p.writes
   pub reads_within : All (λ read. read.0 < length names) p.reads
 
 -- so for each transaction
-pub record ArePlaced (names : List (List ℕ)) (entries : List Entry) (placed : List Placed) : Type 0 where
-  pub long : length placed ≡ length entries
-  pub each : (n : ℕ) → n < length entries → IsPlaced names (slice_index_or entries n initial) (placed_of placed n)
+pub record AreIndexed (names : List (List ℕ)) (entries : List Entry) (indexed : List Indexed) : Type 0 where
+  pub long : length indexed ≡ length entries
+  pub each : (n : ℕ) → n < length entries → IsIndexed names (slice_index_or entries n initial) (indexed_of indexed n)
 
 -- the row of each transaction has the indices of the keys that the first n transactions read from it, each with its reader
-abbrev pub IsPlaceTable : ℕ → List Placed → ℕ → List (List (ℕ × ℕ)) → Type 0
-IsPlaceTable count placed n table = IsSourceTable ℕ count (λ b. (placed_of placed b).reads) n table
+abbrev pub IsIndexTable : ℕ → List Indexed → ℕ → List (List (ℕ × ℕ)) → Type 0
+IsIndexTable count indexed n table = IsSourceTable ℕ count (λ b. (indexed_of indexed b).reads) n table
 
 -- each read of a transaction has its source among n transactions
 abbrev pub HasSources : ℕ → Entry → Type 0

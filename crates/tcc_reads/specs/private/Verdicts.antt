@@ -25,12 +25,12 @@ use Rattle.tcc_reads.specs.Sources.{puts_at, visible_write, name_cmp, pair_cmp, 
 use Rattle.tcc_reads.specs.Faults.{puts}
 use Rattle.tcc_txn.specs.Transactions.{op_key, op_value}
 
--- what the table keeps of a write at this place of its transaction
+-- what the table keeps of a write at this position of its transaction
 abbrev pub write_at : Numbered → ℕ → Bool → Writer
-write_at n place last = record {
+write_at n position last = record {
   session = n.stand.session;
   place = n.stand.place;
-  op = place;
+  op = position;
   number = if n.stand.txn.committed then Some n.number else None;
   last = last;
 }
@@ -110,15 +110,15 @@ AreVisibleWrites own ops = (x : List ℕ) → tree.get name_cmp own x ≡ visibl
 abbrev pub is_in : Numbered → Writer → Bool
 is_in n first = (first.session == n.stand.session) && (first.place == n.stand.place)
 
--- of a write at this place of its transaction
+-- of a write at this position of its transaction
 abbrev pub write_judgement : Numbered → ℕ → Option Writer → OpJudgement
-write_judgement n place None = Faulty Duplicate
-write_judgement n place (Some first) = if is_in n first && (first.op == place) then Silent else Faulty Duplicate
+write_judgement n position None = Faulty Duplicate
+write_judgement n position (Some first) = if is_in n first && (first.op == position) then Silent else Faulty Duplicate
 
--- an operation at this place is no write, or the one that the table has for its value at its key
+-- an operation at this position is no write, or the one that the table has for its value at its key
 abbrev pub IsOwn : Writes → Numbered → ℕ → Op → Type 0
-IsOwn table n place (Get key value) = Unit {0}
-IsOwn table n place (Put key value) = write_judgement n place (table key value) ≡ Silent
+IsOwn table n position (Get key value) = Unit {0}
+IsOwn table n position (Put key value) = write_judgement n position (table key value) ≡ Silent
 
 abbrev pub judgement_from : Numbered → Writer → Option ℕ → OpJudgement
 judgement_from n first None = Faulty Aborted
@@ -136,19 +136,19 @@ own_judgement n value (Some own) first = if own == value then Silent else Faulty
 own_judgement n value None first = if value == 0 then ReadsFrom 0 else read_judgement n first
 
 abbrev pub op_judgement : Writes → Numbered → ℕ → Op → Option ℕ → OpJudgement
-op_judgement table n place (Put key value) own = write_judgement n place (table key value)
-op_judgement table n place (Get key value) own =
+op_judgement table n position (Put key value) own = write_judgement n position (table key value)
+op_judgement table n position (Get key value) own =
     if n.stand.txn.committed then own_judgement n value own (table key value) else Silent
 
 abbrev pub site_judgement : Writes → Numbered → Site → OpJudgement
 site_judgement table n site = op_judgement table n (at site) site.op (visible_write (op_key site.op) site.before)
 
--- the fault of an operation at this place of a transaction
+-- the fault of an operation at this position of a transaction
 abbrev pub fault_in : Stand → ℕ → Op → OpJudgement → Option ReadFault
-fault_in stand place op (Faulty kind) =
-    Some (record { session = stand.name; place = stand.place; op = place; key = op_key op; value = op_value op; kind = kind })
-fault_in stand place op (ReadsFrom number) = None
-fault_in stand place op Silent = None
+fault_in stand position op (Faulty kind) =
+    Some (record { session = stand.name; place = stand.place; op = position; key = op_key op; value = op_value op; kind = kind })
+fault_in stand position op (ReadsFrom number) = None
+fault_in stand position op Silent = None
 
 -- the key and the source of an external read
 abbrev pub source_in : Op → OpJudgement → Option (List ℕ × ℕ)

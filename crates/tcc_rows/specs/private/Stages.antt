@@ -51,10 +51,10 @@ TakesItem limits remaining ahead (item.Finished name txn) new =
     (rest : Answers) × (ahead ≡ after_item (Some (item.Finished name txn)) rest) × IsMidway limits remaining new rest
 
 -- one record was passed, or the end was met: what came of it
-abbrev pub TakesStep : {R : Type 0} → Limits → (R → Option (List ℕ)) → Answers → Result (Option Item) RowFault → Rows R → Type 0
-TakesStep limits remaining ahead (Ok None) new = IsMidway limits remaining new ahead
-TakesStep limits remaining ahead (Ok (Some given)) new = TakesItem limits remaining ahead given new
-TakesStep limits remaining ahead (Err fault) new = FaultsIn limits ahead fault
+abbrev pub TakesLine : {R : Type 0} → Limits → (R → Option (List ℕ)) → Answers → Result (Option Item) RowFault → Rows R → Type 0
+TakesLine limits remaining ahead (Ok None) new = IsMidway limits remaining new ahead
+TakesLine limits remaining ahead (Ok (Some given)) new = TakesItem limits remaining ahead given new
+TakesLine limits remaining ahead (Err fault) new = FaultsIn limits ahead fault
 
 -- the line of the record that was read last, the first of those that are left: these are the answers from there on, after the lawful lines so far
 pub record IsAtLine {R : Type 0} (limits : Limits) (remaining : R → Option (List ℕ)) (rows : Rows R) (ahead : Answers) (line : Line) : Type 0 where

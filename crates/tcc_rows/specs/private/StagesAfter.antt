@@ -6,6 +6,6 @@ use Rattle.tcc_rows.specs.declared.rows.Stage.{Stage}
 use Rattle.tcc_rows.specs.declared.rows.Stage.TheVariants as stage
 use Rattle.tcc_rows.specs.Ahead.{stage_after}
 
-abbrev pub stage_after_step : Option Item → Stage
-stage_after_step None = stage.Reading
-stage_after_step (Some given) = stage_after given
+abbrev pub stage_after_line : Option Item → Stage
+stage_after_line None = stage.Reading
+stage_after_line (Some given) = stage_after given

@@ -130,12 +130,12 @@ pub(crate) fn read_access(word: &[u8]) -> Result<bool, RowFaultKind>
     }
 }
 
-/// The field at the place.
-pub(crate) fn field(fields: &ByteRecord, place: usize) -> &[u8]
-    requires { place < length (fields_of fields.now) }
-    ensures { Some result.now ≡ field_at (fields_of fields.now) place }
+/// The field at the index.
+pub(crate) fn field(fields: &ByteRecord, index: usize) -> &[u8]
+    requires { index < length (fields_of fields.now) }
+    ensures { Some result.now ≡ field_at (fields_of fields.now) index }
 {
-    fields.get(place).unwrap()
+    fields.get(index).unwrap()
 }
 
 /// What a record of other than four fields says, or what is wrong with the record by itself.

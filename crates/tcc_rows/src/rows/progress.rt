@@ -11,7 +11,7 @@ ghost use Rattle.tcc_rows.specs.Standing.{HoldsNames, HoldsSeats, IsAfter};
 ghost use Rattle.tcc_rows.specs.private.Passing.{MayBegin, NotesName, PassesLine, PassesOperation, TakesLine, lower};
 ghost use Rattle.tcc_rows.specs.private.Turns.{line_by};
 ghost use Rattle.tcc_txn.specs.Transactions.{writes_zero};
-ghost use Rattle.tcc_rows.specs.private.StagesAfter.{stage_after_step};
+ghost use Rattle.tcc_rows.specs.private.StagesAfter.{stage_after_line};
 ghost use Rattle.tcc_txn.specs.declared.limits.Limits.{Limits};
 ghost use Rattle.tcc_rows.specs.declared.rows.Stage.TheVariants as stage;
 ghost use Rattle.tcc_rows.specs.Line.{Line};
@@ -230,7 +230,7 @@ impl Progress {
     /// Goes past a record that is no operation, which may finish something.
     pub(crate) fn pass(&mut self, alloc: Global, turn: Turn) -> Result<Option<Item>, RowFaultKind>
         ensures passed { (limits : Limits) (past : List Line) → IsAfter limits past self.old → TakesLine limits past (line_by turn) result self.new }
-        ensures going { IfOk result (λ given. stage_after_step given ≡ stage.Reading) }
+        ensures going { IfOk result (λ given. stage_after_line given ≡ stage.Reading) }
         ensures other { IfErr result (λ kind. kind ≢ RowFaultKind.Read) }
     {
         match turn {

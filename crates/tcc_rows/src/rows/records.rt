@@ -113,11 +113,11 @@ impl<R: Read> Records<R> {
         &self.record
     }
 
-    /// The field of the record that was read last at the place, counted from 0.
-    pub(crate) fn field(&self, place: usize) -> Option<&[u8]>
-        ensures { option_map (λ field. field.now) result ≡ field_at (record_of self.now) place }
+    /// The field of the record that was read last at an index, counted from 0.
+    pub(crate) fn field(&self, index: usize) -> Option<&[u8]>
+        ensures { option_map (λ field. field.now) result ≡ field_at (record_of self.now) index }
     {
-        self.record.get(place)
+        self.record.get(index)
     }
 
     /// The row of the record that was read last, or of the one that could not be read after it.

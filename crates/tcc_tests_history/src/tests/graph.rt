@@ -148,11 +148,11 @@ fn walks_keep_their_steps(rt: HostRuntime) -> Result<(), Fail> {
     let Ok(copy) = walk.copy(alloc) else {
         panic!(rt; "out of memory")
     };
-    for (place, step) in copy.steps().iter().enumerate() {
+    for (place, step) in copy.as_slice().iter().enumerate() {
         assert_eq!(rt; step.from(), place as u32 + 1);
         assert_eq!(rt; step.to(), place as u32 + 2);
     }
-    assert_eq!(rt; walk.steps().len(), 2);
-    assert_eq!(rt; copy.into_steps().len(), 2);
+    assert_eq!(rt; walk.as_slice().len(), 2);
+    assert_eq!(rt; copy.into_vec().len(), 2);
     Ok(())
 }

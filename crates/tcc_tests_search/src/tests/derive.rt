@@ -97,9 +97,9 @@ fn is_step(step: &Step, wanted: (u32, u32, &str)) -> bool {
 }
 
 fn is_walk(walk: &Walk, wanted: Path<'_>) -> bool {
-    walk.steps().len() == wanted.len()
+    walk.as_slice().len() == wanted.len()
         && walk
-            .steps()
+            .as_slice()
             .iter()
             .zip(wanted)
             .all(|(step, expected)| is_step(step, *expected))

@@ -42,11 +42,11 @@ abbrev pub shown : List (List ℕ × Vec Transaction) → Sessions
 shown parts = map.from_sorted (parts_of parts)
 
 -- how many parts stand before the session in byte order
-abbrev pub place_in : {X : Type 0} → List ℕ → List (List ℕ × X) → ℕ
-place_in session [] = 0
-place_in session (part ∷ parts) = if is_lt (slice_cmp nat_cmp part.0 session) then suc (place_in session parts) else 0
+abbrev pub index_in : {X : Type 0} → List ℕ → List (List ℕ × X) → ℕ
+index_in session [] = 0
+index_in session (part ∷ parts) = if is_lt (slice_cmp nat_cmp part.0 session) then suc (index_in session parts) else 0
 
--- the session's part stands at the place
+-- the session's part stands at the index
 abbrev pub StandsAt : {X : Type 0} → List (List ℕ × X) → List ℕ → ℕ → Type 0
 StandsAt {X} parts session at = (at < length parts) × ((d : List ℕ × X) → (slice_index_or parts at d).0 ≡ session)
 
@@ -59,7 +59,7 @@ pub record IsStoredWithin (limits : Limits) (parts : List (List ℕ × Vec Trans
 abbrev pub IsStored : List (List ℕ × Vec Transaction) → Type 0
 IsStored = IsStoredWithin Small
 
--- the same, with the number of transactions beside the parts
+-- the same, with the count of transactions beside the parts
 pub record IsCounted (limits : Limits) (parts : List (List ℕ × Vec Transaction)) (transactions : ℕ) : Type 0 where
   pub stored : IsStoredWithin limits parts
   pub counted : transactions ≡ sum_by (λ part. length part.1.items) parts

@@ -16,7 +16,7 @@ keeps_axiom-requires c =
       };
       apart = places_apart c.args.claim.now.order c.deref.result.now are;
       few = c.has_order_sizes.ensures.few_sessions;
-      sized = rw c.rows.ensures sizes.clocks;
+      sized = rw c.as_slice.ensures sizes.clocks;
     }
 
 pub returns-then-kept : goal.returns-then-kept
@@ -29,7 +29,7 @@ returns-then-kept c =
         kept.1,
         (
           axiom_kept c.args.graph.now c.args.claim.now c.deref.result.now are sizes.order
-              (rw (← c.rows.ensures) (c.in_ok-kept.ensures c.if-kept.true)),
+              (rw (← c.as_slice.ensures) (c.in_ok-kept.ensures c.if-kept.true)),
           tt,
         ),
       ),

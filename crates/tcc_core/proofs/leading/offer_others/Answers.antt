@@ -26,7 +26,7 @@ returns-then-are_classed-clause-offered c = λ j priced.
     let first : IsOffered (IsClassWay links.classes.items s d left) floor old mid = rw c.deref.ensures.value at c.offer_classes.ensures.offered in
     let then : IsOffered (IsWayBy links.rest s d left) floor mid new
     =
-    rw (c.values.ensures, c.offer_classes.ensures.floor) at c.offer_cheapest.ensures.offered in
+    rw (c.as_slice.ensures, c.offer_classes.ensures.floor) at c.offer_cheapest.ensures.offered in
     offered_classes priced c.args.u from c.by_class-links.ensures s d left floor old mid new long few first then
 
 pub returns-else-are_classed-clause-offered : goal.returns-else-are_classed-clause-offered

@@ -25,7 +25,7 @@ loop-class-preserved c =
           let e = w.offer_at.ensures in
           let way : IsOffered (IsMarkWay class.marks c.args.start (c.args.so_far + class.cost)) old.floor mid.costs w.offer_at.new.queue.costs
           =
-          rw (inv.floor, w.values.ensures) at e.offered in
+          rw (inv.floor, w.as_slice.ensures) at e.offered in
           rw (w.queue-is, w.levels-is) (record {
             floor = e.floor ∙ inv.floor;
             levels = levels_set old.floor mid.costs w.offer_at.new.queue.costs c.loop-class.levels _ w.offer_at.new.level way.lower inv.levels e.level;

@@ -18,10 +18,10 @@ marks_of-requires c =
     let inside : k < length buckets = omega (arith, c.loop-cost-test.true, ap length c.deref-bucket-items.ensures.value) in
     let read : c.bucket-item.result ≡ get_or buckets k c.bucket-item.result =
     c.bucket-item.is ∙ ap (λ (rows : List (List (ℕ × ℕ))). get_or rows k c.bucket-item.result) c.deref-bucket-items.ensures.value in
-    let here : c.values-links.result.now ≡ filter (costs_just c.args.first c.args.end k) c.args.others.now =
-    c.values-links.ensures ∙ (get_or_read buckets k c.bucket-item.result inside read []
+    let here : c.as_slice-links.result.now ≡ filter (costs_just c.args.first c.args.end k) c.args.others.now =
+    c.as_slice-links.ensures ∙ (get_or_read buckets k c.bucket-item.result inside read []
     ∙ c.in_ok-buckets.ensures.each k (omega (arith, inside, c.in_ok-buckets.ensures.long))) in
-    bucket_within c.args.first c.args.end k c.args.count c.args.others.now c.values-links.result.now here c.requires.within
+    bucket_within c.args.first c.args.end k c.args.count c.args.others.now c.as_slice-links.result.now here c.requires.within
 
 pub loop-cost-preserved : goal.loop-cost-preserved
 loop-cost-preserved c =
@@ -30,9 +30,9 @@ loop-cost-preserved c =
     let inside : k < length buckets = omega (arith, c.loop-cost-test.true, ap length c.deref-bucket-items.ensures.value) in
     let read : c.bucket-item.result ≡ get_or buckets k c.bucket-item.result =
     c.bucket-item.is ∙ ap (λ (rows : List (List (ℕ × ℕ))). get_or rows k c.bucket-item.result) c.deref-bucket-items.ensures.value in
-    let links = c.values-links.result.now in
+    let links = c.as_slice-links.result.now in
     let here : links ≡ filter (costs_just c.args.first c.args.end k) c.args.others.now =
-    c.values-links.ensures ∙ (get_or_read buckets k c.bucket-item.result inside read []
+    c.as_slice-links.ensures ∙ (get_or_read buckets k c.bucket-item.result inside read []
     ∙ c.in_ok-buckets.ensures.each k (omega (arith, inside, c.in_ok-buckets.ensures.long))) in
     elim c.if-cost-le-DEAREST.branch [
       | then-cost-le-DEAREST+then-links-many+in_ok-marks+in_ok-push w ↦

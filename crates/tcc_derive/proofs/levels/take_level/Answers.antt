@@ -20,7 +20,7 @@ loop-reader-preserved c =
     let below : k < length steps = omega (arith, inside, c.requires.sources.long) in
     elim c.if-steps-reader.branch [
       | then-steps-reader+in_ok-take_reader w ↦
-          let row : w.values.result.now ≡ bucket rows k = w.values.ensures ∙ get_or_read rows k c.index-rows-reader.result inside c.index-rows-reader.is [] in
+          let row : w.as_slice.result.now ≡ bucket rows k = w.as_slice.ensures ∙ get_or_read rows k c.index-rows-reader.result inside c.index-rows-reader.is [] in
           let lowers : LowersEach (λ a. is_marked (bucket rows k) a ≡ true) c.args.distance c.loop-reader.nearest w.take_reader.new.nearest =
           rw row at w.in_ok-take_reader.ensures.lowered in
           rw (w.nearest-is, w.seen-is) (

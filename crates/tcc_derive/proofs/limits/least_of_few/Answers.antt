@@ -18,7 +18,7 @@ loop-b-preserved c =
     (closing_alone near prices b own refl) in
     elim c.if-row-prices.branch [
       | then-row-prices w ↦
-          let value : w.values.result.now ≡ row_of prices b = w.values.ensures ∙ get_or_read prices b w.index-prices-b.result inside w.index-prices-b.is [] in
+          let value : w.as_slice.result.now ≡ row_of prices b = w.as_slice.ensures ∙ get_or_read prices b w.index-prices-b.result inside w.index-prices-b.is [] in
           rw w.least-is
           (lesser (IsClosingOrNone near prices) c.min-least.result w.least_of_others.result w.min-least-then-row-prices.result
           (omega (arith, w.min-least-then-row-prices.ensures)) first

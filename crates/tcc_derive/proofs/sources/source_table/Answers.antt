@@ -11,8 +11,8 @@ loop-bucket-preserved c =
     let rows = c.loop-bucket.table.items in
     let inv = c.loop-bucket.invariant in
     let made = c.in_ok-sources_at.field-0 in
-    let row : c.values.result.now ≡ bucket c.args.reads.now k =
-    c.values.ensures ∙ get_or_read c.args.reads.now k c.bucket-item.result c.loop-bucket-test.true c.bucket-item.is [] in
+    let row : c.as_slice.result.now ≡ bucket c.args.reads.now k =
+    c.as_slice.ensures ∙ get_or_read c.args.reads.now k c.bucket-item.result c.loop-bucket-test.true c.bucket-item.is [] in
     let here : (length made ≡ 0) ⊎ AreSources c.args.count (bucket c.args.reads.now k) made = rw row at c.in_ok-sources_at.ensures in
     rw c.in_ok-push.ensures.items (
       omega (arith, length-append rows (made ∷ []), inv.0),

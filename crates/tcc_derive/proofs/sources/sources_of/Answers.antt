@@ -10,8 +10,8 @@ marks_of-requires c =
     let k = c.loop-bucket.bucket-index in
     let buckets = c.deref-bucket-items.result.now in
     let is = rw (← c.deref-bucket-items.ensures.value) at c.in_ok-buckets.ensures in
-    let row : c.values.result.now ≡ bucket buckets k =
-    c.values.ensures ∙ get_or_read buckets k c.bucket-item.result c.loop-bucket-test.true c.bucket-item.is [] in
+    let row : c.as_slice.result.now ≡ bucket buckets k =
+    c.as_slice.ensures ∙ get_or_read buckets k c.bucket-item.result c.loop-bucket-test.true c.bucket-item.is [] in
     rw row (by_reader_below c.args.count c.args.reads.now buckets k is c.requires.sources (omega (arith, c.loop-bucket-test.true, is.long)))
 
 pub loop-bucket-preserved : goal.loop-bucket-preserved
@@ -21,8 +21,8 @@ loop-bucket-preserved c =
     let rows = c.loop-bucket.rows.items in
     let made = c.in_ok-marks_of.field-0 in
     let inv = c.loop-bucket.invariant in
-    let row : c.values.result.now ≡ bucket buckets k =
-    c.values.ensures ∙ get_or_read buckets k c.bucket-item.result c.loop-bucket-test.true c.bucket-item.is [] in
+    let row : c.as_slice.result.now ≡ bucket buckets k =
+    c.as_slice.ensures ∙ get_or_read buckets k c.bucket-item.result c.loop-bucket-test.true c.bucket-item.is [] in
     let here : IsRowFor c.args.count (bucket buckets k) made = rw (← row) (record { wide = c.in_ok-marks_of.ensures.wide; each = c.in_ok-marks_of.ensures.each }) in
     rw c.in_ok-push.ensures.items (
       omega (arith, length-append rows (made ∷ []), inv.0),

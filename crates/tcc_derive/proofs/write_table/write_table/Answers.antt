@@ -1,7 +1,7 @@
 use Rattle.std.proofs.Common.{◌<◌, ◌≡◌, [], length, sym, ap, ◌∙◌, take_at}
 use Rattle.std.proofs.lemmas.List.{get_or_read}
 use Rattle.tcc_graph.specs.Keys.{keys}
-use Rattle.tcc_graph.specs.Places.{name_of}
+use Rattle.tcc_graph.specs.KeyIndices.{name_of}
 use Rattle.tcc_graph.proofs.WriterLemmas.{writers_below}
 use Rattle.tcc_derive.proofs.TableLemmas.{writes_added}
 use Rattle.tcc_derive.proofs.write_table.write_table.Goals as goal

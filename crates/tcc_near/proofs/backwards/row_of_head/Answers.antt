@@ -9,8 +9,8 @@ row_over-requires-clause-pairs c =
     let h = c.args.graph.now in
     let u = c.args.head in
     let readers = c.args.readers.now in
-    let row : c.values-next.result.now ≡ row_of readers u =
-    c.values-next.ensures ∙ get_or_read readers u c.index-readers-head.result
+    let row : c.as_slice-next.result.now ≡ row_of readers u =
+    c.as_slice-next.ensures ∙ get_or_read readers u c.index-readers-head.result
     (omega (arith, c.requires.below, c.requires.pairs.long)) c.index-readers-head.is [] in
     rw row (others_of h u (slice_index c.args.ends.now u) (row_of readers u) (c.requires.pairs.ended.each u c.requires.below)
     (c.requires.pairs.each u c.requires.below))

@@ -22,7 +22,7 @@ loop-number-preserved c =
     let n = c.loop-number.number-index in
     let one : ℕ = get_or numbers n 0 in
     let there : IsThere rows (count h) one = c.requires.there n 0 c.loop-number-test.true in
-    let row : c.values.result.now ≡ row_of rows one = c.values.ensures ∙ get_or_read rows one c.index-rows-number.result there.0 c.index-rows-number.is [] in
+    let row : c.as_slice.result.now ≡ row_of rows one = c.as_slice.ensures ∙ get_or_read rows one c.index-rows-number.result there.0 c.index-rows-number.is [] in
     let inside : one < count h = omega (arith, there.0, c.requires.known.long) in
     let low : IsLowered c.loop-number.row (row_of rows one) one c.take_in_one.new.row = rw row at c.take_in_one.ensures in
     least_same h (λ b. IsNextOrOne h a (take n numbers) b ⊎ (b ≡ one)) (IsNextOrOne h a (take (n + 1) numbers)) c.take_in_one.new.row

@@ -13,8 +13,8 @@ pub mark_each-requires : goal.mark_each-requires
 mark_each-requires c =
     let h = c.args._graph.now in
     let u = c.args.from in
-    let row : c.values.result.now ≡ marks_of c.args.readers.now u =
-    c.values.ensures ∙ get_or_read c.args.readers.now u c.index-readers-from.result
+    let row : c.as_slice.result.now ≡ marks_of c.args.readers.now u =
+    c.as_slice.ensures ∙ get_or_read c.args.readers.now u c.index-readers-from.result
     (omega (arith, c.requires.below, c.requires.pairs.long)) c.index-readers-from.is [] in
     rw row (readers_fit h u (slice_index c.args.ends.now u) (marks_of c.args.readers.now u)
     (c.requires.pairs.each u c.requires.below) c.mark_later.new.words (c.mark_later.ensures.same ∙ c.requires.wide))
@@ -26,8 +26,8 @@ returns c =
     let words = c.args.words.now in
     let mid = c.mark_later.new.words in
     let new = c.mark_each.new.words in
-    let row : c.values.result.now ≡ marks_of c.args.readers.now u =
-    c.values.ensures ∙ get_or_read c.args.readers.now u c.index-readers-from.result
+    let row : c.as_slice.result.now ≡ marks_of c.args.readers.now u =
+    c.as_slice.ensures ∙ get_or_read c.args.readers.now u c.index-readers-from.result
     (omega (arith, c.requires.below, c.requires.pairs.long)) c.index-readers-from.is [] in
     let pairs : IsPairsFrom h u (slice_index c.args.ends.now u) (marks_of c.args.readers.now u) = c.requires.pairs.each u c.requires.below in
     record {

@@ -24,8 +24,8 @@ loop-number-preserved c =
     = c.deref_mut-in-loop-number.ensures.value ∙ take_at mid _ c.loop-number.row.len (same ∙ sym long) in
     let last : length new ≡ length mid = rw middle at c.raise_one.ensures.same in
     let below : p < count h = c.requires.inside k 0 c.loop-number-test.true in
-    let other : c.values.result.now ≡ row_of table p
-    = c.values.ensures ∙ get_or_read table p c.index-table-number.result (omega (arith, below, c.requires.long)) c.index-table-number.is [] in
+    let other : c.as_slice.result.now ≡ row_of table p
+    = c.as_slice.ensures ∙ get_or_read table p c.index-table-number.result (omega (arith, below, c.requires.long)) c.index-table-number.is [] in
     let each_mid : (s : ℕ) → s < length old → slice_index mid s ≡ max (slice_index (row_of table p) s) (slice_index old s)
     = rw (value, other) at c.raise_each.ensures.each in
     let each_new : (s : ℕ) → s < length mid → slice_index new s ≡ raised h p s (slice_index mid s) = rw middle at c.raise_one.ensures.each in

@@ -65,8 +65,8 @@ loop-preserved c =
     let long_waiting : c.loop.waiting.len ≡ length c.loop.waiting.items = search rules in
     let whole : take c.loop.waiting.len (waiting ++ drop (length waiting) c.loop.waiting.items) ≡ waiting
     = take_at waiting (drop (length waiting) c.loop.waiting.items) c.loop.waiting.len (same_waiting ∙ sym long_waiting) in
-    let row : c.values.result.now ≡ row_of waiting next
-    = c.values.ensures ∙ get_or_read waiting next c.index.result.now (omega (arith, free.below, queued.long, c.requires.parents.long)) (rw whole at c.index.ensures) [] in
+    let row : c.as_slice.result.now ≡ row_of waiting next
+    = c.as_slice.ensures ∙ get_or_read waiting next c.index.result.now (omega (arith, free.below, queued.long, c.requires.parents.long)) (rw whole at c.index.ensures) [] in
     let woken : (y : ℕ) → Contains c.wake.new.ready y ↔ (Contains ready y ⊎ Contains (row_of waiting next) y) = rw row at c.in_ok-wake.ensures in
     let grown : (y : ℕ) → Contains c.push.new.self y ↔ (Contains c.wake.new.ready y ⊎ (y ≡ onward ps next)) = rw c.onward.ensures at c.in_ok-push.ensures in
     let is_next : IsNext (holds h kept) (count h) order next = record {

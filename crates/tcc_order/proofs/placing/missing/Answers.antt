@@ -28,7 +28,7 @@ returns c =
     let placed = c.args.placed.now in
     let x = c.args.x in
     let low : x < length kept = omega (arith, c.requires.below, c.requires.long) in
-    let row : c.values.result.now ≡ row_of kept x = c.values.ensures ∙ get_or_read kept x c.index-kept-x.result low c.index-kept-x.is [] in
+    let row : c.as_slice.result.now ≡ row_of kept x = c.as_slice.ensures ∙ get_or_read kept x c.index-kept-x.result low c.index-kept-x.is [] in
     let found : MatchOption c.missing_of.result
     ((k : ℕ) → k < length (row_of kept x) → is_marked placed (slice_index (row_of kept x) k) ≡ true)
     (λ b. Contains (row_of kept x) b × (is_marked placed b ≡ false))

@@ -9,13 +9,13 @@ use Rattle.tcc_reads.proofs.judging.judge.Goals as goal
 pub loop-before-preserved : goal.loop-before-preserved
 loop-before-preserved c =
     let ops : List Op = c.ops-ops.result.now in
-    let place : ℕ = c.loop-before.before in
-    let read : IsReadAt ops place c.index-ops-before.result
-    = read_at ops place c.index-ops-before.result c.index-ops-before.result c.loop-before-test.true (sym c.index-ops-before.is) in
+    let index : ℕ = c.loop-before.before in
+    let read : IsReadAt ops index c.index-ops-before.result
+    = read_at ops index c.index-ops-before.result c.index-ops-before.result c.loop-before-test.true (sym c.index-ops-before.is) in
     record {
-      own = rw read.behind (c.in_ok-put_own.ensures (take place ops) c.loop-before.invariant.own);
+      own = rw read.behind (c.in_ok-put_own.ensures (take index ops) c.loop-before.invariant.own);
       writes = λ distinct. rw read.behind
-          (own_after (writers_in c.args.writers.now) c.args.standing.now (take place ops) (drop (place + 1) ops) c.index-ops-before.result
+          (own_after (writers_in c.args.writers.now) c.args.standing.now (take index ops) (drop (index + 1) ops) c.index-ops-before.result
           (rw read.ahead at (c.loop-before.invariant.writes distinct)));
       faults = grind (arith, common_steps);
       reads = grind (arith, common_steps);

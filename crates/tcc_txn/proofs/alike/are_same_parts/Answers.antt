@@ -3,19 +3,19 @@ use Rattle.std.proofs.lemmas.List.{get_or_read}
 use Rattle.tcc_txn.proofs.SameParts.{both_more}
 use Rattle.tcc_txn.proofs.alike.are_same_parts.Goals as goal
 
-pub loop-place-preserved : goal.loop-place-preserved
-loop-place-preserved c =
+pub loop-index-preserved : goal.loop-index-preserved
+loop-index-preserved c =
     let some = c.args.some.now in
     let others = c.args.others.now in
-    let i = c.loop-place.place in
-    let one = c.index-some-place.result in
-    let other = c.index-others-place.result in
-    let long : length some ≡ length others = c.loop-place.invariant.0 in
-    let inside : i < length some = c.loop-place-test.true in
+    let i = c.loop-index.index in
+    let one = c.index-some-index.result in
+    let other = c.index-others-index.result in
+    let long : length some ≡ length others = c.loop-index.invariant.0 in
+    let inside : i < length some = c.loop-index-test.true in
     let within : i < length others = omega (arith, inside, long) in
     let same = c.is_same_part.ensures c.if-not-is_same_part.false in (
       long,
-      both_more some others i one other inside long (get_or_read some i one inside c.index-some-place.is one)
-          (get_or_read others i other within c.index-others-place.is other) same.0
-          (sym c.deref.ensures.value ∙ (same.1 ∙ c.deref-in-loop-place.ensures.value)) c.loop-place.invariant.1,
+      both_more some others i one other inside long (get_or_read some i one inside c.index-some-index.is one)
+          (get_or_read others i other within c.index-others-index.is other) same.0
+          (sym c.deref.ensures.value ∙ (same.1 ∙ c.deref-in-loop-index.ensures.value)) c.loop-index.invariant.1,
     )

@@ -18,8 +18,8 @@ pub cost_among-requires : goal.cost_among-requires
 cost_among-requires c =
     let u = c.args.u in
     let below = rw (← c.self.view_is) at c.requires.from in
-    let value : c.values.result.now ≡ row_of c.self.inside.others.items u =
-    c.values.ensures ∙ get_or_read c.self.inside.others.items u c.index.result.now (omega (arith, below, c.self.invariant.0.others)) c.index.ensures [] in
+    let value : c.as_slice.result.now ≡ row_of c.self.inside.others.items u =
+    c.as_slice.ensures ∙ get_or_read c.self.inside.others.items u c.index.result.now (omega (arith, below, c.self.invariant.0.others)) c.index.ensures [] in
     rw value (c.self.invariant.0.ascending u below)
 
 pub returns : goal.returns
@@ -29,8 +29,8 @@ returns c =
     let below = rw (← c.self.view_is) at c.requires.from in
     let end : c.index-end.result.now ≡ slice_index c.self.inside.ends.items u =
     get_or_read c.self.inside.ends.items u c.index-end.result.now (omega (arith, below, c.self.invariant.0.ends)) c.index-end.ensures 0 in
-    let value : c.values.result.now ≡ row_of c.self.inside.others.items u =
-    c.values.ensures ∙ get_or_read c.self.inside.others.items u c.index.result.now (omega (arith, below, c.self.invariant.0.others)) c.index.ensures [] in
+    let value : c.as_slice.result.now ≡ row_of c.self.inside.others.items u =
+    c.as_slice.ensures ∙ get_or_read c.self.inside.others.items u c.index.result.now (omega (arith, below, c.self.invariant.0.others)) c.index.ensures [] in
     let far : (u + 1 ≤ v) × (v < slice_index c.self.inside.ends.items u) → ⊥ = λ w. elim c.else-u-v.branch [
       | else-u-v-via-then-u-v+else-v-end b ↦ absurd (omega (arith, w.1, b.if-v-end.false, end))
       | else-u-v-via-else-u-v b ↦ absurd (omega (arith, w.0, b.if-u-v.false))

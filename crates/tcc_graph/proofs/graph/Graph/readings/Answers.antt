@@ -1,4 +1,4 @@
 use Rattle.tcc_graph.proofs.graph.Graph.readings.Goals as goal
 
-pub returns-clause-each : goal.returns-clause-each
-returns-clause-each c = rw (← c.self.view_is) c.readings.ensures.each
+pub returns : goal.returns
+returns c = rw (← c.self.view_is) c.readings.ensures

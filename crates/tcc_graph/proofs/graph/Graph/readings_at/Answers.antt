@@ -1,4 +1,4 @@
 use Rattle.tcc_graph.proofs.graph.Graph.readings_at.Goals as goal
 
-pub returns-clause-each : goal.returns-clause-each
-returns-clause-each c = rw (← c.self.view_is) c.readings_at.ensures.each
+pub returns : goal.returns
+returns c = rw (← c.self.view_is) c.readings_at.ensures

@@ -5,6 +5,6 @@ use Rattle.tcc_rows.proofs.rows.progress.Progress.finish.Goals as goal
 pub returns-in-Ok-Some-Some-clause-passed : goal.returns-in-Ok-Some-Some-clause-passed
 returns-in-Ok-Some-Some-clause-passed c limits past is =
     let found = c.in-Ok-Some-Some in
-    let place = sym found.ensures.old ∙ found.field-0-is ∙ ap Some found.field-0-0-is in
-    after-finish limits past c.args.session c.args.committed _ c.args.self.now _ is place found.ensures.updates
+    let sits = sym found.ensures.old ∙ found.field-0-is ∙ ap Some found.field-0-0-is in
+    after-finish limits past c.args.session c.args.committed _ c.args.self.now _ is sits found.ensures.updates
     (rw found.field-0-is at found.ensures.len ∙ omega arith) refl refl refl refl

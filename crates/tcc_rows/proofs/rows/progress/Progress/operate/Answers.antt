@@ -1,6 +1,6 @@
 use Rattle.std.proofs.Common.{sym}
 use Rattle.tcc_rows.specs.Past.{keys}
-use Rattle.tcc_rows.proofs.StandingFacts.{after-operation, operation-refused, placed-added}
+use Rattle.tcc_rows.proofs.StandingFacts.{after-operation, operation-refused, seated-added}
 use Rattle.tcc_rows.proofs.rows.progress.Progress.operate.Goals as goal
 
 pub returns-in-Err-clause-passed : goal.returns-in-Err-clause-passed
@@ -12,7 +12,7 @@ pub returns-clause-passed : goal.returns-clause-passed
 returns-clause-passed c limits past is =
     let held = c.get_mut.follows.holds c.add_operation.new.begun in
     let placed =
-    placed-added limits past c.args.session c.args.op c.args.self.now
+    seated-added limits past c.args.session c.args.op c.args.self.now
     (c.get_mut.follows.lender c.add_operation.new.begun) c.in-Some.begun.now c.add_operation.new.begun c.in_default.field-0 is
     (sym c.in-Some.ensures.value) c.in_default.ensures.added held.3 held.2 in
     after-operation limits past c.args.session c.args.op c.args.self.now
