@@ -14,7 +14,7 @@ use Rattle.tcc_check.specs.private.Searches.{IsFoundBelow}
 use Rattle.tcc_check.specs.private.Weights.{unlinked, IsLeastRow}
 use Rattle.tcc_check.specs.private.WeightsFrom.{ContradictsBy}
 use Rattle.tcc_check.specs.private.Places.{ArePlaces, IsKept, IsBehind}
-use Rattle.tcc_graph.proofs.Numberings.{one_place}
+use Rattle.tcc_graph.proofs.Numberings.{one_index}
 use Rattle.tcc_graph.proofs.Pairs.{session_below, pair_below}
 use Rattle.tcc_check.specs.private.Latest.{AreSessionsKept, AreApart, AreReadsKept}
 use Rattle.tcc_check.proofs.Entries.{entry_past}
@@ -23,8 +23,8 @@ use Rattle.tcc_check.proofs.Found.{found_as}
 module _ (order places : List ℕ) (are : ArePlaces order places) where
   pub before_places : (a b : ℕ) → a < length order → b < length order → Before order a b → get_or places a 0 < get_or places b 0
   before_places a b l m (i, j, low, within, at_a, at_b) =
-      let one = one_place are.numbering (get_or places a 0) i (are.within a l) (omega arith) (are.here a l ∙ sym at_a) in
-      let two = one_place are.numbering (get_or places b 0) j (are.within b m) within (are.here b m ∙ sym at_b) in
+      let one = one_index are.numbering (get_or places a 0) i (are.within a l) (omega arith) (are.here a l ∙ sym at_a) in
+      let two = one_index are.numbering (get_or places b 0) j (are.within b m) within (are.here b m ∙ sym at_b) in
       omega arith
 
   pub places_before : (a b : ℕ) → a < length order → b < length order → get_or places a 0 < get_or places b 0 → Before order a b

@@ -8,7 +8,7 @@ use Rattle.tcc_reads.specs.History.{History, IsBySession, count}
 use Rattle.tcc_graph.specs.Orders.{Before, IsNumbering}
 use Rattle.tcc_graph.specs.Relations.{IsCausalPair}
 use Rattle.tcc_graph.specs.Tables.{row_of}
-use Rattle.tcc_graph.proofs.Numberings.{below_in, one_place}
+use Rattle.tcc_graph.proofs.Numberings.{below_in, one_index}
 use Rattle.tcc_graph.proofs.Pairs.{pair_below}
 use Rattle.tcc_bits.proofs.Lists.{one_of_taken}
 use Rattle.tcc_order.specs.private.Parents.{HasSourcesAt, parents}
@@ -24,7 +24,7 @@ taken_at order k i p less inside at_p =
 -- what stands before the next one was worked out
 taken_before : {n : ℕ} (order : List ℕ) (k p : ℕ) → IsNumbering n order → k < length order → Before order p (get_or order k 0) → Contains (take k order) p
 taken_before order k p is inside (i, j, less, within, at_p, at_c) =
-    let same : j ≡ k = one_place is j k within inside at_c in
+    let same : j ≡ k = one_index is j k within inside at_c in
     taken_at order k i p (omega arith) inside at_p
 
 -- the rows of these are as they should be

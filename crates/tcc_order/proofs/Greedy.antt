@@ -14,7 +14,7 @@ use Rattle.std.proofs.lemmas.Map.Steps.{length-le_from_distinct_below}
 use Rattle.std.specs.Cmp.{nat_eq_equiv}
 use Rattle.tcc_graph.specs.Orders.{Before}
 use Rattle.tcc_order.specs.private.Numbering.{IsOrderOf}
-use Rattle.tcc_graph.proofs.Numberings.{below_in, has_place, one_place}
+use Rattle.tcc_graph.proofs.Numberings.{below_in, has_index, one_index}
 
 -- whether x is in the list
 abbrev pub has : List ℕ → ℕ → Bool
@@ -87,7 +87,7 @@ next_free precedes n done y ys h =
         absurd (omega (
           arith,
           w.1,
-          one_place h.numbering w.0 (length done) (omega (arith, w.1)) long
+          one_index h.numbering w.0 (length done) (omega (arith, w.1)) long
               (get_or_append_left done (y ∷ ys) 0 w.0 w.1 ∙ w.2 ∙ sym here),
         ))
 
@@ -101,7 +101,7 @@ next_free precedes n done y ys h =
 
     earlier : (a : ℕ) → slice_index (done ++ y ∷ ys) (length done) ≡ y → length done < length (done ++ y ∷ ys) → Before (done ++ y ∷ ys) a y → has done a ≡ true
     earlier a here long (i, j, below, within, at_a, at_y) =
-        let same : j ≡ length done = one_place h.numbering j (length done) within long (at_y ∙ sym here) in
+        let same : j ≡ length done = one_index h.numbering j (length done) within long (at_y ∙ sym here) in
         before_here done (y ∷ ys) i a (omega arith) at_a
 
 -- no order comes before one that was picked
@@ -111,7 +111,7 @@ Picks-first precedes n done [] [] p h = λ e. cc
 Picks-first precedes n done [] (y ∷ ys) p h = λ e. cc
 Picks-first precedes n done (x ∷ xs) [] p h =
     let all : IsOrderOf precedes n done = rw (append-nil done) at h in
-    let w = has_place all.numbering x p.0.free.below in
+    let w = has_index all.numbering x p.0.free.below in
     absurd (false≢true (sym p.0.free.new ∙ has_at done w.0 x w.1 w.2))
 Picks-first precedes n done (x ∷ xs) (y ∷ ys) p h =
     go (λ e. Picks-first precedes n (done ++ x ∷ []) xs ys p.1 (rw (append_assoc done (x ∷ []) ys, e) h)) (cases_order x y)

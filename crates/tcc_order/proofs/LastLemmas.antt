@@ -12,7 +12,7 @@ use Rattle.tcc_graph.specs.Levels.{causally}
 use Rattle.tcc_graph.specs.Orders.{Before, IsNumbering, IsCommitOrder}
 use Rattle.tcc_graph.specs.Relations.{IsCausalPair}
 use Rattle.tcc_graph.specs.Tables.{row_of}
-use Rattle.tcc_graph.proofs.Numberings.{below_in, one_place}
+use Rattle.tcc_graph.proofs.Numberings.{below_in, one_index}
 use Rattle.tcc_graph.proofs.Walking.{pair_walk}
 use Rattle.tcc_graph.proofs.Pairs.{pair_below}
 use Rattle.tcc_order.specs.Clocks.{IsBehind, IsLast, IsClocksOf}

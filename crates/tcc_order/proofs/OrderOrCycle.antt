@@ -13,17 +13,17 @@ use Rattle.tcc_order.proofs.Greedy.{has, IsFree, IsNext, Picks, Picks-push, Pick
 use Rattle.tcc_order.proofs.Circle.{IsLeastPassing, Search, search_below, lacks, short_circle}
 use Rattle.tcc_order.proofs.Kept.{precedence_below, link_before, commit_from_order, cycle_from_circle}
 use Rattle.tcc_order.proofs.Linked.{any_below, any_below_at, any_below_found, linked, linked_precedence}
-use Rattle.tcc_graph.proofs.Numberings.{one_place}
+use Rattle.tcc_graph.proofs.Numberings.{one_index}
 
 -- ---- an order would put each link's ends apart
 
 pub before_join : (n : ℕ) (order : List ℕ) (a b c : ℕ) → IsNumbering n order → Before order a b → Before order b c → Before order a c
 before_join n order a b c h (i, j, low, within, at_a, at_b) (k, m, above, inside, here_b, at_c) =
-    let same = one_place h j k within (omega arith) (at_b ∙ sym here_b) in
+    let same = one_index h j k within (omega arith) (at_b ∙ sym here_b) in
     (i, m, omega arith, inside, at_a, at_c)
 
 not_itself : (n : ℕ) (order : List ℕ) (a : ℕ) → IsNumbering n order → Before order a a → ⊥
-not_itself n order a h (i, j, low, within, at_i, at_j) = absurd (omega (arith, one_place h i j (omega arith) within (at_i ∙ sym at_j)))
+not_itself n order a h (i, j, low, within, at_i, at_j) = absurd (omega (arith, one_index h i j (omega arith) within (at_i ∙ sym at_j)))
 
 along : (j : Judged) (order : List ℕ) (a b : ℕ) (l : Link) (links : List Link) → IsCommitOrder j order → LinksLead j a b (l ∷ links) → Before order a b
 along j order a b l [] o p = rw (← p.0, ← p.2) (link_before j order o l p.1)
