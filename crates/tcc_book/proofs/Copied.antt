@@ -1,4 +1,4 @@
--- The copy of a book. Index: what stands at a session's places (taken); each place is in the journal (within); the parts of
+-- The copy of a book. Index: what stands at a session's positions (taken); each position is in the journal (within); the parts of
 -- the copy (parts-shown); no more transactions than records (few-listed); the parts make a snapshot (no-fault).
 use Rattle.std.proofs.Common.{◌≡◌, ℕ, ◌+◌, ◌≤◌, ◌<◌, All, Bool, true, false, cond, List, [], ◌∷◌, ◌++◌, length}
 use Rattle.std.proofs.Common.{map, None, Some, refl, sym, ap, ◌∙◌, subst, arith, sum_by, append_assoc}
@@ -24,13 +24,13 @@ use Rattle.tcc_txn.proofs.SnapshotFaults.{fault_by, no_fault}
 use Rattle.std.proofs.lemmas.List.Folds.{list_any_none}
 use Rattle.std.proofs.lemmas.Map.Keys.{apart_from_distinct}
 use Rattle.tcc_book.specs.Books.{list_of}
-use Rattle.tcc_book.specs.private.BookStorage.{AreWithin, IsStored, Places, no_txn, part_at, places_from, txn_at}
+use Rattle.tcc_book.specs.private.BookStorage.{AreWithin, IsStored, Positions, no_txn, part_at, positions_from, txn_at}
 use Rattle.tcc_book.specs.declared.entry.Entry.{Entry}
-use Rattle.tcc_book.proofs.Places.{length-keys}
+use Rattle.tcc_book.proofs.Positions.{length-keys}
 
--- what stands at the places of a session is what it recorded
+-- what stands at the positions of a session is what it recorded
 taken-from : (session : List ℕ) (front es : List Entry)
-    → map (txn_at (front ++ es)) (places_from session (length front) es) ≡ list_of session es
+    → map (txn_at (front ++ es)) (positions_from session (length front) es) ≡ list_of session es
 taken-from session front [] = refl
 taken-from session front (e ∷ es) = by (taken-from session (front ++ e ∷ []) es) (same session e.session) refl
   where
@@ -47,56 +47,56 @@ taken-from session front (e ∷ es) = by (taken-from session (front ++ e ∷ [])
         ∙ ap (λ n. slice_index_or (map (λ (d : Entry). d.txn) front ++ e.txn ∷ map (λ (d : Entry). d.txn) es) n no_txn) (sym long)
         ∙ get_or-append_seam (map (λ (d : Entry). d.txn) front) e.txn (map (λ (d : Entry). d.txn) es) no_txn
 
-    by : map (txn_at ((front ++ e ∷ []) ++ es)) (places_from session (length (front ++ e ∷ [])) es) ≡ list_of session es
+    by : map (txn_at ((front ++ e ∷ []) ++ es)) (positions_from session (length (front ++ e ∷ [])) es) ≡ list_of session es
         → (b : Bool) → same session e.session ≡ b
-        → map (txn_at (front ++ e ∷ es)) (places_from session (length front) (e ∷ es)) ≡ list_of session (e ∷ es)
-    by rest true is = rw is ((λ i. here i ∷ map (txn_at (sym joined i)) (places_from session (sym next i) es)) ∙ ap (λ ts. e.txn ∷ ts) rest)
-    by rest false is = rw is ((λ i. map (txn_at (sym joined i)) (places_from session (sym next i) es)) ∙ rest)
+        → map (txn_at (front ++ e ∷ es)) (positions_from session (length front) (e ∷ es)) ≡ list_of session (e ∷ es)
+    by rest true is = rw is ((λ i. here i ∷ map (txn_at (sym joined i)) (positions_from session (sym next i) es)) ∙ ap (λ ts. e.txn ∷ ts) rest)
+    by rest false is = rw is ((λ i. map (txn_at (sym joined i)) (positions_from session (sym next i) es)) ∙ rest)
 
-pub taken : (session : List ℕ) (journal : List Entry) → map (txn_at journal) (places_from session 0 journal) ≡ list_of session journal
+pub taken : (session : List ℕ) (journal : List Entry) → map (txn_at journal) (positions_from session 0 journal) ≡ list_of session journal
 taken session journal = taken-from session [] journal
 
--- each place of a session is one of the journal
-places-below : (session : List ℕ) (n : ℕ) (es : List Entry) → All (λ place. place < n + length es) (places_from session n es)
-places-below session n [] = All-nil _
-places-below session n (e ∷ es) = by (places-below session (n + 1) es) (same session e.session) refl
+-- each position of a session is one of the journal
+positions-below : (session : List ℕ) (n : ℕ) (es : List Entry) → All (λ position. position < n + length es) (positions_from session n es)
+positions-below session n [] = All-nil _
+positions-below session n (e ∷ es) = by (positions-below session (n + 1) es) (same session e.session) refl
   where
     next : n + 1 + length es ≡ n + length (e ∷ es)
     next = omega arith
 
-    by : All (λ place. place < n + 1 + length es) (places_from session (n + 1) es) → (b : Bool) → same session e.session ≡ b
-        → All (λ place. place < n + length (e ∷ es)) (places_from session n (e ∷ es))
-    by rest true is = rw is (All-cons (λ place. place < n + length (e ∷ es)) n (places_from session (n + 1) es) (omega arith)
-        (subst (λ m. All (λ place. place < m) (places_from session (n + 1) es)) next rest))
-    by rest false is = rw is (subst (λ m. All (λ place. place < m) (places_from session (n + 1) es)) next rest)
+    by : All (λ position. position < n + 1 + length es) (positions_from session (n + 1) es) → (b : Bool) → same session e.session ≡ b
+        → All (λ position. position < n + length (e ∷ es)) (positions_from session n (e ∷ es))
+    by rest true is = rw is (All-cons (λ position. position < n + length (e ∷ es)) n (positions_from session (n + 1) es) (omega arith)
+        (subst (λ m. All (λ position. position < m) (positions_from session (n + 1) es)) next rest))
+    by rest false is = rw is (subst (λ m. All (λ position. position < m) (positions_from session (n + 1) es)) next rest)
 
--- the list of each session is the places of its records
-listed-at : (places : Places) (journal : List Entry) (k : ℕ) (d : List ℕ × Vec ℕ) → IsStored places journal → k < length places.entries
-    → (slice_index_or places.entries k d).1.items ≡ places_from (slice_index_or places.entries k d).0 0 journal
-listed-at places journal k d is within =
-    let e = slice_index_or places.entries k d in
-    is.each e.0 e.1 (lookup-from_Contains nat_list_eq_equiv e.0 e.1 places.entries is.once (Contains-get_or places.entries k d within))
+-- the list of each session is the positions of its records
+listed-at : (positions : Positions) (journal : List Entry) (k : ℕ) (d : List ℕ × Vec ℕ) → IsStored positions journal → k < length positions.entries
+    → (slice_index_or positions.entries k d).1.items ≡ positions_from (slice_index_or positions.entries k d).0 0 journal
+listed-at positions journal k d is within =
+    let e = slice_index_or positions.entries k d in
+    is.each e.0 e.1 (lookup-from_Contains nat_list_eq_equiv e.0 e.1 positions.entries is.once (Contains-get_or positions.entries k d within))
 
 zero-more : (n : ℕ) → 0 + n ≡ n
 zero-more n = omega arith
 
-pub within : (places : Places) (journal : List Entry) → IsStored places journal → AreWithin journal places.entries
-within places journal is k d inside =
-    let e = slice_index_or places.entries k d in
-    subst (All (λ place. place < length journal)) (sym (listed-at places journal k d is inside))
-    (subst (λ m. All (λ place. place < m) (places_from e.0 0 journal)) (zero-more (length journal)) (places-below e.0 0 journal))
+pub within : (positions : Positions) (journal : List Entry) → IsStored positions journal → AreWithin journal positions.entries
+within positions journal is k d inside =
+    let e = slice_index_or positions.entries k d in
+    subst (All (λ position. position < length journal)) (sym (listed-at positions journal k d is inside))
+    (subst (λ m. All (λ position. position < m) (positions_from e.0 0 journal)) (zero-more (length journal)) (positions-below e.0 0 journal))
 
 -- the parts are the sessions with what they recorded
-parts-listed : (journal : List Entry) (es : List (List ℕ × Vec ℕ)) → All (λ e. e.1.items ≡ places_from e.0 0 journal) es
+parts-listed : (journal : List Entry) (es : List (List ℕ × Vec ℕ)) → All (λ e. e.1.items ≡ positions_from e.0 0 journal) es
     → map (part_at journal) es ≡ map (λ session. (session, list_of session journal)) (keys_of es)
 parts-listed journal [] listed = refl
 parts-listed journal (e ∷ es) listed =
-    λ i. (e.0, (ap (map (txn_at journal)) (All-head (λ (e : List ℕ × Vec ℕ). e.1.items ≡ places_from e.0 0 journal) e es listed) ∙ taken e.0 journal) i)
-    ∷ parts-listed journal es (All-tail (λ (e : List ℕ × Vec ℕ). e.1.items ≡ places_from e.0 0 journal) e es listed) i
+    λ i. (e.0, (ap (map (txn_at journal)) (All-head (λ (e : List ℕ × Vec ℕ). e.1.items ≡ positions_from e.0 0 journal) e es listed) ∙ taken e.0 journal) i)
+    ∷ parts-listed journal es (All-tail (λ (e : List ℕ × Vec ℕ). e.1.items ≡ positions_from e.0 0 journal) e es listed) i
 
-pub parts-shown : (places : Places) (journal : List Entry) → IsStored places journal
-    → map (part_at journal) places.entries ≡ map (λ session. (session, list_of session journal)) (keys places)
-parts-shown places journal is = parts-listed journal places.entries (λ k d inside. listed-at places journal k d is inside)
+pub parts-shown : (positions : Positions) (journal : List Entry) → IsStored positions journal
+    → map (part_at journal) positions.entries ≡ map (λ session. (session, list_of session journal)) (keys positions)
+parts-shown positions journal is = parts-listed journal positions.entries (λ k d inside. listed-at positions journal k d is inside)
 
 -- how many of the names are this one
 abbrev tally : List ℕ → List (List ℕ) → ℕ
@@ -186,15 +186,15 @@ part-sums journal (n ∷ ns) =
     ∙ sym (sum_by-cons (λ session. length (list_of session journal)) n ns)
 
 -- the parts make a snapshot
-pub no-fault : (places : Places) (journal : List Entry) → IsStored places journal
-    → snapshot_fault (map (λ session. (session, list_of session journal)) (keys places)) ≡ None
-no-fault places journal is =
-    let names = keys places in
+pub no-fault : (positions : Positions) (journal : List Entry) → IsStored positions journal
+    → snapshot_fault (map (λ session. (session, list_of session journal)) (keys positions)) ≡ None
+no-fault positions journal is =
+    let names = keys positions in
     let parts : List (List ℕ × List Transaction) = map (λ session. (session, list_of session journal)) names in
     let once : first_repeated [] (map (λ (part : List ℕ × List Transaction). part.0) parts) ≡ None =
     ap (first_repeated []) (part-names journal names) ∙ unrepeated [] names is.once in
     let part : List ℕ → List ℕ × List Transaction = λ session. (session, list_of session journal) in
-    let few : length parts ≤ MAX_SESSIONS = omega (arith, length-map names part, length-keys places, is.few) in
+    let few : length parts ≤ MAX_SESSIONS = omega (arith, length-map names part, length-keys positions, is.few) in
     let short : sum_by (λ (part : List ℕ × List Transaction). length part.1) parts ≤ MAX_TRANSACTIONS =
     omega (arith, part-sums journal names, few-listed names journal is.once, is.short) in
     ap (λ repeated. fault_by repeated (length parts) (sum_by (λ (part : List ℕ × List Transaction). length part.1) parts)) once

@@ -1,7 +1,7 @@
 mod Agreed
 mod Copied
 mod Opened
-mod Places
+mod Positions
 mod Prefixes
 mod Recorded
 mod Whole

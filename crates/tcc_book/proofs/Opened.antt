@@ -11,12 +11,12 @@ use Rattle.indexmap.specs.IndexMap.{get, keys, IsUnique, Updates, index_map_len,
 use Rattle.indexmap.proofs.CallerLemmas.{insert_entry-new}
 use Rattle.tcc_txn.specs.Bytes.{same}
 use Rattle.tcc_txn.specs.declared.limits.TheConstants.{MAX_SESSIONS}
-use Rattle.tcc_book.specs.private.BookStorage.{Places, IsStored, places_from}
+use Rattle.tcc_book.specs.private.BookStorage.{Positions, IsStored, positions_from}
 use Rattle.tcc_book.specs.declared.entry.Entry.{Entry}
-use Rattle.tcc_book.proofs.Places.{no-places}
+use Rattle.tcc_book.proofs.Positions.{no-positions}
 
 -- what was found is found still
-still-known : (old new : Places) (session : List ℕ) (list : Vec ℕ) (es : List Entry)
+still-known : (old new : Positions) (session : List ℕ) (list : Vec ℕ) (es : List Entry)
     → ((q : List ℕ) → get same new q ≡ cond (same session q) (Some list) (get same old q))
     → list_all (λ e. is_some (get same old e.session)) es ≡ true → list_all (λ e. is_some (get same new e.session)) es ≡ true
 still-known old new session list [] more known = refl
@@ -31,7 +31,7 @@ still-known old new session list (e ∷ es) more known =
     by rest false found b is = absurd (cc (rw found at known))
 
 -- one session more, with no records
-pub opened : (old new : Places) (journal : List Entry) (session : List ℕ) (list : Vec ℕ) → IsStored old journal
+pub opened : (old new : Positions) (journal : List Entry) (session : List ℕ) (list : Vec ℕ) → IsStored old journal
     → get same old session ≡ None → index_map_len old < MAX_SESSIONS → list.items ≡ []
     → Updates same old new session (Some list) → new.entries ≡ insert_entry same old.entries session list → IsUnique same new
     → IsStored new journal
@@ -43,15 +43,15 @@ opened old new journal session list is none room empty updates entries unique = 
   short = is.short;
 }
   where
-    each : (q : List ℕ) (found : Vec ℕ) → get same new q ≡ Some found → found.items ≡ places_from q 0 journal
+    each : (q : List ℕ) (found : Vec ℕ) → get same new q ≡ Some found → found.items ≡ positions_from q 0 journal
     each q found at = by (same session q) refl
       where
-        by : (b : Bool) → same session q ≡ b → found.items ≡ places_from q 0 journal
+        by : (b : Bool) → same session q ≡ b → found.items ≡ positions_from q 0 journal
         by true alike =
             let first : Some list ≡ Some found = sym (ap (λ b. cond b (Some list) (get same old q)) alike) ∙ sym (updates.0 q) ∙ at in
             let absent : get same old q ≡ None = ap (get same old) (sym (same_names session q alike)) ∙ none in
             let same_list : list ≡ found = cc first in
-            ap (λ v. v.items) (sym same_list) ∙ empty ∙ sym (no-places q old 0 journal absent is.known)
+            ap (λ v. v.items) (sym same_list) ∙ empty ∙ sym (no-positions q old 0 journal absent is.known)
         by false apart =
             is.each q found (sym (ap (λ b. cond b (Some list) (get same old q)) apart) ∙ sym (updates.0 q) ∙ at)
 
@@ -60,13 +60,13 @@ opened old new journal session list is none room empty updates entries unique = 
         omega (arith, longer, length-append old.entries ((session, list) ∷ []), room)
 
 -- the names after it
-pub opened-names : (old new : Places) (session : List ℕ) (list : Vec ℕ) → get same old session ≡ None
+pub opened-names : (old new : Positions) (session : List ℕ) (list : Vec ℕ) → get same old session ≡ None
     → new.entries ≡ insert_entry same old.entries session list → keys new ≡ keys old ++ session ∷ []
 opened-names old new session list none entries =
     ap keys_of (entries ∙ insert_entry-new same old session list none) ∙ map-append (λ e. e.0) old.entries ((session, list) ∷ [])
 
 -- the same entries
-pub unchanged : (old new : Places) (journal : List Entry) → new.entries ≡ old.entries → IsStored old journal → IsStored new journal
+pub unchanged : (old new : Positions) (journal : List Entry) → new.entries ≡ old.entries → IsStored old journal → IsStored new journal
 unchanged old new journal kept is = record {
   each = λ q list at. is.each q list (ap (lookup (same q)) (sym kept) ∙ at);
   known = ap (λ es. list_all (λ e. is_some (lookup (same e.session) es)) journal) kept ∙ is.known;

@@ -38,7 +38,7 @@ module _ (small large : Sessions) where
   stands : (i : ℕ) (e : Named) → i < length (entries small) → slice_get (entries small) i ≡ Some e → Contains (entries small) e
   stands i e within at = (i, within, get_or_from_slice_get (entries small) i e e at)
 
-  -- what stands at a place is the list of its session, and what a search finds there is the list in the other
+  -- what stands at a position is the list of its session, and what a search finds there is the list in the other
   module _ (i : ℕ) (e : Named) (within : i < length (entries small)) (at : slice_get (entries small) i ≡ Some e) (found : List Transaction)
       (found_is : found ≡ list_of large e.0) where
     list_is : list_of small e.0 ≡ e.1

@@ -4,7 +4,7 @@ ghost use Rattle.indexmap.specs.IndexMap.{IsUnique};
 ghost use Rattle.tcc_txn.specs.Bytes.{same};
 ghost use Rattle.tcc_book.specs.Books.{IsBook, Opens, Records, copy_of, no_book};
 ghost use Rattle.tcc_txn.specs.Snapshots.{parts_of};
-ghost use Rattle.tcc_book.specs.private.BookStorage.{AddsPlace, AreWithin, part_at, txn_at};
+ghost use Rattle.tcc_book.specs.private.BookStorage.{AddsPosition, AreWithin, part_at, txn_at};
 
 use crate::entry::Entry;
 use crate::fault::{OpenFault, RecordFault};
@@ -14,10 +14,10 @@ use std::marker::Model;
 use tcc_txn::{MAX_SESSIONS, MAX_TRANSACTIONS, Name, NoMemory, Snapshot, Txn};
 
 /// The sessions in the order in which they were opened, and the journal of all records in the order of the lock. Each
-/// session's list is kept as the places of its records in the journal.
+/// session's list is kept as the positions of its records in the journal.
 #[derive(Drop)]
 pub struct BookState {
-    places: IndexMap<Name, Vec<usize>>,
+    positions: IndexMap<Name, Vec<usize>>,
     journal: Vec<Entry>,
 }
 
@@ -28,41 +28,41 @@ impl Model for BookState {
 
     ghost Value = { Book };
 
-    ghost view = { λ s. record { names = keys s.places; journal = s.journal.items } };
+    ghost view = { λ s. record { names = keys s.positions; journal = s.journal.items } };
 
-    ghost invariant = { λ s. IsStored s.places s.journal.items };
+    ghost invariant = { λ s. IsStored s.positions s.journal.items };
 }
 
-/// Adds a place to the list of a session that has so many.
-fn add_place(
-    places: &mut IndexMap<Name, Vec<usize>>,
+/// Adds a position to the list of a session that has so many.
+fn add_position(
+    positions: &mut IndexMap<Name, Vec<usize>>,
     session: &Name,
     held: u32,
-    place: usize,
+    position: usize,
 ) -> Result<(), RecordFault>
-    requires unique { IsUnique same places.old }
-    ensures { AddsPlace places.old session.now held place result places.new }
+    requires unique { IsUnique same positions.old }
+    ensures { AddsPosition positions.old session.now held position result positions.new }
 {
-    let Some(list) = places.get_mut(session) else {
+    let Some(list) = positions.get_mut(session) else {
         return Err(RecordFault::Torn { session: *session });
     };
     if list.len() != held as usize {
         return Err(RecordFault::Torn { session: *session });
     }
-    match list.push(place) {
+    match list.push(position) {
         Ok(()) => Ok(()),
         Err(_) => Err(RecordFault::NoMemory),
     }
 }
 
-/// The transactions at these places of the journal.
-fn listed(alloc: Global, journal: &[Entry], places: &[usize]) -> Result<Vec<Txn>, NoMemory>
-    requires { All (λ place. place < length journal.now) places.now }
-    ensures { IfOk result (λ txns. txns.items ≡ map (txn_at journal.now) places.now) }
+/// The transactions at these positions of the journal.
+fn listed(alloc: Global, journal: &[Entry], positions: &[usize]) -> Result<Vec<Txn>, NoMemory>
+    requires { All (λ position. position < length journal.now) positions.now }
+    ensures { IfOk result (λ txns. txns.items ≡ map (txn_at journal.now) positions.now) }
 {
     let mut txns = Vec::new(alloc);
-    for place in places {
-        txns.push(journal[*place].txn.copy(alloc)?)?;
+    for position in positions {
+        txns.push(journal[*position].txn.copy(alloc)?)?;
     }
     Ok(txns)
 }
@@ -70,14 +70,14 @@ fn listed(alloc: Global, journal: &[Entry], places: &[usize]) -> Result<Vec<Txn>
 /// Each session with what it recorded, in the order of opening.
 fn parts(
     alloc: Global,
-    places: &IndexMap<Name, Vec<usize>>,
+    positions: &IndexMap<Name, Vec<usize>>,
     journal: &[Entry],
 ) -> Result<Vec<(Name, Vec<Txn>)>, NoMemory>
-    requires { AreWithin journal.now places.now.entries }
-    ensures { IfOk result (λ parts. parts_of parts.items ≡ map (part_at journal.now) places.now.entries) }
+    requires { AreWithin journal.now positions.now.entries }
+    ensures { IfOk result (λ parts. parts_of parts.items ≡ map (part_at journal.now) positions.now.entries) }
 {
     let mut parts = Vec::new(alloc);
-    for (session, list) in places.iter() {
+    for (session, list) in positions.iter() {
         parts.push((*session, listed(alloc, journal, list)?))?;
     }
     Ok(parts)
@@ -89,7 +89,7 @@ impl BookState {
         ensures { IfOk result (λ state. state ≡ no_book) }
     {
         Ok(BookState {
-            places: IndexMap::new(alloc),
+            positions: IndexMap::new(alloc),
             journal: Vec::new(alloc),
         })
     }
@@ -99,17 +99,17 @@ impl BookState {
         ensures opens { Opens self.old session result self.new }
         ensures lawful { IsBook self.old }
     {
-        if let Some(places) = self.places.get(&session) {
+        if let Some(positions) = self.positions.get(&session) {
             return Err(OpenFault::Taken {
-                held: places.len() as u32,
+                held: positions.len() as u32,
             });
         }
-        if self.places.len() >= MAX_SESSIONS {
+        if self.positions.len() >= MAX_SESSIONS {
             return Err(OpenFault::TooManySessions {
-                held: self.places.len() as u32,
+                held: self.positions.len() as u32,
             });
         }
-        if self.places.insert(session, Vec::new(alloc)).is_err() {
+        if self.positions.insert(session, Vec::new(alloc)).is_err() {
             return Err(OpenFault::NoMemory);
         }
         Ok(())
@@ -121,14 +121,19 @@ impl BookState {
         ensures records { Records self.old session.now held txn result self.new }
         ensures lawful { IsBook self.old }
     {
-        let place = self.journal.len();
-        if place >= MAX_TRANSACTIONS {
-            return Err((RecordFault::Full { held: place as u32 }, txn));
+        let position = self.journal.len();
+        if position >= MAX_TRANSACTIONS {
+            return Err((
+                RecordFault::Full {
+                    held: position as u32,
+                },
+                txn,
+            ));
         }
         if self.journal.reserve(1).is_err() {
             return Err((RecordFault::NoMemory, txn));
         }
-        if let Err(fault) = add_place(&mut self.places, session, held, place) {
+        if let Err(fault) = add_position(&mut self.positions, session, held, position) {
             return Err((fault, txn));
         }
         let entry = Entry {
@@ -146,7 +151,7 @@ impl BookState {
         ensures copy { IfOk result (λ copy. copy ≡ copy_of self.now) }
         ensures lawful { IsBook self.now }
     {
-        let Ok(copy) = Snapshot::new(parts(alloc, &self.places, &self.journal)?) else {
+        let Ok(copy) = Snapshot::new(parts(alloc, &self.positions, &self.journal)?) else {
             unreachable!()
         };
         Ok(copy)

@@ -20,6 +20,6 @@ loop-session-preserved c =
           ∙ append_assoc (parts_of c.loop-session.parts.items) (part_at journal (c.in-Some.session.now, c.in-Some.list.now) ∷ [])
           (map (part_at journal) c.next.new.self)
           ∙ ap (λ es. parts_of c.loop-session.parts.items ++ map (part_at journal) es) (sym first) ∙ c.loop-session.invariant.0,
-      All-tail (λ (e : List ℕ × Vec ℕ). All (λ place. place < length journal) e.1.items) (c.in-Some.session.now, c.in-Some.list.now) c.next.new.self
+      All-tail (λ (e : List ℕ × Vec ℕ). All (λ position. position < length journal) e.1.items) (c.in-Some.session.now, c.in-Some.list.now) c.next.new.self
           (subst (AreWithin journal) first c.loop-session.invariant.1),
     )

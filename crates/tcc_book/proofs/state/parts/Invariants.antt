@@ -6,5 +6,5 @@ use Rattle.tcc_book.proofs.state.parts.Given as goal
 -- the parts of the sessions so far stand before those of the sessions to come
 abbrev pub invariant-loop-session : goal.invariant-loop-session
 invariant-loop-session l =
-    (parts_of l.parts.items ++ map (part_at l.journal) l.session-iterator ≡ map (part_at l.journal) l.places.entries)
+    (parts_of l.parts.items ++ map (part_at l.journal) l.session-iterator ≡ map (part_at l.journal) l.positions.entries)
     × AreWithin l.journal l.session-iterator

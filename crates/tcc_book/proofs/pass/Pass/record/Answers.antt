@@ -1,5 +1,5 @@
 use Rattle.std.proofs.Common.{◌∷◌, [], ap, length, length-append, arith}
-use Rattle.tcc_book.proofs.Places.{few-places, length-places}
+use Rattle.tcc_book.proofs.Positions.{few-positions, length-positions}
 use Rattle.tcc_book.proofs.pass.Pass.record.Goals as goal
 
 pub invariant_of-self-2 : goal.invariant_of-self-2
@@ -11,8 +11,8 @@ invariant_of-self-2 c =
       arith,
       is.0,
       is.1.1,
-      length-places session 0 journal,
-      few-places session 0 journal,
+      length-positions session 0 journal,
+      few-positions session 0 journal,
       c.len-held.ensures,
       c.reserve.new.self.ok.0,
       ap length c.in-Ok.ensures.items,
