@@ -199,9 +199,11 @@ def ending_backends(servers: Servers, times: int) -> Iterator[None]:
     ended = threading.Event()
     killing = threading.Thread(target=end_backends, args=(servers, times, ended), daemon=True)
     killing.start()
-    yield
-    ended.set()
-    killing.join()
+    try:
+        yield
+    finally:
+        ended.set()
+        killing.join()
 
 
 def end_backends(servers: Servers, times: int, ended: threading.Event) -> None:
