@@ -9,5 +9,5 @@ returns-in_err-derived-in-Derived g c =
 
 pub returns-in_ok-derived-in-Derived : goal.returns-in_ok-derived-in-Derived
 returns-in_ok-derived-in-Derived g c =
-    rw c.in-Derived.is (IsSent-then c.steps-in-Derived.result _ _ _ _ _ _ _ _
-    (rw c.as_slice-taken.ensures at c.in_ok-derived-in-Derived.ensures) (rw c.as_slice-taken.ensures at c.steps-in-Derived.ensures))
+    rw c.in-Derived.is (IsSent-then c.steps.result _ _ _ _ _ _ _ _
+    (rw c.as_slice-taken.ensures at c.in_ok-derived-in-Derived.ensures) (rw c.as_slice-taken.ensures at c.steps.ensures))
