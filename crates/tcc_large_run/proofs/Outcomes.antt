@@ -10,7 +10,8 @@ use Rattle.tcc_large.specs.declared.answer.LargeAnswer.{LargeAnswer}
 use Rattle.tcc_large.specs.declared.decision.Decision.{Decision}
 use Rattle.tcc_large.specs.declared.decision.Decision.TheVariants as decision
 use Rattle.tcc_print.specs.declared.options.Options.{Options}
-use Rattle.tcc_large_run.specs.LargeRuns.{IsSaidOfSnapshot, IsResolvedAs, decision_said, faults_said}
+use Rattle.tcc_print.specs.Courses.{faults_said}
+use Rattle.tcc_large_run.specs.LargeRuns.{IsSaidOfSnapshot, IsResolvedAs, decision_said}
 use Rattle.tcc_large_run.specs.private.Stages.{IsOutcome, IsResolved, outcome_of, outcome_said}
 use Rattle.tcc_large_run.specs.declared.outcome.Outcome.{Outcome}
 

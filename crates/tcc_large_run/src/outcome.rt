@@ -20,7 +20,7 @@ use tcc_print::large::send_unproved;
 use tcc_print::notes::note_reads;
 use tcc_print::printing::{send_answer, send_unresolved};
 use tcc_print::status::answer_status;
-use tcc_print::{Options, Status};
+use tcc_print::{Run, Status};
 use tcc_reads::{ReadFault, ResolveFault};
 use tcc_txn::{LargeSnapshot, NoMemory, Snapshot};
 
@@ -52,17 +52,22 @@ fn order_answer(
 
 impl Outcome {
     /// What is said of a small snapshot.
-    fn of_small<G: Gate>(
-        rt: &(impl Threads + Sync),
-        alloc: Global,
+    fn of_small<T: Threads + Sync, G: Gate>(
+        run: &Run<T, G>,
         snapshot: &Snapshot,
-        options: &Options,
-        gate: &G,
     ) -> Result<Outcome, NoMemory>
         requires small { KeepsLimits snapshot.now }
-        ensures { IfOk result (IsOutcome options.now.level snapshot.now) }
+        ensures { IfOk result (IsOutcome run.now.options.now.level snapshot.now) }
     {
-        match explain(rt, alloc, snapshot, options.level, options.workers, gate) {
+        let options = run.options;
+        match explain(
+            run.rt,
+            run.alloc,
+            snapshot,
+            options.level,
+            options.workers,
+            run.gate,
+        ) {
             Ok(answer) => Ok(Outcome::Answered(answer)),
             Err(ExplainFault::Reads(faults)) => Ok(Outcome::Unresolved(faults)),
             Err(ExplainFault::NoMemory) => Err(NoMemory),
@@ -86,20 +91,18 @@ impl Outcome {
     }
 
     /// What is to be said of a snapshot at the level; a small one is searched by so many workers.
-    pub(crate) fn of<G: Gate>(
-        rt: &(impl Threads + Sync),
-        alloc: Global,
+    pub(crate) fn of<T: Threads + Sync, G: Gate>(
+        run: &Run<T, G>,
         snapshot: &LargeSnapshot,
-        options: &Options,
-        gate: &G,
     ) -> Result<Outcome, NoMemory>
-        ensures { IfOk result (IsOutcome options.now.level snapshot.now) }
+        ensures { IfOk result (IsOutcome run.now.options.now.level snapshot.now) }
     {
-        if let Some(small) = snapshot.small_copy(alloc)? {
-            return Outcome::of_small(rt, alloc, &small, options, gate);
+        if let Some(small) = snapshot.small_copy(run.alloc)? {
+            return Outcome::of_small(run, &small);
         }
-        match explain_large(alloc, snapshot, options.level) {
-            Ok(answer) => Outcome::of_decision(alloc, options.level, answer),
+        let level = run.options.level;
+        match explain_large(run.alloc, snapshot, level) {
+            Ok(answer) => Outcome::of_decision(run.alloc, level, answer),
             Err(ResolveFault::Reads(faults)) => Ok(Outcome::Unresolved(faults)),
             Err(ResolveFault::NoMemory) => Err(NoMemory),
         }

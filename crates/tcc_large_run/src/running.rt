@@ -9,7 +9,8 @@ ghost use Rattle.tcc_rows.specs.Recordings.{FailsBehind, IsRecording, TakesMomen
 ghost use Rattle.tcc_rows.specs.declared.rows.Item.{Item};
 ghost use Rattle.tcc_txn.specs.declared.limits.Limits.TheVariants.{Large};
 ghost use Rattle.tcc_large_run.specs.LargeRuns.{IsLargeRun, answers_of, finished, records_of};
-ghost use Rattle.tcc_large_run.specs.private.Stages.{AllAnswered, Concludes, EndsAnswering, EndsEarly, SaysLast, SendsSlice, WritesSlice, outcome_said};
+ghost use Rattle.tcc_print.specs.private.Courses.{AllAnswered, EndsAnswering, EndsEarly, SaysLast};
+ghost use Rattle.tcc_large_run.specs.private.Stages.{Concludes, SendsSlice, WritesSlice, course, outcome_said};
 
 use crate::outcome::Outcome;
 use crate::slicing::slice_text;
@@ -18,44 +19,33 @@ use std::alloc::Global;
 use std::io::{Read, Write};
 use std::thread::Threads;
 use tcc_graph::Link;
-use tcc_print::Options;
 use tcc_print::notes::{note_last, note_no_slice};
 use tcc_print::printing::{print_device, print_memory};
+use tcc_print::{Last, Options, Run, again};
 use tcc_rows::{LargeRecording, Moment, RowFault, RowFaultKind};
 use tcc_sending::send;
 use tcc_txn::{LargeSnapshot, NoMemory};
 use tcc_verdict::stop;
 
-/// What a run said last.
-#[derive(Drop)]
-struct Last {
-    outcome: Outcome,
-    /// How many transactions it was said for.
-    transactions: usize,
-}
-
 /// Says what is to be said of the snapshot, as text or as a line of JSON, and keeps it; else the run ends with this number.
-fn say<W: Write, N: Write, G: Watcher>(
-    rt: &(impl Threads + Sync),
-    alloc: Global,
+fn say<T: Threads + Sync, W: Write, N: Write, G: Watcher>(
+    run: &Run<T, G>,
     snapshot: &LargeSnapshot,
-    options: &Options,
-    watcher: &G,
     out: &mut W,
     notes: &mut N,
-) -> Result<Last, u8>
-    ensures { MatchResult result (SaysLast options.now snapshot.now (W.contents out.old) (W.contents out.new))
-        (EndsAnswering options.now snapshot.now (W.contents out.old) (W.contents out.new)) }
+) -> Result<Last<Outcome>, u8>
+    ensures { MatchResult result (SaysLast (course run.now.options.now) snapshot.now (W.contents out.old) (W.contents out.new))
+        (EndsAnswering (course run.now.options.now) snapshot.now (W.contents out.old) (W.contents out.new)) }
 {
-    watcher.begin(Stage::Deciding);
-    let decided = Outcome::of(rt, alloc, snapshot, options, watcher);
-    watcher.end();
+    run.gate.begin(Stage::Deciding);
+    let decided = Outcome::of(run, snapshot);
+    run.gate.end();
     let outcome = match decided {
         Ok(outcome) => outcome,
-        Err(NoMemory) => return Err(print_memory(out, options.json)),
+        Err(NoMemory) => return Err(print_memory(out, run.options.json)),
     };
-    outcome.send(alloc, options.json, out)?;
-    outcome.note(alloc, snapshot, notes);
+    outcome.send(run.alloc, run.options.json, out)?;
+    outcome.note(run.alloc, snapshot, notes);
     Ok(Last {
         outcome,
         transactions: snapshot.transactions(),
@@ -64,28 +54,23 @@ fn say<W: Write, N: Write, G: Watcher>(
 
 /// Says at the end what is to be said of the snapshot, unless it was said last, and keeps it; else the run ends with this
 /// number.
-fn say_last<W: Write, N: Write, G: Watcher>(
-    rt: &(impl Threads + Sync),
-    alloc: Global,
+fn say_last<T: Threads + Sync, W: Write, N: Write, G: Watcher>(
+    run: &Run<T, G>,
     snapshot: &LargeSnapshot,
-    last: Option<Last>,
-    options: &Options,
-    watcher: &G,
+    last: Option<Last<Outcome>>,
     out: &mut W,
     notes: &mut N,
-) -> Result<Last, u8>
+) -> Result<Last<Outcome>, u8>
     ensures said { IfSome last (λ last. last.transactions ≡ transaction_count snapshot.now → (W.contents out.new ≡ W.contents out.old)
         × (result ≡ Ok last)) }
     ensures due { IfSome last (λ last. last.transactions ≢ transaction_count snapshot.now)
-        → MatchResult result (SaysLast options.now snapshot.now (W.contents out.old) (W.contents out.new))
-        (EndsAnswering options.now snapshot.now (W.contents out.old) (W.contents out.new)) }
+        → MatchResult result (SaysLast (course run.now.options.now) snapshot.now (W.contents out.old) (W.contents out.new))
+        (EndsAnswering (course run.now.options.now) snapshot.now (W.contents out.old) (W.contents out.new)) }
 {
-    if let Some(last) = last {
-        if last.transactions == snapshot.transactions() {
-            return Ok(last);
-        }
+    match again(last, snapshot.transactions()) {
+        Ok(last) => Ok(last),
+        Err(_) => say(run, snapshot, out, notes),
     }
-    say(rt, alloc, snapshot, options, watcher, out, notes)
 }
 
 /// Reads on to the next seal or to the end, which the watcher is told.
@@ -111,132 +96,108 @@ fn read_on<R: Read + Drop, G: Watcher>(
 
 /// Writes the answers at the seals that are still to come and the one at the end, if it is due, and gives what was said last;
 /// or writes what ends the run before, and gives the number that it ends with.
-fn answer_all<R: Read + Drop, W: Write, N: Write, G: Watcher>(
-    rt: &(impl Threads + Sync),
-    alloc: Global,
+fn answer_all<R: Read + Drop, T: Threads + Sync, W: Write, N: Write, G: Watcher>(
+    run: &Run<T, G>,
     recording: &mut LargeRecording<R>,
-    options: &Options,
-    watcher: &G,
     out: &mut W,
     notes: &mut N,
-) -> Result<Last, u8>
+) -> Result<Last<Outcome>, u8>
     ensures answers { (bytes : List ℕ) → IsRecording Large R.remaining recording.old [] (answers_of bytes) → IsWithin R.remaining recording.old.rows (records_of bytes)
         → fault_met recording.old.rows ≡ None
-        → MatchResult result (AllAnswered options.now bytes (W.contents out.old) (W.contents out.new))
-        (EndsEarly options.now bytes (W.contents out.old) (W.contents out.new)) }
+        → MatchResult result (AllAnswered (course run.now.options.now) bytes (W.contents out.old) (W.contents out.new))
+        (EndsEarly (course run.now.options.now) bytes (W.contents out.old) (W.contents out.new)) }
     ensures finished { (bytes : List ℕ) → IsRecording Large R.remaining recording.old [] (answers_of bytes)
         → IfOk result (λ _. recording.new.snapshot ≡ finished bytes) }
 {
-    let mut last: Option<Last> = None;
+    let mut last: Option<Last<Outcome>> = None;
     'moments: for _turn in 0..u64::MAX {
-        match read_on(alloc, recording, watcher) {
+        match read_on(run.alloc, recording, run.gate) {
             Ok(Moment::Seal) => {
                 // One answer is held at a time.
                 drop(last);
                 let snapshot = recording.snapshot();
-                let said = say(rt, alloc, snapshot, options, watcher, out, notes)?;
+                let said = say(run, snapshot, out, notes)?;
                 last = Some(said);
             }
             Ok(Moment::End) => {
-                return say_last(
-                    rt,
-                    alloc,
-                    recording.snapshot(),
-                    last,
-                    options,
-                    watcher,
-                    out,
-                    notes,
-                );
+                return say_last(run, recording.snapshot(), last, out, notes);
             }
-            Err(fault) => return Err(stop(alloc, recording, fault, options.json, out, notes)),
+            Err(fault) => {
+                return Err(stop(run.alloc, recording, fault, run.options.json, out, notes));
+            }
         }
     }
     // There are not so many seals.
-    Err(print_memory(out, options.json))
+    Err(print_memory(out, run.options.json))
 }
 
 /// Writes the slice of the anomaly, if a file is given for it and it is within the small limits; else the run ends with this
 /// number.
-fn send_slice<W: Write, S: Write, N: Write, G: Watcher>(
-    alloc: Global,
+fn send_slice<T, W: Write, S: Write, N: Write, G: Watcher>(
+    run: &Run<T, G>,
     snapshot: &LargeSnapshot,
     links: &[Link],
     file: &mut S,
-    options: &Options,
-    watcher: &G,
     out: &mut W,
     notes: &mut N,
 ) -> Result<(), u8>
-    ensures { SendsSlice options.now snapshot.now result (W.contents out.old) (W.contents out.new) (S.contents file.old) (S.contents file.new) }
+    ensures { SendsSlice run.now.options.now snapshot.now result (W.contents out.old) (W.contents out.new) (S.contents file.old) (S.contents file.new) }
 {
-    watcher.begin(Stage::Slicing);
-    let made = slice_text(alloc, snapshot, options.level, links);
-    watcher.end();
+    run.gate.begin(Stage::Slicing);
+    let made = slice_text(run.alloc, snapshot, run.options.level, links);
+    run.gate.end();
     match made {
         Ok(Some(text)) => match send(file, &text) {
             Ok(()) => Ok(()),
-            Err(_) => Err(print_device(out, options.json)),
+            Err(_) => Err(print_device(out, run.options.json)),
         },
         Ok(None) => {
-            note_no_slice(alloc, notes);
+            note_no_slice(run.alloc, notes);
             Ok(())
         }
-        Err(NoMemory) => Err(print_memory(out, options.json)),
+        Err(NoMemory) => Err(print_memory(out, run.options.json)),
     }
 }
 
 /// Writes the slice of what was said, if that is an anomaly and a file is given for it; else the run ends with this number.
-fn write_slice<W: Write, S: Write, N: Write, G: Watcher>(
-    alloc: Global,
+fn write_slice<T, W: Write, S: Write, N: Write, G: Watcher>(
+    run: &Run<T, G>,
     snapshot: &LargeSnapshot,
     outcome: &Outcome,
     slice: &mut Option<S>,
-    options: &Options,
-    watcher: &G,
     out: &mut W,
     notes: &mut N,
 ) -> Result<(), u8>
-    ensures { WritesSlice options.now snapshot.now (outcome_said options.now outcome.now) result (W.contents out.old) (W.contents out.new) (option_map S.contents slice.old)
+    ensures { WritesSlice run.now.options.now snapshot.now (outcome_said run.now.options.now outcome.now) result (W.contents out.old) (W.contents out.new) (option_map S.contents slice.old)
         (option_map S.contents slice.new) }
 {
     let Some(links) = outcome.links() else {
         return Ok(());
     };
     match slice {
-        Some(file) => send_slice(alloc, snapshot, links, file, options, watcher, out, notes),
+        Some(file) => send_slice(run, snapshot, links, file, out, notes),
         None => Ok(()),
     }
 }
 
 /// Writes the slice of what was said last, if that is an anomaly and a file is given for it, and gives the number that the run
 /// ends with. Where an order has fewer transactions than are required, this is noted.
-fn conclude<W: Write, S: Write, N: Write, G: Watcher>(
-    alloc: Global,
+fn conclude<T, W: Write, S: Write, N: Write, G: Watcher>(
+    run: &Run<T, G>,
     snapshot: &LargeSnapshot,
-    last: Last,
+    last: Last<Outcome>,
     slice: &mut Option<S>,
-    options: &Options,
-    watcher: &G,
     out: &mut W,
     notes: &mut N,
 ) -> u8
-    ensures { Concludes options.now snapshot.now (outcome_said options.now last.outcome) (W.contents out.old) (W.contents out.new) (option_map S.contents slice.old)
+    ensures { Concludes run.now.options.now snapshot.now (outcome_said run.now.options.now last.outcome) (W.contents out.old) (W.contents out.new) (option_map S.contents slice.old)
         (option_map S.contents slice.new) result }
 {
-    let status = last.outcome.status(options.required);
-    match write_slice(
-        alloc,
-        snapshot,
-        &last.outcome,
-        slice,
-        options,
-        watcher,
-        out,
-        notes,
-    ) {
+    let required = run.options.required;
+    let status = last.outcome.status(required);
+    match write_slice(run, snapshot, &last.outcome, slice, out, notes) {
         Ok(()) => {
-            note_last(alloc, &last.outcome.into_answer(), options.required, notes);
+            note_last(run.alloc, &last.outcome.into_answer(), required, notes);
             status.code()
         }
         Err(code) => code,
@@ -244,31 +205,19 @@ fn conclude<W: Write, S: Write, N: Write, G: Watcher>(
 }
 
 /// The run of a recording that has just begun.
-fn run_recording<R: Read + Drop, W: Write, S: Write, N: Write, G: Watcher>(
-    rt: &(impl Threads + Sync),
-    alloc: Global,
+fn run_recording<R: Read + Drop, T: Threads + Sync, W: Write, S: Write, N: Write, G: Watcher>(
+    run: &Run<T, G>,
     recording: &mut LargeRecording<R>,
     out: &mut W,
     slice: &mut Option<S>,
     notes: &mut N,
-    options: &Options,
-    watcher: &G,
 ) -> u8
     ensures { (bytes : List ℕ) → IsRecording Large R.remaining recording.old [] (answers_of bytes) → IsWithin R.remaining recording.old.rows (records_of bytes)
         → fault_met recording.old.rows ≡ None
-        → IsLargeRun options.now bytes (W.contents out.old) (W.contents out.new) (option_map S.contents slice.old) (option_map S.contents slice.new) result }
+        → IsLargeRun run.now.options.now bytes (W.contents out.old) (W.contents out.new) (option_map S.contents slice.old) (option_map S.contents slice.new) result }
 {
-    match answer_all(rt, alloc, recording, options, watcher, out, notes) {
-        Ok(last) => conclude(
-            alloc,
-            recording.snapshot(),
-            last,
-            slice,
-            options,
-            watcher,
-            out,
-            notes,
-        ),
+    match answer_all(run, recording, out, notes) {
+        Ok(last) => conclude(run, recording.snapshot(), last, slice, out, notes),
         Err(code) => code,
     }
 }
@@ -298,16 +247,13 @@ pub fn run_large<R: Read + Drop, W: Write, S: Write, N: Write, G: Watcher>(
     match LargeRecording::new(alloc, reader) {
         Ok(recording) => {
             let mut recording = recording;
-            run_recording(
+            let run = Run {
                 rt,
                 alloc,
-                &mut recording,
-                out,
-                slice,
-                notes,
-                &options,
-                watcher,
-            )
+                options: &options,
+                gate: watcher,
+            };
+            run_recording(&run, &mut recording, out, slice, notes)
         }
         Err(NoMemory) => print_memory(out, options.json),
     }

@@ -3,5 +3,6 @@ mod WorkedTexts
 pub mod JsonPieces
 pub mod Counted
 pub mod Moments
+pub mod Courses
 pub mod Noted
 pub mod LargeJson

@@ -3,6 +3,7 @@ pub mod Statuses
 pub mod Texts
 pub mod Json
 pub mod Moments
+pub mod Courses
 pub mod Halts
 pub mod Printed
 pub mod Large

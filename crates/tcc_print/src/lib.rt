@@ -5,6 +5,7 @@ mod halt;
 pub mod json;
 mod kinds;
 pub mod large;
+mod last;
 pub mod notes;
 mod options;
 pub mod printing;
@@ -13,6 +14,7 @@ pub mod texts;
 mod verdicts;
 
 pub use halt::Halt;
-pub use options::Options;
+pub use last::{Last, again};
+pub use options::{Options, Run};
 pub use status::Status;
 pub use verdicts::verdict_text;

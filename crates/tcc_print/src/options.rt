@@ -1,5 +1,6 @@
 //! What a run of explain is asked for.
 
+use std::alloc::Global;
 use tcc_graph::Level;
 use tcc_workers::Workers;
 
@@ -14,4 +15,14 @@ pub struct Options {
     pub json: bool,
     /// An order of fewer transactions than these is no success: 0 asks for none. No text depends on it.
     pub required: u32,
+}
+
+/// A run of explain, as it is lent to its stages: what it is asked for, and what it works with.
+#[derive(Drop)]
+pub struct Run<'a, T, G> {
+    pub rt: &'a T,
+    pub alloc: Global,
+    pub options: &'a Options,
+    /// Is called before each start that is searched.
+    pub gate: &'a G,
 }

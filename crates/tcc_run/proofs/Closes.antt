@@ -16,7 +16,8 @@ use Rattle.tcc_run.specs.Closing.{IsAcceptance, acceptance}
 use Rattle.tcc_print.specs.Printed.{Prints, device_line}
 use Rattle.tcc_print.specs.Statuses.{code_of}
 use Rattle.tcc_print.specs.declared.status.Status.TheVariants.{Device}
-use Rattle.tcc_run.specs.Runs.{IsSaidOfSnapshot, IsEnded, IsRun, IsWhole, Said, halt_said}
+use Rattle.tcc_print.specs.Courses.{Said, halt_said}
+use Rattle.tcc_run.specs.Runs.{IsSaidOfSnapshot, IsEnded, IsRun, IsWhole}
 use Rattle.tcc_run.proofs.Closing.{accepted, only}
 use Rattle.tcc_run.proofs.LastSnapshot.{last_said}
 use Rattle.tcc_print.proofs.Moments.{last-push}
@@ -44,7 +45,7 @@ module _ (options : Options) (records text : List ℕ) (limits : KeepsLimits (fi
 
   pub closes : IsWhole options (answers_of records) said ⊎ IsEnded options records said → Accepts records text
   closes (inl (unfaulted, answered)) = of_answer unfaulted (last_said (IsSaidOfSnapshot options) (answers_of records).items said last answered end)
-  closes (inr (n, why, before, may, are, same)) =
+  closes (inr (before, (n, why, may, are, same))) =
       let pushed : last_or None said ≡ Some (halt_said options why) = ap (last_or None) same ∙ last-push None before (halt_said options why) in
       let halted : halt_said options why ≡ last = inside _ _ (sym pushed ∙ end) in
       absurd (nothing text (ap (λ (s : Said). s.certificate) halted ∙ has))
@@ -64,6 +65,6 @@ left options records text limits before after code (said, last, ends, end, inl (
     go (Some written) has =
         let same : text ≡ written = gains ∙ ap (λ k. unwrap_or k []) has in
         closes options records text limits said last end (has ∙ ap Some (sym same)) ends
-left options records text limits before after code (said, last, ends, end, inr (inl (part, gains, is))) some fine = absurd (fine is)
+left options records text limits before after code (said, last, ends, end, inr (inl (cuts, gains))) some fine = absurd (fine cuts.1)
 left options records text limits before after code (said, last, ends, end, inr (inr failed)) some fine =
     absurd (fine (device_code failed.1.0 after (device_line options.json) code failed.1.2))

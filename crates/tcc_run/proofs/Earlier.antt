@@ -16,7 +16,8 @@ use Rattle.tcc_graph.specs.Levels.{judged}
 use Rattle.tcc_reads.specs.Sources.{history}
 use Rattle.tcc_run.specs.Headline.{IsExplained}
 use Rattle.tcc_run.specs.private.Stages.{Follows, HasEarlier, IsEarlier, anomaly_in}
-use Rattle.tcc_run.specs.declared.explain.Last.{Last}
+use Rattle.tcc_print.specs.declared.last.Last.{Last}
+use Rattle.tcc_run.specs.declared.outcome.Outcome.{Outcome}
 use Rattle.tcc_run.specs.declared.outcome.Outcome.TheVariants as outcome
 
 -- an answer's own anomaly is one of its snapshot
@@ -28,7 +29,7 @@ own_earlier level s (answer.Anomaly a) resolved is = (s, nested_itself s, resolv
 pub earlier_on : (level : Level) (s t : Sessions) (a : LabelledCycle) → IsNested s t → IsEarlier level s a → IsEarlier level t a
 earlier_on level s t a more (small, nested, resolved, is) = (small, nested_on small s t nested more, resolved, is)
 
-pub follows_on : (level : Level) (s t : Sessions) (last : Option Last) → IsNested s t → IfSome last (Follows level s) → IfSome last (Follows level t)
+pub follows_on : (level : Level) (s t : Sessions) (last : Option (Last Outcome)) → IsNested s t → IfSome last (Follows level s) → IfSome last (Follows level t)
 follows_on level s t None more follows = tt
 follows_on level s t (Some last) more follows = by (anomaly_in last.outcome) follows
   where

@@ -1,16 +1,17 @@
 -- A run that no device and no refused memory ends prints last the answer for all that the records finish.
-use Rattle.std.proofs.Common.{ℕ, ◌≡◌, ◌≢◌, List, [], ◌∷◌, ◌++◌, Option, None, Some, refl, sym, ap, subst, ◌∙◌, inl, inr, ◌⊎◌, append_assoc, append-nil}
+use Rattle.std.proofs.Common.{ℕ, ◌≡◌, ◌≢◌, List, [], ◌∷◌, ◌++◌, Option, None, Some, sym, ap, subst, ◌∙◌, inl, inr, ◌⊎◌, append_assoc, append-nil}
 use Rattle.std.specs.Prelude.{unwrap_or}
 use Rattle.std.specs.Io.KnownBytes.{Appends}
 use Rattle.std.specs.List.{last_or}
 use Rattle.tcc_txn.specs.Finished.{KeepsLimits}
 use Rattle.tcc_txn.specs.Snapshots.{Sessions}
+use Rattle.tcc_txn.specs.declared.limits.Limits.TheVariants.{Small}
 use Rattle.tcc_rows.specs.Answers.{answers_of}
 use Rattle.tcc_reads.specs.Faults.{read_faults}
 use Rattle.tcc_graph.specs.declared.level.Level.{Level}
 use Rattle.tcc_answer.specs.declared.answer.Answer.{Answer}
-use Rattle.tcc_explain.specs.Explained.{IsAnswerOfSnapshot, IsAnswerOfHistory}
-use Rattle.tcc_print.specs.Printed.{Prints, answered, device_line}
+use Rattle.tcc_explain.specs.Explained.{IsAnswerOfSnapshot}
+use Rattle.tcc_print.specs.Printed.{answered, device_line}
 use Rattle.tcc_print.specs.Statuses.{code_of, halt_status, row_status}
 use Rattle.tcc_print.specs.declared.halt.Halt.{Halt}
 use Rattle.tcc_print.specs.declared.halt.Halt.TheVariants as halt
@@ -18,7 +19,8 @@ use Rattle.tcc_print.specs.declared.options.Options.{Options}
 use Rattle.tcc_print.specs.declared.status.Status.TheVariants.{Device, Memory}
 use Rattle.tcc_run.specs.Headline.{IsExplained}
 use Rattle.tcc_run.specs.HeadlineRuns.{PrintsExplained, SaysExplained, finished_by}
-use Rattle.tcc_run.specs.Runs.{AllGoesOut, Contents, Gains, IsSaidOfSnapshot, IsEnded, IsRun, IsWhole, MayEnd, Said, answer_said, halt_said, texts}
+use Rattle.tcc_print.specs.Courses.{Contents, Gains, MayEnd, Said, halt_said, texts}
+use Rattle.tcc_run.specs.Runs.{AllGoesOut, IsSaidOfSnapshot, IsEnded, IsRun, IsWhole}
 use Rattle.tcc_run.proofs.Closes.{device_code}
 use Rattle.tcc_run.proofs.Closing.{accepted, only}
 use Rattle.tcc_run.proofs.LastSnapshot.{last_said}
@@ -73,7 +75,7 @@ module _ (law : (s : Sessions) (level : Level) (a : Answer) → IsAnswerOfSnapsh
     of_answer said last end goes (inr (faulty, same)) = absurd (faulty resolved)
 
     -- what ends a run early ends it by a device or by memory, since the records have no fault
-    early : (n : ℕ) (why : Halt) → MayEnd records n why → code ≡ code_of (halt_status why) → ⊥
+    early : (n : ℕ) (why : Halt) → MayEnd Small records n why → code ≡ code_of (halt_status why) → ⊥
     early n (halt.Row fault) (inl (found, at)) ends = nothing fault (sym unfaulted ∙ found)
     early n (halt.Row fault) (inr (read, at, count)) ends = fine (ends ∙ ap (λ kind. code_of (row_status kind)) read)
     early n halt.NoMemory may ends = space ends
@@ -84,12 +86,12 @@ module _ (law : (s : Sessions) (level : Level) (a : Answer) → IsAnswerOfSnapsh
         → IsWhole options (answers_of records) said ⊎ IsEnded options records said → Printed
     of_ends said last end goes (inl (none, answers)) =
         of_answer said last end goes (last_said (IsSaidOfSnapshot options) (answers_of records).items said last answers end)
-    of_ends said last end goes (inr (n, why, answers, may, are, same)) =
+    of_ends said last end goes (inr (answers, (n, why, may, are, same))) =
         let pushed : last_or None said ≡ Some (halt_said options why) = ap (last_or None) same ∙ last-push None answers (halt_said options why) in
         let halted : last ≡ halt_said options why = inside last (halt_said options why) (sym end ∙ pushed) in
         absurd (early n why may (goes.2 ∙ ap (λ (s : Said). code_of s.status) halted))
 
     pub prints : IsRun options records before after file file' code → Printed
     prints (said, last, ends, end, inl goes) = of_ends said last end goes ends
-    prints (said, last, ends, end, inr (inl failed)) = absurd (fine failed.2)
+    prints (said, last, ends, end, inr (inl failed)) = absurd (fine failed.0.1)
     prints (said, last, ends, end, inr (inr failed)) = absurd (fine (device_code failed.1.0 after (device_line options.json) code failed.1.2))

@@ -12,7 +12,8 @@ use Rattle.tcc_txn.specs.Transactions.{Transaction}
 use Rattle.tcc_rows.specs.declared.rows.Item.{Item}
 use Rattle.tcc_rows.specs.declared.rows.Item.TheVariants as item
 use Rattle.tcc_print.specs.declared.options.Options.{Options}
-use Rattle.tcc_run.specs.Runs.{AreSaidOfSnapshots, IsWhole, Said}
+use Rattle.tcc_print.specs.Courses.{AreSaid, Said}
+use Rattle.tcc_run.specs.Runs.{IsSaidOfSnapshot, IsWhole}
 use Rattle.tcc_print.specs.Moments.{at_end, is_due_after, sealed_after, sealed_in}
 use Rattle.tcc_print.proofs.Moments.{Passed, passed-from}
 
@@ -157,4 +158,4 @@ module _ (items others : List Item) (seals : seals_in items ≡ seals_in others)
 pub whole-alike : (options : Options) (all more : rows.Answers) (said : List Said)
     → sealed_in all.items ++ at_end all.items ≡ sealed_in more.items ++ at_end more.items
     → more.fault ≡ None → IsWhole options all said → IsWhole options more said
-whole-alike options all more said same clean is = (clean, subst (λ snapshots. AreSaidOfSnapshots options snapshots said) same is.1)
+whole-alike options all more said same clean is = (clean, subst (λ snapshots. AreSaid (IsSaidOfSnapshot options) snapshots said) same is.1)

@@ -13,7 +13,8 @@ use Rattle.tcc_answer.specs.declared.answer.Answer.{Answer}
 use Rattle.tcc_explain.specs.Explained.{IsAnswerOfHistory}
 use Rattle.tcc_print.specs.declared.options.Options.{Options}
 use Rattle.tcc_print.specs.declared.halt.Halt.TheVariants as halt
-use Rattle.tcc_run.specs.Runs.{AreSaidOfSnapshots, AreAnswersOfRun, AreFront, AskAlike, IsSaidOfSnapshot, IsStopped, IsWhole, Said, answer_said, halt_said}
+use Rattle.tcc_print.specs.Courses.{AreSaid, Said, answer_said, halt_said}
+use Rattle.tcc_run.specs.Runs.{AreAnswersOfRun, AreFront, AskAlike, IsSaidOfSnapshot, IsStopped, IsWhole}
 use Rattle.tcc_print.specs.Moments.{at_end}
 use Rattle.tcc_print.specs.Moments.{sealed_after, sealed_in}
 
@@ -47,7 +48,7 @@ module _ (one : (j : Judged) (some other : Answer) → IsAnswerOfHistory j some 
   said_again s x y (inr (faulty, e)) (inl (resolved, b, is, f)) = absurd (faulty resolved)
   said_again s x y (inr (faulty, e)) (inr (again, f)) = e ∙ rw alike.form refl ∙ sym f
 
-  all_again : (snapshots : List Sessions) (xs ys : List Said) → AreSaidOfSnapshots options snapshots xs → AreSaidOfSnapshots others snapshots ys → xs ≡ ys
+  all_again : (snapshots : List Sessions) (xs ys : List Said) → AreSaid (IsSaidOfSnapshot options) snapshots xs → AreSaid (IsSaidOfSnapshot others) snapshots ys → xs ≡ ys
   all_again [] [] [] are too = refl
   all_again [] [] (y ∷ ys) are too = absurd too
   all_again [] (x ∷ xs) ys are too = absurd are
@@ -59,7 +60,7 @@ module _ (one : (j : Judged) (some other : Answer) → IsAnswerOfHistory j some 
       ap (λ z. z ∷ xs) first ∙ ap (λ zs. y ∷ zs) rest
 
   -- of two beginnings of one list of snapshots the answers of the one are the first of the other's
-  fronts : (P Q r q : List Sessions) (xs ys : List Said) → P ++ r ≡ Q ++ q → AreSaidOfSnapshots options P xs → AreSaidOfSnapshots others Q ys
+  fronts : (P Q r q : List Sessions) (xs ys : List Said) → P ++ r ≡ Q ++ q → AreSaid (IsSaidOfSnapshot options) P xs → AreSaid (IsSaidOfSnapshot others) Q ys
       → AreFront xs ys ⊎ AreFront ys xs
   fronts [] Q r q [] ys same are too = inl (ys, refl)
   fronts [] Q r q (x ∷ xs) ys same are too = absurd are
@@ -80,7 +81,7 @@ module _ (one : (j : Judged) (some other : Answer) → IsAnswerOfHistory j some 
   record IsFront (asked : Options) (snapshots : List Sessions) (answers : List Said) : Type 0 where
     some : List Sessions
     rest : List Sessions
-    are : AreSaidOfSnapshots asked some answers
+    are : AreSaid (IsSaidOfSnapshot asked) some answers
     all : snapshots ≡ some ++ rest
 
   front_of : (asked : Options) (text : List ℕ) (said answers : List Said) → AreAnswersOfRun asked text said answers
@@ -88,7 +89,7 @@ module _ (one : (j : Judged) (some other : Answer) → IsAnswerOfHistory j some 
   front_of asked text said answers (inl (is, same)) = record {
     some = sealed_in (rows.answers_of text).items ++ at_end (rows.answers_of text).items;
     rest = [];
-    are = subst (AreSaidOfSnapshots asked (sealed_in (rows.answers_of text).items ++ at_end (rows.answers_of text).items)) (sym same) is.1;
+    are = subst (AreSaid (IsSaidOfSnapshot asked) (sealed_in (rows.answers_of text).items ++ at_end (rows.answers_of text).items)) (sym same) is.1;
     all = sym (append-nil (sealed_in (rows.answers_of text).items ++ at_end (rows.answers_of text).items));
   }
   front_of asked text said answers (inr (n, why, may, are, same)) =
@@ -118,4 +119,4 @@ module _ (one : (j : Judged) (some other : Answer) → IsAnswerOfHistory j some 
   pub whole_again : (all more : rows.Answers) (xs ys : List Said) → sealed_in all.items ++ at_end all.items ≡ sealed_in more.items ++ at_end more.items
       → IsWhole options all xs → IsWhole others more ys → xs ≡ ys
   whole_again all more xs ys same is too =
-      all_again (sealed_in all.items ++ at_end all.items) xs ys is.1 (subst (λ snapshots. AreSaidOfSnapshots others snapshots ys) (sym same) too.1)
+      all_again (sealed_in all.items ++ at_end all.items) xs ys is.1 (subst (λ snapshots. AreSaid (IsSaidOfSnapshot others) snapshots ys) (sym same) too.1)

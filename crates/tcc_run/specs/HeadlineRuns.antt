@@ -11,6 +11,7 @@ use Rattle.tcc_answer.specs.Claims.{certificate_of}
 use Rattle.tcc_answer.specs.declared.answer.Answer.{Answer}
 use Rattle.tcc_explain.specs.Explained.{IsAnswerOfHistory}
 use Rattle.tcc_graph.specs.Levels.{judged}
+use Rattle.tcc_print.specs.Courses.{Contents, Gains, Said, answer_said, faults_said}
 use Rattle.tcc_print.specs.Printed.{answered}
 use Rattle.tcc_print.specs.Statuses.{answer_status, code_of}
 use Rattle.tcc_print.specs.declared.halt.Halt.{Halt}
@@ -19,7 +20,6 @@ use Rattle.tcc_reads.specs.Sources.{history}
 use Rattle.tcc_verdict.specs.Checks.{IsCheck, MayBeCheck}
 use Rattle.tcc_run.specs.Closing.{IsAcceptance, acceptance}
 use Rattle.tcc_run.specs.Headline.{IsExplained}
-use Rattle.tcc_run.specs.Runs.{Contents, Gains, Said, answer_said, faults_said}
 
 -- what is said of a snapshot: an answer of which the main theorem holds, or all its read faults
 abbrev pub SaysExplained : Options → Sessions → Said → Type 0

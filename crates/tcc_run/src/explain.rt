@@ -9,8 +9,10 @@ ghost use Rattle.tcc_txn.specs.declared.limits.Limits.TheVariants.{Small};
 ghost use Rattle.tcc_cert.specs.Texts.{certificate_text};
 ghost use Rattle.tcc_answer.specs.Claims.{certificate_of};
 ghost use Rattle.tcc_print.specs.Printed.{Prints, memory_line};
-ghost use Rattle.tcc_run.specs.Runs.{Gains, GainsPart, IsRun};
-ghost use Rattle.tcc_run.specs.private.Stages.{AllAnswered, AnswersKept, Concludes, EndsAnswering, EndsEarly, Follows, IsFor, IsStill, SaysLast, answer_in};
+ghost use Rattle.tcc_print.specs.Courses.{Gains};
+ghost use Rattle.tcc_print.specs.private.Courses.{AllAnswered, AnswersKept, EndsAnswering, EndsEarly, IsFor, IsStill, SaysLast};
+ghost use Rattle.tcc_run.specs.Runs.{GainsPart, IsRun};
+ghost use Rattle.tcc_run.specs.private.Stages.{Concludes, Follows, answer_in, course};
 
 use crate::outcome::Outcome;
 use std::alloc::Global;
@@ -21,181 +23,142 @@ use tcc_explain::{Answer, Gate};
 use tcc_print::notes::note_last;
 use tcc_print::printing::{print_device, print_memory};
 use tcc_print::status::last_status;
-use tcc_print::{Options, Status};
+use tcc_print::{Last, Options, Run, again};
 use tcc_rows::{Moment, Recording};
 use tcc_txn::{NoMemory, Snapshot};
 use tcc_verdict::stop;
 
-/// What a run said last.
-#[derive(Drop)]
-struct Last {
-    outcome: Outcome,
-    /// How many transactions it was said for.
-    transactions: usize,
-}
-
-/// Whether something is to be said at the end of so many transactions: not where the last was said for as many.
-fn is_due(last: &Option<Last>, transactions: usize) -> bool
-    ensures due { result ≡ true → IfSome last.now (λ last. last.transactions ≢ transactions) }
-    ensures said { result ≡ false → IfSome last.now (λ last. last.transactions ≢ transactions) → ⊥ }
-{
-    match last {
-        Some(last) => last.transactions != transactions,
-        None => true,
-    }
-}
-
-/// What is to be said of the snapshot: what was said last, if that was for as many transactions, else what is worked out;
-/// or that memory is out was said, and the run ends with this number.
-fn renew<W: Write, G: Gate>(
-    rt: &(impl Threads + Sync),
-    alloc: Global,
+/// Says what is to be said of the snapshot, as text or as a line of JSON, and keeps it; after an anomaly that was said last the search
+/// begins with what it costs now. Else the run ends with this number.
+fn say<T: Threads + Sync, W: Write, N: Write, G: Gate>(
+    run: &Run<T, G>,
     snapshot: &Snapshot,
-    last: Option<Last>,
-    options: &Options,
-    gate: &G,
-    out: &mut W,
-) -> Result<Last, u8>
-    requires earlier { IfSome last (Follows options.now.level snapshot.now) }
-    ensures again { IfSome last (λ last. last.transactions ≡ transaction_count snapshot.now → (W.contents out.new ≡ W.contents out.old) × (result ≡ Ok last)) }
-    ensures anew { IfSome last (λ last. last.transactions ≢ transaction_count snapshot.now)
-        → MatchResult result (λ next. (W.contents out.new ≡ W.contents out.old) × IsFor options.now.level snapshot.now next)
-        (Prints (W.contents out.old) (W.contents out.new) (memory_line options.now.json) Status.Memory) }
-    ensures earlier { IfOk result (Follows options.now.level snapshot.now) }
-{
-    let transactions = snapshot.transactions();
-    let mut earlier = None;
-    if let Some(last) = last {
-        if last.transactions == transactions {
-            return Ok(last);
-        }
-        // One answer is held at a time: the tables of a large history fill much memory.
-        earlier = last.outcome.into_anomaly(alloc);
-    }
-    match Outcome::of(rt, alloc, snapshot, earlier, options, gate) {
-        Ok(outcome) => Ok(Last {
-            outcome,
-            transactions,
-        }),
-        Err(NoMemory) => Err(print_memory(out, options.json)),
-    }
-}
-
-/// Says what is to be said of the snapshot at a seal, as text or as a line of JSON, and keeps it; else the run ends with
-/// this number.
-fn answer_seal<W: Write, N: Write, G: Gate>(
-    rt: &(impl Threads + Sync),
-    alloc: Global,
-    snapshot: &Snapshot,
-    last: Option<Last>,
-    options: &Options,
-    gate: &G,
+    last: Option<Last<Outcome>>,
     out: &mut W,
     notes: &mut N,
-) -> Result<Last, u8>
-    requires earlier { IfSome last (Follows options.now.level snapshot.now) }
-    ensures earlier { IfOk result (Follows options.now.level snapshot.now) }
-    ensures said { IsStill options.now.level snapshot.now last
-        → MatchResult result (SaysLast options.now snapshot.now (W.contents out.old) (W.contents out.new))
-        (EndsAnswering options.now snapshot.now (W.contents out.old) (W.contents out.new)) }
+) -> Result<Last<Outcome>, u8>
+    requires earlier { IfSome last (Follows run.now.options.now.level snapshot.now) }
+    ensures earlier { IfOk result (Follows run.now.options.now.level snapshot.now) }
+    ensures said { MatchResult result (SaysLast (course run.now.options.now) snapshot.now (W.contents out.old) (W.contents out.new))
+        (EndsAnswering (course run.now.options.now) snapshot.now (W.contents out.old) (W.contents out.new)) }
 {
-    let said = renew(rt, alloc, snapshot, last, options, gate, out)?;
-    said.outcome.send(alloc, options.json, out)?;
-    said.outcome.note(alloc, snapshot, notes);
-    Ok(said)
+    let mut earlier = None;
+    if let Some(last) = last {
+        // One answer is held at a time: the tables of a large history fill much memory.
+        earlier = last.outcome.into_anomaly(run.alloc);
+    }
+    let outcome = match Outcome::of(run, snapshot, earlier) {
+        Ok(outcome) => outcome,
+        Err(NoMemory) => return Err(print_memory(out, run.options.json)),
+    };
+    outcome.send(run.alloc, run.options.json, out)?;
+    outcome.note(run.alloc, snapshot, notes);
+    Ok(Last {
+        outcome,
+        transactions: snapshot.transactions(),
+    })
 }
 
-/// Says at the end what is to be said of the snapshot, unless it was said last, and gives the last answer of the run, none
-/// where that was read faults; else the run ends with this number.
-fn answer_last<W: Write, N: Write, G: Gate>(
-    rt: &(impl Threads + Sync),
-    alloc: Global,
+/// Says at a seal what is to be said of the snapshot, and keeps it: what was said last, if nothing was finished since. Else the run
+/// ends with this number.
+fn say_again<T: Threads + Sync, W: Write, N: Write, G: Gate>(
+    run: &Run<T, G>,
     snapshot: &Snapshot,
-    last: Option<Last>,
-    options: &Options,
-    gate: &G,
+    last: Option<Last<Outcome>>,
+    out: &mut W,
+    notes: &mut N,
+) -> Result<Last<Outcome>, u8>
+    requires earlier { IfSome last (Follows run.now.options.now.level snapshot.now) }
+    ensures earlier { IfOk result (Follows run.now.options.now.level snapshot.now) }
+    ensures said { IsStill (course run.now.options.now) snapshot.now last
+        → MatchResult result (SaysLast (course run.now.options.now) snapshot.now (W.contents out.old) (W.contents out.new))
+        (EndsAnswering (course run.now.options.now) snapshot.now (W.contents out.old) (W.contents out.new)) }
+{
+    match again(last, snapshot.transactions()) {
+        Ok(last) => {
+            last.outcome.send(run.alloc, run.options.json, out)?;
+            last.outcome.note(run.alloc, snapshot, notes);
+            Ok(last)
+        }
+        Err(last) => say(run, snapshot, last, out, notes),
+    }
+}
+
+/// Says at the end what is to be said of the snapshot, unless it was said last, and keeps its answer; else the run ends with this
+/// number.
+fn say_last<T: Threads + Sync, W: Write, N: Write, G: Gate>(
+    run: &Run<T, G>,
+    snapshot: &Snapshot,
+    last: Option<Last<Outcome>>,
     out: &mut W,
     notes: &mut N,
 ) -> Result<Option<Answer>, u8>
-    requires earlier { IfSome last (Follows options.now.level snapshot.now) }
+    requires earlier { IfSome last (Follows run.now.options.now.level snapshot.now) }
     ensures said { IfSome last (λ last. last.transactions ≡ transaction_count snapshot.now → (W.contents out.new ≡ W.contents out.old)
         × (result ≡ Ok (answer_in last.outcome))) }
     ensures due { IfSome last (λ last. last.transactions ≢ transaction_count snapshot.now)
-        → MatchResult result (AnswersKept options.now snapshot.now (W.contents out.old) (W.contents out.new))
-        (EndsAnswering options.now snapshot.now (W.contents out.old) (W.contents out.new)) }
+        → MatchResult result (AnswersKept (course run.now.options.now) snapshot.now (W.contents out.old) (W.contents out.new))
+        (EndsAnswering (course run.now.options.now) snapshot.now (W.contents out.old) (W.contents out.new)) }
 {
-    let due = is_due(&last, snapshot.transactions());
-    let last = renew(rt, alloc, snapshot, last, options, gate, out)?;
-    if due {
-        last.outcome.send(alloc, options.json, out)?;
-        last.outcome.note(alloc, snapshot, notes);
+    match again(last, snapshot.transactions()) {
+        Ok(last) => Ok(last.outcome.into_answer()),
+        Err(last) => {
+            let said = say(run, snapshot, last, out, notes)?;
+            Ok(said.outcome.into_answer())
+        }
     }
-    Ok(last.outcome.into_answer())
 }
 
 /// Writes the answers at the seals that are still to come and the one at the end, if it is due, and gives the last; or
 /// writes what ends the run before, and gives the number that it ends with.
-fn answer_all<R: Read + Drop, W: Write, N: Write, G: Gate>(
-    rt: &(impl Threads + Sync),
-    alloc: Global,
+fn answer_all<R: Read + Drop, T: Threads + Sync, W: Write, N: Write, G: Gate>(
+    run: &Run<T, G>,
     recording: &mut Recording<R>,
-    options: &Options,
-    gate: &G,
     out: &mut W,
     notes: &mut N,
 ) -> Result<Option<Answer>, u8>
     ensures { (bytes : List ℕ) → IsRecording Small R.remaining recording.old [] (answers_of bytes) → IsWithin R.remaining recording.old.rows (records_of bytes)
         → fault_met recording.old.rows ≡ None
-        → MatchResult result (AllAnswered options.now bytes (W.contents out.old) (W.contents out.new))
-        (EndsEarly options.now bytes (W.contents out.old) (W.contents out.new)) }
+        → MatchResult result (AllAnswered (course run.now.options.now) bytes (W.contents out.old) (W.contents out.new))
+        (EndsEarly (course run.now.options.now) bytes (W.contents out.old) (W.contents out.new)) }
 {
-    let mut last: Option<Last> = None;
+    let mut last: Option<Last<Outcome>> = None;
     'moments: for _turn in 0..u64::MAX {
-        match recording.advance(alloc) {
+        match recording.advance(run.alloc) {
             Ok(Moment::Seal) => {
                 let snapshot = recording.snapshot();
-                let said = answer_seal(rt, alloc, snapshot, last, options, gate, out, notes)?;
+                let said = say_again(run, snapshot, last, out, notes)?;
                 last = Some(said);
             }
             Ok(Moment::End) => {
-                return answer_last(
-                    rt,
-                    alloc,
-                    recording.snapshot(),
-                    last,
-                    options,
-                    gate,
-                    out,
-                    notes,
-                );
+                return say_last(run, recording.snapshot(), last, out, notes);
             }
-            Err(fault) => return Err(stop(alloc, recording, fault, options.json, out, notes)),
+            Err(fault) => {
+                return Err(stop(run.alloc, recording, fault, run.options.json, out, notes));
+            }
         }
     }
     // There are not so many seals.
-    Err(print_memory(out, options.json))
+    Err(print_memory(out, run.options.json))
 }
 
 /// Writes the answers for the records of the reader, and gives the last; or writes what ends the run before, and gives the
 /// number that it ends with.
-fn answer_records<R: Read + Drop, W: Write, N: Write, G: Gate>(
-    rt: &(impl Threads + Sync),
-    alloc: Global,
+fn answer_records<R: Read + Drop, T: Threads + Sync, W: Write, N: Write, G: Gate>(
+    run: &Run<T, G>,
     reader: R,
-    options: &Options,
-    gate: &G,
     out: &mut W,
     notes: &mut N,
 ) -> Result<Option<Answer>, u8>
-    ensures { IfSome (R.remaining reader) (λ bytes. MatchResult result (AllAnswered options.now bytes (W.contents out.old) (W.contents out.new))
-        (EndsEarly options.now bytes (W.contents out.old) (W.contents out.new))) }
+    ensures { IfSome (R.remaining reader) (λ bytes. MatchResult result (AllAnswered (course run.now.options.now) bytes (W.contents out.old) (W.contents out.new))
+        (EndsEarly (course run.now.options.now) bytes (W.contents out.old) (W.contents out.new))) }
 {
-    match Recording::new(alloc, reader) {
+    match Recording::new(run.alloc, reader) {
         Ok(recording) => {
             let mut recording = recording;
-            answer_all(rt, alloc, &mut recording, options, gate, out, notes)
+            answer_all(run, &mut recording, out, notes)
         }
-        Err(NoMemory) => Err(print_memory(out, options.json)),
+        Err(NoMemory) => Err(print_memory(out, run.options.json)),
     }
 }
 
@@ -264,7 +227,13 @@ pub fn run_explain<R: Read + Drop, W: Write, C: Write, N: Write, G: Gate>(
     ensures { IfSome (R.remaining reader) (λ bytes. IsRun options bytes (W.contents out.old) (W.contents out.new) (option_map C.contents certificate.old)
         (option_map C.contents certificate.new) result) }
 {
-    match answer_records(rt, alloc, reader, &options, gate, out, notes) {
+    let run = Run {
+        rt,
+        alloc,
+        options: &options,
+        gate,
+    };
+    match answer_records(&run, reader, out, notes) {
         Ok(last) => conclude(alloc, &last, certificate, &options, out, notes),
         Err(code) => code,
     }

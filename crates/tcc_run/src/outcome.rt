@@ -14,7 +14,7 @@ use std::io::Write;
 use std::thread::Threads;
 use tcc_explain::laws::grown;
 use tcc_explain::{Anomaly, Answer, ExplainFault, Gate, NextFault};
-use tcc_print::Options;
+use tcc_print::Run;
 use tcc_print::notes::note_reads;
 use tcc_print::printing::{send_answer, send_unresolved};
 use tcc_reads::ReadFault;
@@ -39,23 +39,35 @@ fn keeps_limits(snapshot: &Snapshot)
 }
 
 /// The answer for a snapshot at the level; after an anomaly the search begins with what that one costs now.
-fn work_out<G: Gate>(
-    rt: &(impl Threads + Sync),
-    alloc: Global,
+fn work_out<T: Threads + Sync, G: Gate>(
+    run: &Run<T, G>,
     snapshot: &Snapshot,
     earlier: &Option<Anomaly>,
-    options: &Options,
-    gate: &G,
 ) -> Result<Answer, ExplainFault>
-    requires earlier { IfSome earlier.now (IsEarlier options.now.level snapshot.now) }
-    ensures { MatchResult result (IsAnswerOfSnapshot snapshot.now options.now.level) (IsRefusal snapshot.now) }
+    requires earlier { IfSome earlier.now (IsEarlier run.now.options.now.level snapshot.now) }
+    ensures { MatchResult result (IsAnswerOfSnapshot snapshot.now run.now.options.now.level) (IsRefusal snapshot.now) }
 {
+    let options = run.options;
     let Some(anomaly) = earlier else {
-        return explain_snapshot(rt, alloc, snapshot, options.level, options.workers, gate);
+        return explain_snapshot(
+            run.rt,
+            run.alloc,
+            snapshot,
+            options.level,
+            options.workers,
+            run.gate,
+        );
     };
     grown();
     keeps_limits(snapshot);
-    match explain_snapshot_next(rt, alloc, snapshot, anomaly, options.workers, gate) {
+    match explain_snapshot_next(
+        run.rt,
+        run.alloc,
+        snapshot,
+        anomaly,
+        options.workers,
+        run.gate,
+    ) {
         Ok(answer) => Ok(answer),
         Err(NextFault::Reads(faults)) => Err(ExplainFault::Reads(faults)),
         Err(NextFault::NoMemory) => Err(ExplainFault::NoMemory),
@@ -66,19 +78,16 @@ fn work_out<G: Gate>(
 impl Outcome {
     /// What is to be said of the snapshot at the level, worked out by so many workers; it continues that of the earlier
     /// anomaly, if there was one.
-    pub(crate) fn of<G: Gate>(
-        rt: &(impl Threads + Sync),
-        alloc: Global,
+    pub(crate) fn of<T: Threads + Sync, G: Gate>(
+        run: &Run<T, G>,
         snapshot: &Snapshot,
         earlier: Option<Anomaly>,
-        options: &Options,
-        gate: &G,
     ) -> Result<Outcome, NoMemory>
-        requires earlier { IfSome earlier (IsEarlier options.now.level snapshot.now) }
-        ensures outcome { IfOk result (IsOutcome options.now.level snapshot.now) }
-        ensures earlier { IfOk result (HasEarlier options.now.level snapshot.now) }
+        requires earlier { IfSome earlier (IsEarlier run.now.options.now.level snapshot.now) }
+        ensures outcome { IfOk result (IsOutcome run.now.options.now.level snapshot.now) }
+        ensures earlier { IfOk result (HasEarlier run.now.options.now.level snapshot.now) }
     {
-        match work_out(rt, alloc, snapshot, &earlier, options, gate) {
+        match work_out(run, snapshot, &earlier) {
             Ok(answer) => Ok(Outcome::Answered(answer)),
             Err(ExplainFault::Reads(faults)) => Ok(Outcome::Unresolved { faults, earlier }),
             Err(ExplainFault::NoMemory) => Err(NoMemory),

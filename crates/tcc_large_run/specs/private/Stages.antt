@@ -1,10 +1,10 @@
 -- How the stages of a run follow one another.
-use Rattle.std.specs.Prelude.{ℕ, ◌≡◌, ◌≢◌, ◌⊎◌, ◌-◌, Bool, List, [], take, Option, None, Some, Result, Ok, Err}
+use Rattle.std.specs.Prelude.{ℕ, ◌≡◌, ◌≢◌, ◌⊎◌, Bool, List, [], take, Option, None, Result, Ok, Err}
 use Rattle.std.specs.Io.KnownBytes.{Appends}
 use Rattle.std.specs.Global.{Vec}
-use Rattle.std.specs.List.{last_or}
-use Rattle.tcc_txn.specs.Finished.{KeepsLimits, transaction_count}
+use Rattle.tcc_txn.specs.Finished.{KeepsLimits}
 use Rattle.tcc_txn.specs.Snapshots.{Sessions}
+use Rattle.tcc_txn.specs.declared.limits.Limits.TheVariants.{Large}
 use Rattle.tcc_reads.specs.Faults.{read_faults}
 use Rattle.tcc_reads.specs.History.{History}
 use Rattle.tcc_reads.specs.Sources.{history}
@@ -18,16 +18,18 @@ use Rattle.tcc_graph.specs.Levels.{judged}
 use Rattle.tcc_large.specs.Decisions.{IsDecision}
 use Rattle.tcc_large.specs.declared.decision.Decision.{Decision}
 use Rattle.tcc_large.specs.declared.decision.Decision.TheVariants as decision
+use Rattle.tcc_print.specs.Courses.{Contents, Gains, Said}
 use Rattle.tcc_print.specs.Large.{unproved}
-use Rattle.tcc_print.specs.Printed.{CutsOff, Prints, answered, device_line, memory_line, unresolved}
+use Rattle.tcc_print.specs.Printed.{Prints, answered, device_line, memory_line, unresolved}
 use Rattle.tcc_print.specs.Statuses.{answer_status, code_of}
+use Rattle.tcc_print.specs.declared.last.Last.{Last}
 use Rattle.tcc_print.specs.declared.options.Options.{Options}
 use Rattle.tcc_print.specs.declared.status.Status.{Status}
 use Rattle.tcc_print.specs.declared.status.Status.TheVariants.{Anomaly, Device, Memory, ReadFaults}
-use Rattle.tcc_large_run.specs.LargeRuns.{Contents, Gains, IsSaidOfSnapshot, IsEnded, IsSliceText, IsSliced, IsWhole, Said, answers_of, bare_order, texts}
+use Rattle.tcc_print.specs.private.Courses.{Course}
+use Rattle.tcc_large_run.specs.LargeRuns.{IsSaidOfSnapshot, IsSliceText, IsSliced, bare_order}
 use Rattle.tcc_large_run.specs.declared.outcome.Outcome.{Outcome}
 use Rattle.tcc_large_run.specs.declared.outcome.Outcome.TheVariants as outcome
-use Rattle.tcc_large_run.specs.declared.running.Last.{Last}
 
 -- ---- one answer
 
@@ -60,36 +62,18 @@ outcome_status required (outcome.Answered a) = answer_status required a
 outcome_status required (outcome.Cycle labels links) = Anomaly
 
 abbrev pub outcome_said : Options → Outcome → Said
-outcome_said options o = record { text = outcome_text options.json o; status = outcome_status options.required o }
+outcome_said options o = record { text = outcome_text options.json o; status = outcome_status options.required o; certificate = None }
 
--- what was said last was said of this snapshot
-abbrev pub IsFor : Level → Sessions → Last → Type 0
-IsFor level s last = (last.transactions ≡ transaction_count s) × IsOutcome level s last.outcome
-
--- what is to be said of the snapshot was said, and is what was said last from then on
-abbrev pub SaysLast : Options → Sessions → Option (List ℕ) → Option (List ℕ) → Last → Type 0
-SaysLast options s before after last = IsFor options.level s last × Appends before after (outcome_text options.json last.outcome)
-
--- the run ended in what is said of a snapshot
-abbrev pub EndsAnswering : Options → Sessions → Option (List ℕ) → Option (List ℕ) → ℕ → Type 0
-EndsAnswering options s before after code =
-    ((said : Said) × IsSaidOfSnapshot options s said × CutsOff before after said.text code)
-    ⊎ Prints before after (memory_line options.json) Memory code
-
--- ---- a run
-
--- all is answered, and this was said last
-abbrev pub AllAnswered : Options → List ℕ → Option (List ℕ) → Option (List ℕ) → Last → Type 0
-AllAnswered options bytes before after last =
-    (said : List Said) × IsWhole options (answers_of bytes) said × (last_or None said ≡ Some (outcome_said options last.outcome))
-    × Appends before after (texts said)
-
--- the run ended before it came to a slice: all went out, or a write failed
-abbrev pub EndsEarly : Options → List ℕ → Option (List ℕ) → Option (List ℕ) → ℕ → Type 0
-EndsEarly options bytes before after code =
-    (said : List Said) × (last : Said) × (IsWhole options (answers_of bytes) said ⊎ IsEnded options bytes said)
-    × (last_or None said ≡ Some last)
-    × ((Appends before after (texts said) × (code ≡ code_of last.status)) ⊎ CutsOff before after (texts said) code)
+-- the course of a run, which keeps what was said last
+abbrev pub course : Options → Course Outcome (Last Outcome)
+course options = record {
+  limits = Large;
+  options = options;
+  is_said = IsSaidOfSnapshot options;
+  is_outcome = IsOutcome options.level;
+  say = outcome_said options;
+  keeps = λ last said. said ≡ outcome_said options last.outcome;
+}
 
 -- ---- the slice
 

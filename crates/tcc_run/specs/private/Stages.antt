@@ -1,11 +1,8 @@
 -- How the stages of a run follow one another.
 use Rattle.std.specs.Prelude.{ℕ, ◌≡◌, ◌≢◌, ◌⊎◌, Bool, List, [], option_map, unwrap_or, Option, None, Some, IfSome}
-use Rattle.std.specs.Io.KnownBytes.{Appends}
-use Rattle.std.specs.List.{last_or}
-use Rattle.tcc_rows.specs.Answers as rows
-use Rattle.tcc_txn.specs.Finished.{transaction_count}
 use Rattle.tcc_txn.specs.Nested.{IsNested}
 use Rattle.tcc_txn.specs.Snapshots.{Sessions}
+use Rattle.tcc_txn.specs.declared.limits.Limits.TheVariants.{Small}
 use Rattle.tcc_reads.specs.Faults.{read_faults}
 use Rattle.tcc_graph.specs.declared.level.Level.{Level}
 use Rattle.tcc_cert.specs.Texts.{certificate_text}
@@ -16,14 +13,16 @@ use Rattle.tcc_answer.specs.declared.answer.Answer.TheVariants as answer
 use Rattle.tcc_explain.specs.Explained.{IsAnswerOfSnapshot}
 use Rattle.tcc_explain.specs.Next.{IsAnomalyOf}
 use Rattle.tcc_graph.specs.Levels.{judged}
-use Rattle.tcc_print.specs.declared.status.Status.TheVariants.{Device, Memory}
+use Rattle.tcc_print.specs.Courses.{Contents, Gains, Said}
+use Rattle.tcc_print.specs.private.Courses.{Course}
+use Rattle.tcc_print.specs.declared.last.Last.{Last}
+use Rattle.tcc_print.specs.declared.status.Status.TheVariants.{Device}
 use Rattle.tcc_print.specs.declared.options.Options.{Options}
-use Rattle.tcc_run.specs.Runs.{Contents, Gains, GainsPart, IsSaidOfSnapshot, IsEnded, IsWhole, Said, answer_said, faults_said, texts}
-use Rattle.tcc_run.specs.declared.explain.Last.{Last}
+use Rattle.tcc_run.specs.Runs.{GainsPart, IsSaidOfSnapshot}
 use Rattle.tcc_run.specs.declared.outcome.Outcome.{Outcome}
 use Rattle.tcc_run.specs.declared.outcome.Outcome.TheVariants as outcome
 use Rattle.tcc_print.specs.Statuses.{code_of, last_status}
-use Rattle.tcc_print.specs.Printed.{CutsOff, Prints, answered, device_line, memory_line, unresolved}
+use Rattle.tcc_print.specs.Printed.{Prints, answered, device_line, unresolved}
 use Rattle.tcc_reads.specs.Sources.{history}
 
 -- ---- one answer
@@ -52,30 +51,9 @@ IsEarlier level s a = (small : Sessions) × IsNested small s × (read_faults sma
 abbrev pub HasEarlier : Level → Sessions → Outcome → Type 0
 HasEarlier level s o = IfSome (anomaly_in o) (IsEarlier level s)
 
--- how it goes out
-abbrev pub outcome_text : Bool → Outcome → List ℕ
-outcome_text json (outcome.Answered a) = answered json a
-outcome_text json (outcome.Unresolved faults earlier) = unresolved json faults.items
-
-abbrev pub outcome_said : Options → Outcome → Said
-outcome_said options (outcome.Answered a) = answer_said options a
-outcome_said options (outcome.Unresolved faults earlier) = faults_said options faults.items
-
--- what was said last was said of this snapshot
-abbrev pub IsFor : Level → Sessions → Last → Type 0
-IsFor level s last = (last.transactions ≡ transaction_count s) × IsOutcome level s last.outcome
-
 -- what was said last was said of a snapshot that this one continues, as far as an anomaly goes
-abbrev pub Follows : Level → Sessions → Last → Type 0
+abbrev pub Follows : Level → Sessions → Last Outcome → Type 0
 Follows level s last = HasEarlier level s last.outcome
-
--- what was said last, if anything was, is to be said of this snapshot too, if it was said for as many transactions
-abbrev pub IsStill : Level → Sessions → Option Last → Type 0
-IsStill level s last = IfSome last (λ last. last.transactions ≡ transaction_count s → IsOutcome level s last.outcome)
-
--- what is to be said of the snapshot was said, and is what was said last from then on
-abbrev pub SaysLast : Options → Sessions → Option (List ℕ) → Option (List ℕ) → Last → Type 0
-SaysLast options s before after last = IsFor options.level s last × Appends before after (outcome_text options.json last.outcome)
 
 -- the text of a certificate, where there is an answer
 abbrev pub certificate_kept : Option Answer → Option (List ℕ)
@@ -85,30 +63,28 @@ certificate_kept kept = option_map (λ a. certificate_text (certificate_of a)) k
 abbrev pub Keeps : ℕ → Said → Option Answer → Type 0
 Keeps required said kept = (said.status ≡ last_status required kept) × (said.certificate ≡ certificate_kept kept)
 
--- a snapshot was answered, and the answer is kept
-abbrev pub AnswersKept : Options → Sessions → Option (List ℕ) → Option (List ℕ) → Option Answer → Type 0
-AnswersKept options s before after kept = (said : Said) × IsSaidOfSnapshot options s said × Keeps options.required said kept × Appends before after said.text
+-- how it goes out, and how a run ends whose last answer it is
+abbrev pub outcome_text : Bool → Outcome → List ℕ
+outcome_text json (outcome.Answered a) = answered json a
+outcome_text json (outcome.Unresolved faults earlier) = unresolved json faults.items
 
--- the run ended in what is said of a snapshot
-abbrev pub EndsAnswering : Options → Sessions → Option (List ℕ) → Option (List ℕ) → ℕ → Type 0
-EndsAnswering options s before after code =
-    ((said : Said) × IsSaidOfSnapshot options s said × CutsOff before after said.text code)
-    ⊎ Prints before after (memory_line options.json) Memory code
+abbrev pub outcome_said : Options → Outcome → Said
+outcome_said options o = record {
+  text = outcome_text options.json o;
+  status = last_status options.required (answer_in o);
+  certificate = certificate_kept (answer_in o);
+}
 
--- ---- a run
-
--- all is answered, and the last answer is kept
-abbrev pub AllAnswered : Options → List ℕ → Option (List ℕ) → Option (List ℕ) → Option Answer → Type 0
-AllAnswered options bytes before after kept =
-    (said : List Said) × (last : Said) × IsWhole options (rows.answers_of bytes) said × (last_or None said ≡ Some last)
-    × Keeps options.required last kept × Appends before after (texts said)
-
--- the run ended before it came to a certificate: all went out, and the last of it has none; or a write failed
-abbrev pub EndsEarly : Options → List ℕ → Option (List ℕ) → Option (List ℕ) → ℕ → Type 0
-EndsEarly options bytes before after code =
-    (said : List Said) × (last : Said) × (IsWhole options (rows.answers_of bytes) said ⊎ IsEnded options bytes said)
-    × (last_or None said ≡ Some last)
-    × ((Appends before after (texts said) × (last.certificate ≡ None) × (code ≡ code_of last.status)) ⊎ CutsOff before after (texts said) code)
+-- the course of a run, which keeps its last answer
+abbrev pub course : Options → Course Outcome (Option Answer)
+course options = record {
+  limits = Small;
+  options = options;
+  is_said = IsSaidOfSnapshot options;
+  is_outcome = IsOutcome options.level;
+  say = outcome_said options;
+  keeps = λ kept said. Keeps options.required said kept;
+}
 
 -- ---- the certificate
 

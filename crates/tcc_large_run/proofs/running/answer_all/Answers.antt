@@ -1,63 +1,52 @@
 -- What comes of each moment of the recording.
-use Rattle.std.proofs.Common.{subst, Ok}
-use Rattle.tcc_rows.specs.Recordings.{TakesMoment}
-use Rattle.tcc_txn.specs.declared.limits.Limits.TheVariants.{Large}
+use Rattle.std.proofs.Common.{refl}
+use Rattle.tcc_print.proofs.Courses.{ends-fault, ends-seal, finished-end, says-end, says-seal, wants_memory}
 use Rattle.tcc_large_run.specs.LargeRuns.{records_of}
-use Rattle.tcc_large_run.specs.private.Stages.{AllAnswered, EndsEarly}
-use Rattle.tcc_large_run.proofs.Runs.{all-finished, answered-seal, ended-end, ended-seal, stopped, wants_memory}
-use Rattle.tcc_large_run.proofs.Sent.{ended_by}
+use Rattle.tcc_large_run.specs.private.Stages.{course}
+use Rattle.tcc_large_run.proofs.Outcomes.{said_of}
+use Rattle.tcc_large_run.proofs.Runs.{kept_last}
 use Rattle.tcc_large_run.proofs.running.answer_all.Goals as goal
 
 pub moments-preserved : goal.moments-preserved
 moments-preserved g c = record {
-  way = λ text recording.
-      let way = c.moments.invariant.way text recording in
-      let at = subst (λ m. TakesMoment Large g.R.Read.remaining way.taken way.ahead (Ok m) c.read_on.new.recording) c.in-Ok-Seal.field-0-is
-      (c.in-Ok-Seal.ensures.moment way.taken way.ahead way.recorded) in
-      let same = c.snapshot-snapshot.ensures.finished _ _ at.3 in
-      answered-seal g.R.Read.remaining c.args.options.now text c.moments.recording c.read_on.new.recording _ _ c.moments.last way at
-      c.snapshot-snapshot.result.now c.in_ok-said-in-Ok-Seal.said _ same c.in_ok-said-in-Ok-Seal.ensures;
+  way = λ text recording. says-seal g.R.Read.remaining (course c.args.run.now.options.now) (said_of c.args.run.now.options.now) text
+      c.moments.recording c.read_on.new.recording _ _ c.moments.last (c.moments.invariant.way text recording)
+      _ c.in-Ok-Seal.ensures.moment c.snapshot-snapshot.result.now c.snapshot-snapshot.ensures.finished c.in-Ok-Seal.field-0-is
+      c.in_ok-said-in-Ok-Seal.said _ (λ still. c.in_ok-said-in-Ok-Seal.ensures);
   within = λ records within. c.in-Ok-Seal.ensures.within records (c.moments.invariant.within records within);
   going = λ none. c.in-Ok-Seal.ensures.goes_on;
 }
 
 pub returns-in_err-said-in-Ok-Seal-clause-answers : goal.returns-in_err-said-in-Ok-Seal-clause-answers
 returns-in_err-said-in-Ok-Seal-clause-answers g c text recording within fresh =
-    let way = c.moments.invariant.way text recording in
-    let at = subst (λ m. TakesMoment Large g.R.Read.remaining way.taken way.ahead (Ok m) c.read_on.new.recording) c.in-Ok-Seal.field-0-is
-    (c.in-Ok-Seal.ensures.moment way.taken way.ahead way.recorded) in
-    let same = c.snapshot-snapshot.ensures.finished _ _ at.3 in
-    ended_by (AllAnswered c.args.options.now text _ _) (EndsEarly c.args.options.now text _ _) c.from_residual.result c.in_err-said-in-Ok-Seal.field-0.0
-    c.from_residual.ensures.1
-    (ended-seal g.R.Read.remaining c.args.options.now text c.moments.recording c.read_on.new.recording _ _ c.moments.last way at
-    c.snapshot-snapshot.result.now _ c.in_err-said-in-Ok-Seal.field-0.0 same c.in_err-said-in-Ok-Seal.ensures)
+    ends-seal g.R.Read.remaining (course c.args.run.now.options.now) (said_of c.args.run.now.options.now) text
+    c.moments.recording c.read_on.new.recording _ _ c.moments.last (c.moments.invariant.way text recording)
+    _ c.in-Ok-Seal.ensures.moment c.snapshot-snapshot.result.now c.snapshot-snapshot.ensures.finished c.in-Ok-Seal.field-0-is
+    c.from_residual.result c.in_err-said-in-Ok-Seal.field-0.0 _ c.from_residual.ensures.1 (λ still. c.in_err-said-in-Ok-Seal.ensures)
 
 pub returns-in-Ok-End-clause-answers : goal.returns-in-Ok-End-clause-answers
 returns-in-Ok-End-clause-answers g c text recording within fresh =
-    let way = c.moments.invariant.way text recording in
-    let at = subst (λ m. TakesMoment Large g.R.Read.remaining way.taken way.ahead (Ok m) c.read_on.new.recording) c.in-Ok-End.field-0-is
-    (c.in-Ok-End.ensures.moment way.taken way.ahead way.recorded) in
-    ended-end g.R.Read.remaining c.args.options.now text c.moments.recording c.read_on.new.recording _ _ c.moments.last way at
-    c.snapshot.result.now _ c.say_last.result (c.snapshot.ensures.finished _ _ at.2) c.say_last.ensures.said c.say_last.ensures.due
+    says-end g.R.Read.remaining (course c.args.run.now.options.now) (said_of c.args.run.now.options.now) text
+    c.moments.recording c.read_on.new.recording _ _ c.moments.last (c.moments.invariant.way text recording)
+    _ c.in-Ok-End.ensures.moment c.snapshot.result.now c.snapshot.ensures.finished c.in-Ok-End.field-0-is
+    (λ last. last) (λ last. refl) _ c.say_last.result c.say_last.ensures.said
+    (λ due. kept_last c.args.run.now.options.now c.snapshot.result.now _ _ c.say_last.result (c.say_last.ensures.due due))
 
 pub returns-in-Ok-End-clause-finished : goal.returns-in-Ok-End-clause-finished
 returns-in-Ok-End-clause-finished g c text recording =
-    let way = c.moments.invariant.way text recording in
-    let at = subst (λ m. TakesMoment Large g.R.Read.remaining way.taken way.ahead (Ok m) c.read_on.new.recording) c.in-Ok-End.field-0-is
-    (c.in-Ok-End.ensures.moment way.taken way.ahead way.recorded) in
-    all-finished g.R.Read.remaining c.args.options.now text c.moments.recording c.read_on.new.recording _ _ c.moments.last way at c.say_last.result
+    finished-end g.R.Read.remaining (course c.args.run.now.options.now) (said_of c.args.run.now.options.now) text
+    c.moments.recording c.read_on.new.recording _ _ c.moments.last (c.moments.invariant.way text recording)
+    _ c.in-Ok-End.ensures.moment c.snapshot.result.now c.snapshot.ensures.finished c.in-Ok-End.field-0-is c.say_last.result
 
 pub returns-in-Err-clause-answers : goal.returns-in-Err-clause-answers
 returns-in-Err-clause-answers g c text recording within fresh =
-    let way = c.moments.invariant.way text recording in
-    stopped g.R.Read.remaining c.args.options.now text c.moments.recording c.read_on.new.recording _ _ c.moments.last way
-    c.in-Err.fault (c.in-Err.ensures.moment way.taken way.ahead way.recorded) _ c.stop.result
-    (λ read. c.in-Err.ensures.failed (c.moments.invariant.going fresh) read (records_of text) way.taken way.ahead way.whole
-    (c.moments.invariant.within (records_of text) within) way.recorded)
-    c.stop.ensures
+    ends-fault g.R.Read.remaining (course c.args.run.now.options.now) (said_of c.args.run.now.options.now) text
+    c.moments.recording c.read_on.new.recording _ _ c.moments.last (c.moments.invariant.way text recording)
+    c.in-Err.fault _ c.stop.result c.in-Err.ensures.moment (c.moments.invariant.within (records_of text) within)
+    (c.in-Err.ensures.failed (c.moments.invariant.going fresh)) c.stop.ensures
 
 pub returns-clause-answers : goal.returns-clause-answers
 returns-clause-answers g c text recording within fresh =
-    let way = c.moments.invariant.way text recording in
-    wants_memory g.R.Read.remaining c.args.options.now text c.moments.recording c.moments.recording _ _ c.moments.last way _
+    wants_memory g.R.Read.remaining (course c.args.run.now.options.now) (said_of c.args.run.now.options.now) text
+    c.moments.recording c.moments.recording _ _ c.moments.last (c.moments.invariant.way text recording) _
     c.print_memory.result c.print_memory.ensures

@@ -8,15 +8,15 @@ use Rattle.tcc_rows.specs.Lines.{Record}
 use Rattle.tcc_rows.specs.Reached.{IsWithin}
 use Rattle.tcc_rows.specs.Recordings.{IsRecording}
 use Rattle.tcc_txn.specs.declared.limits.Limits.TheVariants.{Small}
-use Rattle.tcc_run.specs.private.Stages.{Follows}
-use Rattle.tcc_run.proofs.Runs.{HasAnswered}
+use Rattle.tcc_print.proofs.Courses.{HasAnswered}
+use Rattle.tcc_run.specs.private.Stages.{Follows, course}
 use Rattle.tcc_run.proofs.explain.answer_all.Given as goal
 
 abbrev pub invariant-moments : goal.invariant-moments
 invariant-moments g l = record {
   way : (text : List ℕ) → IsRecording Small g.R.Read.remaining l.initial.recording [] (answers_of text)
-      → HasAnswered g.R.Read.remaining l.options text l.recording (g.W.Write.contents l.initial.out) (g.W.Write.contents l.out) l.last;
+      → HasAnswered g.R.Read.remaining (course l.run.options.now) text l.recording (g.W.Write.contents l.initial.out) (g.W.Write.contents l.out) l.last;
   within : (records : List Record) → IsWithin g.R.Read.remaining l.initial.recording.rows records → IsWithin g.R.Read.remaining l.recording.rows records;
-  earlier : IfSome l.last (Follows l.options.level l.recording.snapshot);
+  earlier : IfSome l.last (Follows l.run.options.now.level l.recording.snapshot);
   going : fault_met l.initial.recording.rows ≡ None → fault_met l.recording.rows ≡ None;
 }

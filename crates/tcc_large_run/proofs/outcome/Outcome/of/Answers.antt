@@ -14,4 +14,4 @@ pub returns-in-Ok : goal.returns-in-Ok
 returns-in-Ok g c =
     let past : KeepsLimits c.args.snapshot.now → ⊥ = search rules in
     IfOk-weaker c.of_decision.result _ _
-    (λ outcome said. large_outcome c.args.options.now.level c.args.snapshot.now c.in-Ok.answer outcome past c.in-Ok.ensures said) c.of_decision.ensures
+    (λ outcome said. large_outcome c.args.run.now.options.now.level c.args.snapshot.now c.in-Ok.answer outcome past c.in-Ok.ensures said) c.of_decision.ensures

@@ -1,0 +1,477 @@
+-- What a run does with its bytes, from how a recording of them went on, whatever its outcomes are.
+use Rattle.std.proofs.Common.{◌≡◌, ◌≢◌, ℕ, ◌+◌, arith, Bool, true, false, cond, List, [], ◌∷◌, ◌++◌, length, take}
+use Rattle.std.proofs.Common.{Option, None, Some, Result, Ok, Err, refl, sym, ap, subst, ◌∙◌, inl, inr, ◌⊎◌, append_assoc}
+use Rattle.std.proofs.Common.{append-nil}
+use Rattle.std.specs.Prelude.{nat_eq, IfOk, IfSome, IsErrAnd, MatchResult}
+use Rattle.std.specs.List.{last_or}
+use Rattle.std.specs.Io.KnownBytes.{Appends}
+use Rattle.std.proofs.KnownBytes.{Appends-trans}
+use Rattle.std.proofs.lemmas.Grind.{flat_map-append}
+use Rattle.std.proofs.lemmas.Bool.Decides.{nat_tests}
+use Rattle.std.proofs.Math.Seq.{take-append-add, take-length}
+use Rattle.tcc_rows.specs.Answers.{Answers, answers_after_within, answers_within, ending, records_within}
+use Rattle.tcc_rows.specs.Failing.{items_before_within}
+use Rattle.tcc_rows.specs.Items.{finished_in}
+use Rattle.tcc_rows.specs.Lines.{Record}
+use Rattle.tcc_rows.specs.Reached.{IsWithin}
+use Rattle.tcc_rows.specs.Recordings.{FailsBehind, IsRecording, TakesMoment, after_items}
+use Rattle.tcc_rows.specs.declared.recording.Moment.{Moment}
+use Rattle.tcc_rows.specs.declared.recording.Moment.TheVariants as moment
+use Rattle.tcc_rows.specs.declared.recording.RecordingWithin.{RecordingWithin}
+use Rattle.tcc_rows.specs.declared.rows.Item.{Item}
+use Rattle.tcc_rows.specs.declared.rows.Item.TheVariants as item
+use Rattle.tcc_rows.specs.declared.fault.RowFault.{RowFault}
+use Rattle.tcc_rows.specs.declared.fault.RowFaultKind.TheVariants as kind
+use Rattle.tcc_rows.proofs.FailingFacts.{first-items}
+use Rattle.tcc_txn.specs.Finished.{transaction_count}
+use Rattle.tcc_txn.specs.Snapshots.{Sessions}
+use Rattle.tcc_print.specs.Courses.{AreSaid, Contents, Gains, IsWhole, MayEnd, Said, halt_said, texts}
+use Rattle.tcc_print.specs.Halts.{by_row, is_memory}
+use Rattle.tcc_print.specs.Moments.{at_end, is_due_after, sealed_in}
+use Rattle.tcc_print.specs.Printed.{CutsOff, EndsIn, Prints, PrintsOrMemory, halted, memory_line}
+use Rattle.tcc_print.specs.Statuses.{halt_status}
+use Rattle.tcc_print.specs.declared.halt.Halt.{Halt}
+use Rattle.tcc_print.specs.declared.halt.Halt.TheVariants as halt
+use Rattle.tcc_print.specs.declared.last.Last.{Last}
+use Rattle.tcc_print.specs.declared.status.Status.TheVariants.{Memory}
+use Rattle.tcc_print.specs.private.Courses.{AllAnswered, AnswersKept, Course, EndsAnswering, EndsEarly, IsFor, IsStill, SaysLast}
+use Rattle.tcc_print.proofs.Moments.{AllZip-append, all-fault, all-items, at_end-due, at_end-none, due-passed, due-seal}
+use Rattle.tcc_print.proofs.Moments.{finished-seal, first-taken, last-push, part-of, same-passed, sealed-passed, sealed-seal, still_due}
+
+texts-push : (said : List Said) (one : Said) → texts (said ++ one ∷ []) ≡ texts said ++ one.text
+texts-push said one = flat_map-append (λ (one : Said). one.text) said (one ∷ []) ∙ ap (λ t. texts said ++ t) (append-nil one.text)
+
+-- a part of a text after others that went out
+Appends-part : (a b c : Option (List ℕ)) (x y : List ℕ) (n : ℕ) → Appends a b x → Appends b c (take n y) → Appends a c (take (length x + n) (x ++ y))
+Appends-part a b c x y n out part = subst (λ t. Appends a c t) (sym (take-append-add x y n)) (Appends-trans a b c x (take n y) out part)
+
+module _ {O K : Type 0} (course : Course O K) (text : List ℕ) (before : Option (List ℕ)) where
+  -- the run is ended after some answers
+  ended : (n : ℕ) (why : Halt) (said : List Said) (now after : Option (List ℕ)) (code : ℕ) → MayEnd course.limits text n why
+      → AreSaid course.is_said (sealed_in (take n (answers_within course.limits text).items)) said → Appends before now (texts said)
+      → Prints now after (halted course.options.json why) (halt_status why) code → EndsEarly course text before after code
+  ended n why said now after code may answers out prints =
+      let all = texts-push said (halt_said course.options why) in (
+        said ++ halt_said course.options why ∷ [],
+        halt_said course.options why,
+        inr (said, (n, why, may, answers, refl)),
+        last-push None said (halt_said course.options why),
+        elim prints [
+          | inl whole ↦ inl (
+            subst (λ t. Appends before after t) (sym all) (Appends-trans before now after (texts said) (halted course.options.json why) out whole.0),
+            refl,
+            whole.1,
+          )
+          | inr part ↦ inr (
+            (
+              length (texts said) + part.0.0,
+              subst (λ t. Appends before after (take (length (texts said) + part.0.0) t)) (sym all)
+                  (Appends-part before now after (texts said) (halted course.options.json why) part.0.0 out part.0.1),
+            ),
+            part.1,
+          )
+        ],
+      )
+
+  ended_or : (n : ℕ) (why : Halt) (said : List Said) (now after : Option (List ℕ)) (code : ℕ) → MayEnd course.limits text n why
+      → AreSaid course.is_said (sealed_in (take n (answers_within course.limits text).items)) said → Appends before now (texts said)
+      → PrintsOrMemory course.options.json now after (halted course.options.json why) (halt_status why) code → EndsEarly course text before after code
+  ended_or n why said now after code may answers out (inl prints) = ended n why said now after code may answers out prints
+  ended_or n why said now after code may answers out (inr memory) = ended n halt.NoMemory said now after code tt answers out memory
+
+  -- a writer fails in an answer, after which memory might have been wanting
+  cut : (n : ℕ) (said : List Said) (one : Said) (now after : Option (List ℕ)) (code : ℕ)
+      → AreSaid course.is_said (sealed_in (take n (answers_within course.limits text).items)) (said ++ one ∷ []) → Appends before now (texts said)
+      → CutsOff now after one.text code → EndsEarly course text before after code
+  cut n said one now after code answers out cuts =
+      let memory = halt_said course.options halt.NoMemory in
+      let part = part-of cuts.0.0 one.text memory.text in (
+        (said ++ one ∷ []) ++ memory ∷ [],
+        memory,
+        inr (said ++ one ∷ [], (n, halt.NoMemory, tt, answers, refl)),
+        last-push None (said ++ one ∷ []) memory,
+        inr (
+          (
+            length (texts said) + part.0,
+            subst (λ t. Appends before after t) (sym
+                (ap (take (length (texts said) + part.0))
+                (texts-push (said ++ one ∷ []) memory ∙ ap (λ t. t ++ memory.text) (texts-push said one) ∙ append_assoc (texts said) one.text memory.text)
+                ∙ take-append-add (texts said) (one.text ++ memory.text) part.0
+                ∙ ap (λ t. texts said ++ t) part.1))
+                (Appends-trans before now after (texts said) (take cuts.0.0 one.text) out cuts.0.1),
+          ),
+          cuts.1,
+        ),
+      )
+
+-- what is known of what was said last: nothing was, and an answer is due; or nothing is due, and it is that of all that was
+-- finished
+abbrev pub IsLast : {O K : Type 0} → Course O K → Option (Last O) → List Item → List Said → Type 0
+IsLast course None taken said = is_due_after true taken ≡ true
+IsLast course (Some last) taken said =
+    (is_due_after true taken ≡ false) × IsFor course (finished_in taken) last
+    × (last_or None said ≡ Some (course.say last.outcome))
+
+-- a run that ends by a number ends by that of the call that ended it
+pub ended_by : {A : Type 0} (P : A → Type 0) (Q : ℕ → Type 0) (r : Result A ℕ) (why : ℕ) → IsErrAnd r (λ code. code ≡ why) → Q why → MatchResult r P Q
+ended_by P Q (Ok a) why is q = absurd is
+ended_by P Q (Err code) why is q = subst Q (sym is) q
+
+-- what was said last was said for so many transactions; or it wasn't, and an answer is due
+pub said_or_due : {O : Type 0} (last : Option (Last O)) (n : ℕ)
+    → ((l : Last O) × (last ≡ Some l) × (l.transactions ≡ n)) ⊎ IfSome last (λ last. last.transactions ≢ n)
+said_or_due None n = inr tt
+said_or_due {O = O} (Some last) n = by_test (nat_eq last.transactions n) refl
+  where
+    equal : (m n : ℕ) → nat_eq m n ≡ true → m ≡ n
+    equal m n e = grind (arith, nat_tests, e)
+
+    differ : (m n : ℕ) → nat_eq m n ≡ false → m ≢ n
+    differ m n e same = grind (arith, nat_tests, e, same)
+
+    by_test : (b : Bool) → nat_eq last.transactions n ≡ b
+        → ((l : Last O) × (Some last ≡ Some l) × (l.transactions ≡ n)) ⊎ IfSome (Some last) (λ last. last.transactions ≢ n)
+    by_test true e = inl (last, refl, equal _ _ e)
+    by_test false e = inr (differ _ _ e)
+
+-- some items of all were taken, and the snapshots at the seals among them were answered
+pub record HasAnswered {R B O K : Type 0} (remaining : R → Option (List ℕ)) (course : Course O K) (text : List ℕ) (recording : RecordingWithin R B)
+    (before now : Option (List ℕ)) (answered : Option (Last O)) : Type 0 where
+  pub taken : List Item
+  pub ahead : Answers
+  pub said : List Said
+  pub whole : answers_within course.limits text ≡ after_items taken ahead
+  pub recorded : IsRecording course.limits remaining recording taken ahead
+  pub answers : AreSaid course.is_said (sealed_in taken) said
+  pub out : Appends before now (texts said)
+  pub last : IsLast course answered taken said
+
+Appends-none : (a : Option (List ℕ)) → Appends a a []
+Appends-none None = tt
+Appends-none (Some bytes) = sym (append-nil bytes)
+
+-- nothing is taken yet
+pub none-answered : {R B O K : Type 0} (remaining : R → Option (List ℕ)) (course : Course O K) (text : List ℕ) (recording : RecordingWithin R B)
+    (before : Option (List ℕ)) → IsRecording course.limits remaining recording [] (answers_within course.limits text)
+    → HasAnswered remaining course text recording before before None
+none-answered remaining course text recording before is = record {
+  taken = [];
+  ahead = answers_within course.limits text;
+  said = [];
+  whole = refl;
+  recorded = is;
+  answers = tt;
+  out = Appends-none before;
+  last = refl;
+}
+
+module _ {R B O K : Type 0} (remaining : R → Option (List ℕ)) (course : Course O K)
+    (said_of : (s : Sessions) (o : O) → course.is_outcome s o → course.is_said s (course.say o)) (text : List ℕ)
+    (old new : RecordingWithin R B) (before now : Option (List ℕ)) (answered : Option (Last O)) (way : HasAnswered remaining course text old before now answered) where
+  first-kept : take (length way.taken) (answers_within course.limits text).items ≡ way.taken
+  first-kept = first-taken (answers_within course.limits text) way.taken way.ahead way.whole
+
+  -- memory is out before the next answer
+  pub wants_memory : (after : Option (List ℕ)) (code : ℕ) → Prints now after (memory_line course.options.json) Memory code → EndsEarly course text before after code
+  wants_memory after code prints =
+      ended course text before (length way.taken) halt.NoMemory way.said now after code tt
+      (subst (λ items. AreSaid course.is_said (sealed_in items) way.said) (sym first-kept) way.answers) way.out prints
+
+  -- the texts with one more
+  one-more : (one : Said) (after : Option (List ℕ)) → Appends now after one.text → Appends before after (texts (way.said ++ one ∷ []))
+  one-more one after out =
+      subst (λ t. Appends before after t) (sym (texts-push way.said one)) (Appends-trans before now after (texts way.said) one.text way.out out)
+
+  -- ---- at a seal
+
+  module _ (at : TakesMoment course.limits remaining way.taken way.ahead (Ok moment.Seal) new) where
+    -- all that was taken then, with the seal
+    abbrev sealed_past : List Item
+    sealed_past = way.taken ++ (at.0 ++ item.Seal ∷ [])
+
+    past-whole : answers_within course.limits text ≡ after_items sealed_past at.1
+    past-whole =
+        way.whole ∙ ap (after_items way.taken) at.2.1
+        ∙ ap (λ items. record { items = items; fault = at.1.fault })
+        (sym (append_assoc way.taken (at.0 ++ item.Seal ∷ []) at.1.items ∙ ap (λ items. way.taken ++ items) (append_assoc at.0 (item.Seal ∷ []) at.1.items)))
+
+    -- the snapshots to answer, with the one at the seal
+    past-answered : (s : Sessions) (one : Said) → s ≡ finished_in sealed_past → course.is_said s one
+        → AreSaid course.is_said (sealed_in sealed_past) (way.said ++ one ∷ [])
+    past-answered s one same answer =
+        subst (λ snapshots. AreSaid course.is_said snapshots (way.said ++ one ∷ [])) (sym (sealed-seal way.taken at.0 at.2.0))
+        (AllZip-append (course.is_said) (sealed_in way.taken) (finished_in (way.taken ++ at.0) ∷ []) way.said (one ∷ []) way.answers
+        (subst (λ s. course.is_said s one) (same ∙ finished-seal way.taken at.0) answer, tt))
+
+    -- where nothing was finished since, what was said last is said of this snapshot, too
+    still-seal : (s : Sessions) → s ≡ finished_in sealed_past → IsStill course s answered
+    still-seal s same = by answered way.last
+      where
+        by : (o : Option (Last O)) → IsLast course o way.taken way.said → IsStill course s o
+        by None known = tt
+        by (Some last) known = λ counted.
+            let now : s ≡ finished_in (way.taken ++ at.0) = same ∙ finished-seal way.taken at.0 in
+            let still = same-passed way.taken at.0 at.2.0 (sym (ap transaction_count now) ∙ sym counted ∙ known.1.0) in
+            subst (λ s. course.is_outcome s last.outcome) (sym (now ∙ still)) known.1.1
+
+    -- it is said, and is what was said last
+    answered-seal : (s : Sessions) (last : Last O) (after : Option (List ℕ)) → s ≡ finished_in sealed_past
+        → SaysLast course s now after last → HasAnswered remaining course text new before after (Some last)
+    answered-seal s last after same (is, out) =
+        let one = course.say last.outcome in
+        record {
+          taken = sealed_past;
+          ahead = at.1;
+          said = way.said ++ one ∷ [];
+          whole = past-whole;
+          recorded = at.3;
+          answers = past-answered s one same (said_of s last.outcome is.1);
+          out = one-more one after out;
+          last = (due-seal way.taken at.0, subst (λ s. IsFor course s last) same is, last-push None way.said one);
+        }
+
+    -- or the run ends in it
+    ended-seal : (s : Sessions) (after : Option (List ℕ)) (code : ℕ) → s ≡ finished_in sealed_past → EndsAnswering course s now after code
+        → EndsEarly course text before after code
+    ended-seal s after code same (inr memory) = wants_memory after code memory
+    ended-seal s after code same (inl (one, answer, cuts)) =
+        cut course text before (length sealed_past) way.said one now after code
+        (subst (λ items. AreSaid course.is_said (sealed_in items) (way.said ++ one ∷ []))
+        (sym (first-taken (answers_within course.limits text) sealed_past at.1 past-whole)) (past-answered s one same answer)) way.out cuts
+
+  -- ---- at the end
+
+  module _ (at : TakesMoment course.limits remaining way.taken way.ahead (Ok moment.End) new) where
+    -- all that was taken
+    abbrev all_past : List Item
+    all_past = way.taken ++ at.0
+
+    all_taken : (answers_within course.limits text).items ≡ all_past
+    all_taken = all-items (answers_within course.limits text) way.taken at.0 (ending None) way.ahead way.whole at.1 ∙ append-nil all_past
+
+    no_fault : (answers_within course.limits text).fault ≡ None
+    no_fault = all-fault (answers_within course.limits text) way.taken at.0 (ending None) way.ahead way.whole at.1
+
+    whole-by : (said : List Said) → AreSaid course.is_said (sealed_in way.taken ++ at_end all_past) said → IsWhole course.is_said (answers_within course.limits text) said
+    whole-by said answers = (
+      no_fault,
+      subst (λ items. AreSaid course.is_said (sealed_in items ++ at_end items) said) (sym all_taken)
+          (subst (λ snapshots. AreSaid course.is_said (snapshots ++ at_end all_past) said) (sym (sealed-passed way.taken at.0 at.1.0)) answers),
+    )
+
+    -- what the records have finished is the snapshot of the recording
+    all-finished : {A : Type 0} (r : Result A ℕ) → IfOk r (λ _. new.snapshot ≡ finished_in (answers_within course.limits text).items)
+    all-finished (Ok done) = at.2.snapshot ∙ ap finished_in (sym all_taken)
+    all-finished (Err code) = tt
+
+    -- an answer is due where the last one was for fewer
+    is_due : IfSome answered (λ last. last.transactions ≢ transaction_count (finished_in all_past)) → is_due_after true all_past ≡ true
+    is_due other = by answered other way.last
+      where
+        by : (o : Option (Last O)) → IfSome o (λ last. last.transactions ≢ transaction_count (finished_in all_past)) → IsLast course o way.taken way.said
+            → is_due_after true all_past ≡ true
+        by None other known = still_due way.taken at.0 at.1.0 known
+        by (Some last) other known = elim (due-passed way.taken at.0 at.1.0) [
+          | inl rise ↦ rise.0
+          | inr same ↦ absurd (other (known.1.0 ∙ sym (ap transaction_count same.1)))
+        ]
+
+    module _ (s : Sessions) (same : s ≡ finished_in all_past) (due : is_due_after true all_past ≡ true) where
+      end-answered : (one : Said) → course.is_said s one → IsWhole course.is_said (answers_within course.limits text) (way.said ++ one ∷ [])
+      end-answered one answer =
+          whole-by (way.said ++ one ∷ [])
+          (subst (λ end. AreSaid course.is_said (sealed_in way.taken ++ end) (way.said ++ one ∷ [])) (sym (at_end-due all_past due))
+          (AllZip-append (course.is_said) (sealed_in way.taken) (finished_in all_past ∷ []) way.said (one ∷ []) way.answers
+          (subst (λ s. course.is_said s one) same answer, tt)))
+
+      -- the answer is the last text
+      end-kept : (after : Option (List ℕ)) (kept : K) → AnswersKept course s now after kept → AllAnswered course text before after kept
+      end-kept after kept (one, answer, keeps, out) =
+          (way.said ++ one ∷ [], one, end-answered one answer, last-push None way.said one, keeps, one-more one after out)
+
+      -- or the run ends in it
+      end-cut : (after : Option (List ℕ)) (code : ℕ) → EndsAnswering course s now after code → EndsEarly course text before after code
+      end-cut after code (inr memory) = wants_memory after code memory
+      end-cut after code (inl (one, answer, cuts)) = (
+        way.said ++ one ∷ [],
+        one,
+        inl (end-answered one answer),
+        last-push None way.said one,
+        inr (
+          (
+            length (texts way.said) + cuts.0.0,
+            subst (λ t. Appends before after (take (length (texts way.said) + cuts.0.0) t)) (sym (texts-push way.said one))
+                (Appends-part before now after (texts way.said) one.text cuts.0.0 way.out cuts.0.1),
+          ),
+          cuts.1,
+        ),
+      )
+
+    module _ (keep : Last O → K) (keeps_of : (last : Last O) → course.keeps (keep last) (course.say last.outcome)) where
+      -- nothing was finished since the last answer, which has said all
+      said_all : (last : Last O) → answered ≡ Some last → last.transactions ≡ transaction_count (finished_in all_past)
+          → AllAnswered course text before now (keep last)
+      said_all last is counted =
+          let known = subst (λ o. IsLast course o way.taken way.said) is way.last in
+          let none : is_due_after true all_past ≡ false = elim (due-passed way.taken at.0 at.1.0) [
+            | inl rise ↦ absurd (omega (arith, rise.1, known.1.0, counted))
+            | inr same ↦ same.0 ∙ known.0
+          ] in (
+            way.said,
+            course.say last.outcome,
+            whole-by way.said (subst (λ end. AreSaid course.is_said (sealed_in way.taken ++ end) way.said) (sym (at_end-none all_past none))
+                (subst (λ snapshots. AreSaid course.is_said snapshots way.said) (sym (append-nil (sealed_in way.taken))) way.answers)),
+            known.2,
+            keeps_of last,
+            way.out,
+          )
+
+      -- what the answer at the end says of the run
+      ended-end : (s : Sessions) (after : Option (List ℕ)) (r : Result K ℕ) → s ≡ finished_in all_past
+          → IfSome answered (λ last. last.transactions ≡ transaction_count s → (after ≡ now) × (r ≡ Ok (keep last)))
+          → (IfSome answered (λ last. last.transactions ≢ transaction_count s)
+          → MatchResult r (AnswersKept course s now after) (EndsAnswering course s now after))
+          → MatchResult r (AllAnswered course text before after) (EndsEarly course text before after)
+      ended-end s after r same said due = elim (said_or_due answered (transaction_count s)) [
+        | inl known ↦
+            again known.0 known.1 known.2
+            (subst (λ (o : Option (Last O)). IfSome o (λ last. last.transactions ≡ transaction_count s → (after ≡ now) × (r ≡ Ok (keep last)))) known.1 said
+            known.2)
+        | inr other ↦ fresh other r (due other)
+      ]
+        where
+          again : (last : Last O) → answered ≡ Some last → last.transactions ≡ transaction_count s → (after ≡ now) × (r ≡ Ok (keep last))
+              → MatchResult r (AllAnswered course text before after) (EndsEarly course text before after)
+          again last is counted sent =
+              subst (λ r. MatchResult r (AllAnswered course text before after) (EndsEarly course text before after)) (sym sent.1)
+              (subst (λ o. AllAnswered course text before o (keep last)) (sym sent.0) (said_all last is (counted ∙ ap transaction_count same)))
+
+          late : IfSome answered (λ last. last.transactions ≢ transaction_count s) → is_due_after true all_past ≡ true
+          late other = is_due (subst (λ (s : Sessions). IfSome answered (λ last. last.transactions ≢ transaction_count s)) same other)
+
+          fresh : IfSome answered (λ last. last.transactions ≢ transaction_count s) → (r : Result K ℕ)
+              → MatchResult r (AnswersKept course s now after) (EndsAnswering course s now after)
+              → MatchResult r (AllAnswered course text before after) (EndsEarly course text before after)
+          fresh other (Ok kept) is = end-kept s same (late other) after kept is
+          fresh other (Err code) is = end-cut s same (late other) after code is
+
+  -- ---- at a fault
+
+  module _ (fault : RowFault) (at : TakesMoment course.limits remaining way.taken way.ahead (Err fault) new) where
+    no_memory : true ≡ false → ⊥
+    no_memory h = cc
+
+    by_halt : (n : ℕ) (why : Halt) (items : List Item) (after : Option (List ℕ)) (code : ℕ) → MayEnd course.limits text n why → take n (answers_within course.limits text).items ≡ items
+        → sealed_in items ≡ sealed_in way.taken → PrintsOrMemory course.options.json now after (halted course.options.json why) (halt_status why) code
+        → EndsEarly course text before after code
+    by_halt n why items after code may taken none prints =
+        ended_or course text before n why way.said now after code may
+        (subst (λ snapshots. AreSaid course.is_said snapshots way.said) (sym (ap sealed_in taken ∙ none)) way.answers) way.out prints
+
+    -- the fault of the records, a reader that failed, or `NoMemory`
+    stopped : (after : Option (List ℕ)) (code : ℕ) → (fault.kind ≡ kind.Read → FailsBehind course.limits way.taken fault.row (records_within course.limits text))
+        → PrintsOrMemory course.options.json now after (halted course.options.json (by_row fault)) (halt_status (by_row fault)) code
+        → EndsEarly course text before after code
+    stopped after code failed = by_test (is_memory fault.kind) refl
+      where
+        by_test : (b : Bool) → is_memory fault.kind ≡ b
+            → PrintsOrMemory course.options.json now after (halted course.options.json (cond b halt.NoMemory (halt.Row fault)))
+            (halt_status (cond b halt.NoMemory (halt.Row fault))) code
+            → EndsEarly course text before after code
+        by_test true e prints = by_halt (length way.taken) halt.NoMemory way.taken after code tt first-kept refl prints
+        by_test false e prints = elim at.3 [
+          | inl last ↦
+              let items =
+              all-items (answers_within course.limits text) way.taken at.0 at.1 way.ahead way.whole at.2
+              ∙ ap (λ (rest : Answers). (way.taken ++ at.0) ++ rest.items) last.0 ∙ append-nil (way.taken ++ at.0) in
+              by_halt (length (answers_within course.limits text).items) (halt.Row fault) (way.taken ++ at.0) after code
+              (inl (all-fault (answers_within course.limits text) way.taken at.0 at.1 way.ahead way.whole at.2 ∙ ap (λ (rest : Answers). rest.fault) last.0, refl))
+              (take-length (answers_within course.limits text).items ∙ items) (sealed-passed way.taken at.0 at.2.0) prints
+          | inr fails ↦ elim fails.0 [
+            | inl read ↦
+                let behind = failed read in
+                let before = items_before_within course.limits fault.row (records_within course.limits text) in
+                by_halt (length before) (halt.Row fault) before after code (inr (read, behind.0, refl)) (first-items course.limits fault.row (records_within course.limits text) behind.0.1)
+                (ap sealed_in behind.3 ∙ sealed-passed way.taken behind.1 behind.2) prints
+            | inr memory ↦ absurd (no_memory (sym (ap is_memory memory) ∙ e))
+          ]
+        ]
+
+  -- ---- the moment that comes, as the call says that takes it
+
+  module _ (m : Moment)
+      (takes : (taken : List Item) (ahead : Answers) → IsRecording course.limits remaining old taken ahead
+      → TakesMoment course.limits remaining taken ahead (Ok m) new)
+      (s : Sessions) (finished : (taken : List Item) (ahead : Answers) → IsRecording course.limits remaining new taken ahead → s ≡ finished_in taken) where
+    comes : (n : Moment) → m ≡ n → TakesMoment course.limits remaining way.taken way.ahead (Ok n) new
+    comes n is = subst (λ m. TakesMoment course.limits remaining way.taken way.ahead (Ok m) new) is (takes way.taken way.ahead way.recorded)
+
+    -- at a seal what is to be said of the snapshot is what was said last from then on
+    pub says-seal : m ≡ moment.Seal → (last : Last O) (after : Option (List ℕ)) → (IsStill course s answered → SaysLast course s now after last)
+        → HasAnswered remaining course text new before after (Some last)
+    says-seal is last after says =
+        let at = comes moment.Seal is in
+        let same = finished (sealed_past at) at.1 at.3 in
+        answered-seal at s last after same (says (still-seal at s same))
+
+    -- or the run ends in it
+    pub ends-seal : m ≡ moment.Seal → (r : Result K ℕ) (why : ℕ) (after : Option (List ℕ)) → IsErrAnd r (λ code. code ≡ why)
+        → (IsStill course s answered → EndsAnswering course s now after why)
+        → MatchResult r (AllAnswered course text before after) (EndsEarly course text before after)
+    ends-seal is r why after gives ends =
+        let at = comes moment.Seal is in
+        let same = finished (sealed_past at) at.1 at.3 in
+        ended_by (AllAnswered course text before after) (EndsEarly course text before after) r why gives
+        (ended-seal at s after why same (ends (still-seal at s same)))
+
+    -- what the answer at the end says of the run
+    pub says-end : m ≡ moment.End → (keep : Last O → K) → ((last : Last O) → course.keeps (keep last) (course.say last.outcome))
+        → (after : Option (List ℕ)) (r : Result K ℕ)
+        → IfSome answered (λ last. last.transactions ≡ transaction_count s → (after ≡ now) × (r ≡ Ok (keep last)))
+        → (IfSome answered (λ last. last.transactions ≢ transaction_count s)
+        → MatchResult r (AnswersKept course s now after) (EndsAnswering course s now after))
+        → MatchResult r (AllAnswered course text before after) (EndsEarly course text before after)
+    says-end is keep keeps_of after r said due =
+        let at = comes moment.End is in
+        ended-end at keep keeps_of s after r (finished (all_past at) (ending None) at.2) said due
+
+    pub finished-end : m ≡ moment.End → {A : Type 0} (r : Result A ℕ) → IfOk r (λ _. new.snapshot ≡ finished_in (answers_within course.limits text).items)
+    finished-end is r = all-finished (comes moment.End is) r
+
+  -- the run ends by a fault
+  pub ends-fault : (fault : RowFault) (after : Option (List ℕ)) (code : ℕ)
+      → ((taken : List Item) (ahead : Answers) → IsRecording course.limits remaining old taken ahead
+      → TakesMoment course.limits remaining taken ahead (Err fault) new)
+      → IsWithin remaining old.rows (records_within course.limits text)
+      → (fault.kind ≡ kind.Read → (all : List Record) (taken : List Item) (ahead : Answers)
+      → answers_after_within course.limits [] all ≡ after_items taken ahead → IsWithin remaining old.rows all
+      → IsRecording course.limits remaining old taken ahead → FailsBehind course.limits taken fault.row all)
+      → PrintsOrMemory course.options.json now after (halted course.options.json (by_row fault)) (halt_status (by_row fault)) code
+      → EndsEarly course text before after code
+  ends-fault fault after code takes within failed prints =
+      stopped fault (takes way.taken way.ahead way.recorded) after code
+      (λ read. failed read (records_within course.limits text) way.taken way.ahead way.whole within way.recorded) prints
+
+-- ---- the whole run
+
+-- a file to which nothing goes
+pub Gains-none : (file : Contents) → Gains file file []
+Gains-none None = refl
+Gains-none (Some bytes) = Appends-none bytes
+
+-- memory is out before anything is read
+pub nothing_read : {O K : Type 0} (course : Course O K) (text : List ℕ) (before after : Option (List ℕ)) (code : ℕ)
+    → Prints before after (memory_line course.options.json) Memory code → EndsEarly course text before after code
+nothing_read course text before after code prints = ended course text before 0 halt.NoMemory [] before after code tt tt (Appends-none before) prints
+
+-- ---- one answer
+
+-- the run ended in what is to be said of a snapshot
+pub ended_saying : {O K : Type 0} (course : Course O K) (said_of : (s : Sessions) (o : O) → course.is_outcome s o → course.is_said s (course.say o))
+    (s : Sessions) (o : O) (before now after : Option (List ℕ)) (why : ℕ) → course.is_outcome s o → now ≡ before
+    → EndsIn course.options.json now after (course.say o).text why → EndsAnswering course s before after why
+ended_saying course said_of s o before now after why is same ends = by (subst (λ b. EndsIn course.options.json b after (course.say o).text why) same ends)
+  where
+    by : EndsIn course.options.json before after (course.say o).text why → EndsAnswering course s before after why
+    by (inl cuts) = inl (course.say o, said_of s o is, cuts)
+    by (inr memory) = inr memory
