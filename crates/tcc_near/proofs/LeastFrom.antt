@@ -118,7 +118,7 @@ least_more h few IsOne old other a new below is has low = record {
         inr (omega arith, (a, inr refl, [], sym same, sym zero_there))
     attained c to (inr far) = which c to far (cases_lt (slice_index other c) (slice_index old c))
 
--- from the readers up to a place, and one more
+-- from the first of the readers, and one more
 pub next_none : (h : History) (a : ℕ) (numbers : List ℕ) (b : ℕ) → IsSessionPair h a b ↔ IsNextOrOne h a (take 0 numbers) b
 next_none h a numbers b = (inl, back)
   where

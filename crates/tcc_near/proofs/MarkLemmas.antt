@@ -11,7 +11,7 @@ use Rattle.tcc_reads.specs.History.{History, count}
 use Rattle.tcc_graph.specs.Relations.{IsReadsPair, IsCausalPair, causal_pair}
 use Rattle.tcc_graph.proofs.Pairs.{pair_kinds, pair_from_kinds, pair_below}
 use Rattle.tcc_bits.specs.Bits.{is_marked, words_for, IsFresh}
-use Rattle.tcc_near.specs.private.Breadth.{IsRowOf, IsSessionEnd, IsPairsFrom, AreSuffixes}
+use Rattle.tcc_near.specs.private.Breadth.{IsSessionEnd, IsPairsFrom, AreSuffixes}
 use Rattle.tcc_bits.proofs.Lists.{zip_at, zip-long, zip_has}
 use Rattle.tcc_bits.proofs.MarkLemmas.{AddsBetween}
 
@@ -119,6 +119,6 @@ pairs_alone h a old new none is b = (λ m. go ((is b).0 m), λ p. (is b).1 (inr 
     go (inl m) = absurd (false≢true (sym (none b) ∙ m))
     go (inr p) = p
 
-pub pairs_inside : (h : History) (a : ℕ) (new : List ℕ) → length new ≡ words_for (count h)
-    → ((b : ℕ) → (is_marked new b ≡ true) ↔ (causal_pair h a b ≡ true)) → IsRowOf (count h) new
-pairs_inside h a new wide is = record { wide = wide; inside = λ b m. (pair_below h a b (pair_kinds h a b ((is b).0 m))).1 }
+pub pairs_inside : (h : History) (a : ℕ) (new : List ℕ) → ((b : ℕ) → (is_marked new b ≡ true) ↔ (causal_pair h a b ≡ true))
+    → (b : ℕ) → is_marked new b ≡ true → b < count h
+pairs_inside h a new is b m = (pair_below h a b (pair_kinds h a b ((is b).0 m))).1

@@ -1,5 +1,5 @@
 -- Small histories, worked out by hand, that the definitions have to agree with.
-use Rattle.std.proofs.Common.{ℕ, ◌≡◌, ◌≤◌, zero, suc, List, [], ◌∷◌, length, true, refl, subst, arith, lit<}
+use Rattle.std.proofs.Common.{ℕ, ◌≡◌, ◌≤◌, zero, suc, List, [], ◌∷◌, length, true, false, refl, sym, ◌∙◌, subst, arith, lit<}
 use Rattle.std.specs.Prelude.{codes}
 use Rattle.std.proofs.lemmas.Bool.{false≢true}
 use Rattle.tcc_reads.specs.History.{History, initial}
@@ -12,6 +12,10 @@ use Rattle.std.specs.Prelude.{None}
 use Rattle.tcc_near.specs.Distances.{IsShortest, IsWalkLength}
 use Rattle.tcc_graph.proofs.Pairs.{first_pair, pair_kinds, pair_below}
 use Rattle.tcc_graph.proofs.Worked.{x, y, entry, stale_read}
+
+-- no walk of one step leads where no pair does
+no_step : (h : History) (a b : ℕ) (s : Step) → causal_pair h a b ≡ false → IsWalk h a b (s ∷ []) → ⊥
+no_step h a b s none w = false≢true (sym none ∙ subst (λ (u : ℕ). causal_pair h a u ≡ true) w.1.2 (first_pair h a b s [] w.1))
 
 -- a/1 writes x, and a/2 reads the initial value of x
 stale_read-onwards : IsShortest (causally stale_read) 1 2 1
@@ -60,7 +64,7 @@ chain-onwards = record {
   where
     none_shorter : (walk : List Step) → IsWalk chain 1 4 walk → 3 ≤ length walk
     none_shorter [] w = absurd (omega (arith, w.0))
-    none_shorter (s ∷ []) w = absurd (false≢true (subst (λ (u : ℕ). causal_pair chain 1 u ≡ true) w.1.2 (first_pair chain 1 4 s [] w.1)))
+    none_shorter (s ∷ []) w = absurd (no_step chain 1 4 s refl w)
     none_shorter (s ∷ t ∷ []) w =
         let last = first_pair chain (step_to s) 4 t [] w.1.2 in
         absurd (nothing_between (step_to s) (first_pair chain 1 4 s (t ∷ []) w.1) (subst (λ (u : ℕ). causal_pair chain (step_to s) u ≡ true) w.1.2.2 last))
@@ -69,7 +73,7 @@ chain-onwards = record {
 -- where a single pair is allowed, three steps lead nowhere
 chain-alone : IsWalkLength (atomically chain) 1 4 None
 chain-alone [] is = absurd (omega (arith, is.1))
-chain-alone (s ∷ []) is = false≢true (subst (λ (u : ℕ). causal_pair chain 1 u ≡ true) is.0.1.2 (first_pair chain 1 4 s [] is.0.1))
+chain-alone (s ∷ []) is = no_step chain 1 4 s refl is.0
 chain-alone (s ∷ t ∷ steps) is = absurd (omega (arith, is.1))
 
 -- and each of them leads as far as it does among others
@@ -99,5 +103,5 @@ circle-round = record {
   where
     none_shorter : (walk : List Step) → IsWalk circle 1 1 walk → 2 ≤ length walk
     none_shorter [] w = absurd (omega (arith, w.0))
-    none_shorter (s ∷ []) w = absurd (false≢true (subst (λ (u : ℕ). causal_pair circle 1 u ≡ true) w.1.2 (first_pair circle 1 1 s [] w.1)))
+    none_shorter (s ∷ []) w = absurd (no_step circle 1 1 s refl w)
     none_shorter (s ∷ t ∷ steps) w = omega arith

@@ -25,7 +25,7 @@ least_in row b = if slice_index row b == NONE then None else Some (slice_index r
 abbrev pub least : List (List ℕ) → ℕ → ℕ → Option ℕ
 least rows a b = least_in (row_of rows a) b
 
--- a row for each number below n, and in it a place for each
+-- a row for each number below n, and in it a value for each
 pub record IsSquare (n : ℕ) (table : List (List ℕ)) : Type 0 where
   pub long : length table ≡ n
   pub wide : All (λ row. length row ≡ n) table

@@ -1,23 +1,23 @@
 //! The lengths from each transaction by those from the transactions that pairs lead to, from the ends of sessions
 //! backwards. Of each session stands a transaction at its head, behind which all have their lengths; one whose readers
 //! have theirs too is next. Where none is, as pairs lead in a circle, the lengths from one head are searched.
-ghost use Rattle.std.specs.Prelude.{◌≡◌, ◌<◌, ◌≤◌, ◌+◌, ℕ, true, min, length, slice_index, replicate, All, IfOk, IfSome, IsTrue};
+ghost use Rattle.std.specs.Prelude.{◌≡◌, ◌<◌, ◌≤◌, ◌+◌, ℕ, true, min, length, slice_index, replicate, All, IfOk, IfSome, IsTrue, OnOk};
 ghost use Rattle.tcc_reads.specs.History.{count};
 ghost use Rattle.tcc_graph.specs.Relations.{IsSessionPair};
 ghost use Rattle.tcc_graph.specs.Levels.{causally};
 ghost use Rattle.tcc_graph.specs.Tables.{row_of};
-ghost use Rattle.tcc_near.specs.private.Breadth.{AreEnds, ArePairs, HasLengths, HaveLengths};
+ghost use Rattle.tcc_near.specs.private.Breadth.{ArePairs, HasLengths, HaveLengths};
 ghost use Rattle.tcc_near.specs.private.Backwards.{IsLeastFrom, IsLowered, IsNextOrOne, IsFromOn, AreOthers, AreKnown, IsThere, AreHeads};
 ghost use Rattle.tcc_near.specs.declared.distances.TheConstants.{NONE};
 ghost use Rattle.tcc_txn.specs.declared.limits.TheConstants.{MAX_COUNT};
 
 use crate::NONE;
+use crate::pairs::Pairs;
 use crate::search::lengths_from;
 use std::alloc::{AllocError, Global};
 use tcc_bits::Row;
-use tcc_graph::Graph;
 
-/// The lesser number of the two rows at each place.
+/// The lesser value of the two rows at each index.
 fn lower(row: &mut [u16], other: &[u16])
     requires { length row.old ≡ length other.now }
     ensures long { length row.new ≡ length row.old }
@@ -39,12 +39,12 @@ fn take_in_one(row: &mut [u16], distances: &[u16], from: u32)
 }
 
 /// Takes in the steps from each of these, which have their lengths, beside those from what session pairs lead to.
-fn take_in_each(_graph: &Graph, row: &mut [u16], rows: &[Row<u16>], numbers: &[u32], _from: u32)
-    requires few { count _graph.now ≤ MAX_COUNT }
-    requires known { AreKnown _graph.now rows.now }
-    requires there { All (IsThere rows.now (count _graph.now)) numbers.now }
-    requires run { IsLeastFrom _graph.now (IsSessionPair _graph.now _from) row.old }
-    ensures { IsLeastFrom _graph.now (IsNextOrOne _graph.now _from numbers.now) row.new }
+fn take_in_each(_pairs: &Pairs<'_>, row: &mut [u16], rows: &[Row<u16>], numbers: &[u32], _from: u32)
+    requires pairs { ArePairs _pairs.now }
+    requires known { AreKnown _pairs.now.history rows.now }
+    requires there { All (IsThere rows.now (count _pairs.now.history)) numbers.now }
+    requires run { IsLeastFrom _pairs.now.history (IsSessionPair _pairs.now.history _from) row.old }
+    ensures { IsLeastFrom _pairs.now.history (IsNextOrOne _pairs.now.history _from numbers.now) row.new }
 {
     for number in numbers {
         take_in_one(row, rows[*number as usize].as_slice(), *number);
@@ -65,22 +65,22 @@ fn lengthen(row: &mut [u16])
 /// session.
 fn row_over(
     alloc: Global,
-    graph: &Graph,
+    pairs: &Pairs<'_>,
     run: &[u16],
     rows: &[Row<u16>],
     readers: &[u32],
     from: u32,
 ) -> Result<Row<u16>, AllocError>
-    requires below { from < count graph.now }
-    requires few { count graph.now ≤ MAX_COUNT }
-    requires known { AreKnown graph.now rows.now }
-    requires there { All (IsThere rows.now (count graph.now)) readers.now }
-    requires run { IsLeastFrom graph.now (IsSessionPair graph.now from) run.now }
-    requires pairs { AreOthers graph.now from readers.now }
-    ensures { IfOk result (HasLengths (causally graph.now) from) }
+    requires pairs { ArePairs pairs.now }
+    requires below { from < count pairs.now.history }
+    requires known { AreKnown pairs.now.history rows.now }
+    requires there { All (IsThere rows.now (count pairs.now.history)) readers.now }
+    requires run { IsLeastFrom pairs.now.history (IsSessionPair pairs.now.history from) run.now }
+    requires others { AreOthers pairs.now.history from readers.now }
+    ensures { IfOk result (HasLengths (causally pairs.now.history) from) }
 {
     let mut row = run.to_vec(alloc)?;
-    take_in_each(graph, &mut row, rows, readers, from);
+    take_in_each(pairs, &mut row, rows, readers, from);
     lengthen(&mut row);
     Ok(Row::new(row))
 }
@@ -88,16 +88,16 @@ fn row_over(
 /// The least numbers of steps from a transaction, whose lengths these are, and from those behind it in its session.
 fn next_run(
     alloc: Global,
-    _graph: &Graph,
+    _pairs: &Pairs<'_>,
     run: &[u16],
     distances: &[u16],
     from: u32,
 ) -> Result<Row<u16>, AllocError>
-    requires below { from < count _graph.now }
-    requires few { count _graph.now ≤ MAX_COUNT }
-    requires run { IsLeastFrom _graph.now (IsSessionPair _graph.now from) run.now }
-    requires distances { HasLengths (causally _graph.now) from distances.now }
-    ensures { IfOk result (IsLeastFrom _graph.now (IsFromOn _graph.now from)) }
+    requires pairs { ArePairs _pairs.now }
+    requires below { from < count _pairs.now.history }
+    requires run { IsLeastFrom _pairs.now.history (IsSessionPair _pairs.now.history from) run.now }
+    requires distances { HasLengths (causally _pairs.now.history) from distances.now }
+    ensures { IfOk result (IsLeastFrom _pairs.now.history (IsFromOn _pairs.now.history from)) }
 {
     let mut row = run.to_vec(alloc)?;
     take_in_one(&mut row, distances, from);
@@ -120,36 +120,29 @@ fn are_there(rows: &[Row<u16>], numbers: &[u32], count: usize) -> bool
 /// The lengths from the head of a session: by those of its readers where they have theirs, else by a search.
 fn row_of_head(
     alloc: Global,
-    graph: &Graph,
-    ends: &[u32],
-    readers: &[Row<u32>],
+    pairs: &Pairs<'_>,
     rows: &[Row<u16>],
     run: &[u16],
     head: u32,
 ) -> Result<Row<u16>, AllocError>
-    requires below { head < count graph.now }
-    requires few { count graph.now ≤ MAX_COUNT }
-    requires pairs { ArePairs graph.now ends.now readers.now }
-    requires known { AreKnown graph.now rows.now }
-    requires run { IsLeastFrom graph.now (IsSessionPair graph.now head) run.now }
-    ensures { IfOk result (HasLengths (causally graph.now) head) }
+    requires pairs { ArePairs pairs.now }
+    requires below { head < count pairs.now.history }
+    requires known { AreKnown pairs.now.history rows.now }
+    requires run { IsLeastFrom pairs.now.history (IsSessionPair pairs.now.history head) run.now }
+    ensures { IfOk result (HasLengths (causally pairs.now.history) head) }
 {
-    let next = readers[head as usize].as_slice();
-    if are_there(rows, next, ends.len()) {
-        row_over(alloc, graph, run, rows, next, head)
+    let readers = pairs.readers(head);
+    if are_there(rows, readers, pairs.count()) {
+        row_over(alloc, pairs, run, rows, readers, head)
     } else {
-        lengths_from(alloc, graph, ends, readers, head)
+        lengths_from(alloc, pairs, head)
     }
 }
 
 /// The session to go on with: one whose head's readers have their lengths, or else any that has a head.
-fn next_session(
-    heads: &[u32],
-    readers: &[Row<u32>],
-    rows: &[Row<u16>],
-    count: usize,
-) -> Option<usize>
-    requires { (s : ℕ) → s < length heads.now → slice_index heads.now s < length readers.now }
+fn next_session(pairs: &Pairs<'_>, heads: &[u32], rows: &[Row<u16>]) -> Option<usize>
+    requires pairs { ArePairs pairs.now }
+    requires heads { (s : ℕ) → s < length heads.now → slice_index heads.now s < count pairs.now.history }
     ensures { IfSome result (λ s. (s < length heads.now) × (0 < slice_index heads.now s)) }
 {
     let mut open = None;
@@ -157,7 +150,7 @@ fn next_session(
         if *head == 0 {
             continue;
         }
-        if are_there(rows, readers[*head as usize].as_slice(), count) {
+        if are_there(rows, pairs.readers(*head), pairs.count()) {
             return Some(session);
         }
         open = Some(session);
@@ -194,7 +187,7 @@ fn last_of_each(alloc: Global, ends: &[u32]) -> Result<Vec<u32>, AllocError>
     Ok(heads)
 }
 
-/// So many rows of so many places, with no number at any.
+/// So many rows of a width, with `NONE` throughout.
 fn blank_rows(alloc: Global, count: usize, width: usize) -> Result<Vec<Row<u16>>, AllocError>
     ensures long { IfOk result (λ rows. length rows.items ≡ count) }
     ensures each { IfOk result (λ rows. All (λ row. row ≡ replicate width NONE) rows.items) }
@@ -206,51 +199,60 @@ fn blank_rows(alloc: Global, count: usize, width: usize) -> Result<Vec<Row<u16>>
     Ok(rows)
 }
 
-/// The lengths from all transactions but `init`.
-fn rows_of_sessions(
+/// Takes the lengths from the head of a session into the rows. The transaction before it is the head from now on.
+fn take_in_head(
     alloc: Global,
-    graph: &Graph,
-    ends: &[u32],
-    readers: &[Row<u32>],
-) -> Result<Vec<Row<u16>>, AllocError>
-    requires few { count graph.now ≤ MAX_COUNT }
-    requires pairs { ArePairs graph.now ends.now readers.now }
-    ensures { IfOk result (λ rows. AreKnown graph.now rows.items) }
+    pairs: &Pairs<'_>,
+    rows: &mut [Row<u16>],
+    heads: &mut [u32],
+    runs: &mut [Row<u16>],
+    session: usize,
+) -> Result<(), AllocError>
+    requires pairs { ArePairs pairs.now }
+    requires known { AreKnown pairs.now.history rows.old }
+    requires heads { AreHeads pairs.now.history heads.old runs.old }
+    requires session { session < length heads.old }
+    requires some { 0 < slice_index heads.old session }
+    ensures known { OnOk result (AreKnown pairs.now.history rows.new) }
+    ensures heads { OnOk result (AreHeads pairs.now.history heads.new runs.new) }
 {
-    let mut heads = last_of_each(alloc, ends)?;
-    let mut runs = blank_rows(alloc, heads.len(), ends.len())?;
-    let mut rows = blank_rows(alloc, ends.len(), 0)?;
-    for _ in 0..ends.len() {
-        let Some(session) = next_session(&heads, readers, &rows, ends.len()) else {
+    let head = heads[session];
+    let run = runs[session].as_slice();
+    let row = row_of_head(alloc, pairs, rows, run, head)?;
+    runs[session] = next_run(alloc, pairs, run, row.as_slice(), head)?;
+    heads[session] = previous(pairs.ends(), head);
+    rows[head as usize] = row;
+    Ok(())
+}
+
+/// The lengths from all transactions but `init`.
+fn rows_of_sessions(alloc: Global, pairs: &Pairs<'_>) -> Result<Vec<Row<u16>>, AllocError>
+    requires { ArePairs pairs.now }
+    ensures { IfOk result (λ rows. AreKnown pairs.now.history rows.items) }
+{
+    let mut heads = last_of_each(alloc, pairs.ends())?;
+    let mut runs = blank_rows(alloc, heads.len(), pairs.count())?;
+    let mut rows = blank_rows(alloc, pairs.count(), 0)?;
+    for _ in 0..pairs.count() {
+        let Some(session) = next_session(pairs, &heads, &rows) else {
             return Ok(rows);
         };
-        let head = heads[session];
-        let run = runs[session].as_slice();
-        let row = row_of_head(alloc, graph, ends, readers, &rows, run, head)?;
-        runs[session] = next_run(alloc, graph, run, row.as_slice(), head)?;
-        heads[session] = previous(ends, head);
-        rows[head as usize] = row;
+        take_in_head(alloc, pairs, &mut rows, &mut heads, &mut runs, session)?;
     }
     Ok(rows)
 }
 
 /// The lengths from each transaction: these, and the others by a search.
-pub(crate) fn rows_backwards(
-    alloc: Global,
-    graph: &Graph,
-    ends: &[u32],
-    readers: &[Row<u32>],
-) -> Result<Vec<Row<u16>>, AllocError>
-    requires few { count graph.now ≤ MAX_COUNT }
-    requires pairs { ArePairs graph.now ends.now readers.now }
-    ensures { IfOk result (λ rows. HaveLengths (causally graph.now) rows.items) }
+pub(crate) fn rows_backwards(alloc: Global, pairs: &Pairs<'_>) -> Result<Vec<Row<u16>>, AllocError>
+    requires { ArePairs pairs.now }
+    ensures { IfOk result (λ rows. HaveLengths (causally pairs.now.history) rows.items) }
 {
-    let mut rows = rows_of_sessions(alloc, graph, ends, readers)?;
-    for source in 0..ends.len() {
-        if rows[source].as_slice().len() == ends.len() {
+    let mut rows = rows_of_sessions(alloc, pairs)?;
+    for source in 0..pairs.count() {
+        if rows[source].as_slice().len() == pairs.count() {
             continue;
         }
-        rows[source] = lengths_from(alloc, graph, ends, readers, source as u32)?;
+        rows[source] = lengths_from(alloc, pairs, source as u32)?;
     }
     Ok(rows)
 }

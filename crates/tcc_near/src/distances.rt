@@ -7,7 +7,7 @@ use std::marker::Model;
 use tcc_bits::Row;
 use tcc_graph::Level;
 
-/// What a table has in place of a number where there is none: no walk leads there, or no link.
+/// What stands in a table where there is no number: no walk leads there, or no link.
 pub const NONE: u16 = u16::MAX;
 
 /// The least number of steps of a walk that a level allows, from each transaction of a graph to each, itself among them.

@@ -1,15 +1,14 @@
 //! The search for all lengths of a graph, from each transaction: breadth first, or by those that its pairs lead to.
-ghost use Rattle.std.specs.Prelude.{◌≡◌, ◌<◌, ◌≤◌, ◌↔◌, ℕ, true, length, All, Contains, IfOk, slice_index};
+ghost use Rattle.std.specs.Prelude.{◌≡◌, ◌<◌, ◌≤◌, ◌^◌, ◌↔◌, ℕ, true, length, All, Contains, IfOk, OnOk, slice_index};
 ghost use Rattle.tcc_reads.specs.History.{count};
 ghost use Rattle.tcc_graph.specs.Levels.{causally, atomically, judged};
 ghost use Rattle.tcc_near.specs.Distances.{IsNearOf};
-ghost use Rattle.tcc_bits.specs.Bits.{is_marked, words_for};
-ghost use Rattle.tcc_near.specs.private.Breadth.{ArePairs, AreSuffixes, HasLengths, HaveLengths, IsLedTo, one_step, unnumbered};
+ghost use Rattle.tcc_bits.specs.Bits.{is_marked};
+ghost use Rattle.tcc_near.specs.private.Breadth.{AreMarks, ArePairs, HasLengths, HaveLengths, IsLedTo, IsRound, IsSeen, one_step, unnumbered};
 ghost use Rattle.tcc_near.specs.declared.distances.TheConstants.{NONE};
-ghost use Rattle.tcc_txn.specs.declared.limits.TheConstants.{MAX_COUNT};
 
 use crate::backwards::rows_backwards;
-use crate::pairs::{first_marks, readers_apart, session_ends, take_in};
+use crate::pairs::{Pairs, first_marks, take_in};
 use crate::{NONE, Near};
 use rayon::prelude::*;
 use std::alloc::{AllocError, Global};
@@ -20,38 +19,49 @@ use tcc_txn::NoMemory;
 
 /// Gives the length to each of these, which have none.
 fn number(steps: &mut [u16], fresh: &[u32], distance: u16)
-    requires new { All (λ place. (place < length steps.old) × (slice_index steps.old place ≡ NONE)) fresh.now }
+    requires new { All (λ number. (number < length steps.old) × (slice_index steps.old number ≡ NONE)) fresh.now }
     requires walk { distance < NONE }
     ensures each { (b : ℕ) → Contains fresh.now b → slice_index steps.new b ≡ distance }
     ensures others { (b : ℕ) → (Contains fresh.now b → ⊥) → slice_index steps.new b ≡ slice_index steps.old b }
     ensures fewer { 0 < length fresh.now → unnumbered steps.new < unnumbered steps.old }
 {
-    for place in fresh {
-        steps[*place as usize] = distance;
+    for number in fresh {
+        steps[*number as usize] = distance;
     }
 }
 
-/// Marks those to which a causal pair leads from one of these.
-fn spread(
-    graph: &Graph,
-    ends: &[u32],
-    readers: &[Row<u32>],
-    words: &mut [u64],
-    suffixes: &mut [u32],
-    fresh: &[u32],
-)
-    requires below { All (λ place. place < count graph.now) fresh.now }
-    requires pairs { ArePairs graph.now ends.now readers.now }
-    requires wide { length words.old ≡ words_for (count graph.now) }
-    requires within { length suffixes.old ≡ count graph.now }
-    requires suffixes { AreSuffixes suffixes.old words.old }
-    ensures same { length words.new ≡ length words.old }
-    ensures long { length suffixes.new ≡ length suffixes.old }
-    ensures suffixes { AreSuffixes suffixes.new words.new }
-    ensures each { (b : ℕ) → (is_marked words.new b ≡ true) ↔ IsLedTo graph.now words.old (Contains fresh.now) b }
+/// Gives the distance of this round to what is marked and has none. Those are the fresh ones, and are seen from now on.
+fn number_fresh(
+    steps: &mut [u16],
+    seen: &mut [u64],
+    words: &[u64],
+    fresh: &mut Vec<u32>,
+    distance: u16,
+) -> Result<(), AllocError>
+    requires walk { distance < NONE }
+    requires inside { (b : ℕ) → is_marked words.now b ≡ true → b < length steps.old }
+    requires same { length seen.old ≡ length words.now }
+    requires few { length words.now ≤ 2 ^ 20 }
+    requires seen { IsSeen steps.old seen.old }
+    ensures long { length steps.new ≡ length steps.old }
+    ensures same { length seen.new ≡ length seen.old }
+    ensures round { OnOk result (IsRound words.now steps.old steps.new seen.new fresh.new.items distance) }
 {
-    for place in fresh {
-        take_in(graph, ends, readers, words, suffixes, *place);
+    take_fresh(fresh, seen, words)?;
+    number(steps, fresh, distance);
+    Ok(())
+}
+
+/// Marks those to which a causal pair leads from one of these.
+fn spread(pairs: &Pairs<'_>, words: &mut [u64], suffixes: &mut [u32], fresh: &[u32])
+    requires pairs { ArePairs pairs.now }
+    requires below { All (λ number. number < count pairs.now.history) fresh.now }
+    requires marks { AreMarks (count pairs.now.history) words.old suffixes.old }
+    ensures marks { AreMarks (count pairs.now.history) words.new suffixes.new }
+    ensures each { (b : ℕ) → (is_marked words.new b ≡ true) ↔ IsLedTo pairs.now.history words.old (Contains fresh.now) b }
+{
+    for number in fresh {
+        take_in(pairs, words, suffixes, *number);
     }
 }
 
@@ -59,27 +69,23 @@ fn spread(
 /// the next step reaches from there; the search ends where there is nothing to number.
 pub(crate) fn lengths_from(
     alloc: Global,
-    graph: &Graph,
-    ends: &[u32],
-    readers: &[Row<u32>],
+    pairs: &Pairs<'_>,
     source: u32,
 ) -> Result<Row<u16>, AllocError>
-    requires source { source < count graph.now }
-    requires few { count graph.now ≤ MAX_COUNT }
-    requires pairs { ArePairs graph.now ends.now readers.now }
-    ensures { IfOk result (HasLengths (causally graph.now) source) }
+    requires pairs { ArePairs pairs.now }
+    requires source { source < count pairs.now.history }
+    ensures { IfOk result (HasLengths (causally pairs.now.history) source) }
 {
-    let (mut words, mut suffixes) = first_marks(alloc, graph, ends, readers, source)?;
-    let mut steps = vec![in alloc; NONE; ends.len()]?;
+    let (mut words, mut suffixes) = first_marks(alloc, pairs, source)?;
+    let mut steps = vec![in alloc; NONE; pairs.count()]?;
     let mut seen = vec![in alloc; 0; words.len()]?;
     let mut fresh = Vec::new(alloc);
-    for before in 0..ends.len() {
-        take_fresh(&mut fresh, &mut seen, &words)?;
+    for before in 0..pairs.count() {
+        number_fresh(&mut steps, &mut seen, &words, &mut fresh, before as u16 + 1)?;
         if fresh.is_empty() {
             return Ok(Row::new(steps));
         }
-        number(&mut steps, &fresh, before as u16 + 1);
-        spread(graph, ends, readers, &mut words, &mut suffixes, &fresh);
+        spread(pairs, &mut words, &mut suffixes, &fresh);
     }
     Ok(Row::new(steps))
 }
@@ -90,48 +96,39 @@ fn steps_to(alloc: Global, marks: &[u64], count: usize) -> Result<Row<u16>, Allo
 {
     let mut steps = Vec::new(alloc);
     steps.reserve(count)?;
-    for place in 0..count {
-        steps.push(if is_marked(marks, place) { 1 } else { NONE })?;
+    for number in 0..count {
+        steps.push(if is_marked(marks, number) { 1 } else { NONE })?;
     }
     Ok(Row::new(steps))
 }
 
 /// The lengths from one transaction by walks of one step.
-fn row_of_steps(
-    alloc: Global,
-    graph: &Graph,
-    ends: &[u32],
-    readers: &[Row<u32>],
-    source: u32,
-) -> Result<Row<u16>, AllocError>
-    requires source { source < count graph.now }
-    requires few { count graph.now ≤ MAX_COUNT }
-    requires pairs { ArePairs graph.now ends.now readers.now }
-    ensures { IfOk result (HasLengths (atomically graph.now) source) }
+fn row_of_steps(alloc: Global, pairs: &Pairs<'_>, source: u32) -> Result<Row<u16>, AllocError>
+    requires pairs { ArePairs pairs.now }
+    requires source { source < count pairs.now.history }
+    ensures { IfOk result (HasLengths (atomically pairs.now.history) source) }
 {
-    let (words, _suffixes) = first_marks(alloc, graph, ends, readers, source)?;
-    steps_to(alloc, &words, ends.len())
+    let (words, _suffixes) = first_marks(alloc, pairs, source)?;
+    steps_to(alloc, &words, pairs.count())
 }
 
 /// The same from each transaction, in several threads.
 fn rows_of_steps(
     rt: &(impl Threads + Sync),
     alloc: Global,
-    graph: &Graph,
-    ends: &[u32],
-    readers: &[Row<u32>],
+    pairs: &Pairs<'_>,
 ) -> Result<Vec<Row<u16>>, AllocError>
-    requires few { count graph.now ≤ MAX_COUNT }
-    requires pairs { ArePairs graph.now ends.now readers.now }
-    ensures { IfOk result (λ rows. HaveLengths (atomically graph.now) rows.items) }
+    requires { ArePairs pairs.now }
+    ensures { IfOk result (λ rows. HaveLengths (atomically pairs.now.history) rows.items) }
 {
-    (0..ends.len())
+    (0..pairs.count())
         .into_par_iter()
         .map(
             |source: usize| -> Result<Row<u16>, AllocError>
-                requires { (source < count graph.now) × (count graph.now ≤ MAX_COUNT) × ArePairs graph.now ends.now readers.now }
-                ensures { IfOk result (HasLengths (atomically graph.entry.now) source) }
-            { row_of_steps(alloc, graph, ends, readers, source as u32) },
+                requires pairs { ArePairs pairs.now }
+                requires source { source < count pairs.now.history }
+                ensures { IfOk result (HasLengths (atomically pairs.entry.now.history) source) }
+            { row_of_steps(alloc, pairs, source as u32) },
         )
         .with_min_len(ROWS_A_THREAD)
         .collect::<Result<Vec<Row<u16>>, AllocError>>(rt, alloc)?
@@ -141,18 +138,15 @@ fn rows_of_steps(
 fn all_distances(
     rt: &(impl Threads + Sync),
     alloc: Global,
-    graph: &Graph,
-    ends: &[u32],
-    readers: &[Row<u32>],
+    pairs: &Pairs<'_>,
     level: Level,
 ) -> Result<Vec<Row<u16>>, AllocError>
-    requires few { count graph.now ≤ MAX_COUNT }
-    requires pairs { ArePairs graph.now ends.now readers.now }
-    ensures { IfOk result (λ rows. IsNearOf (judged graph.now level) (record { level = level; rows = rows.items })) }
+    requires { ArePairs pairs.now }
+    ensures { IfOk result (λ rows. IsNearOf (judged pairs.now.history level) (record { level = level; rows = rows.items })) }
 {
     match level {
-        Level::Causal => rows_backwards(alloc, graph, ends, readers),
-        Level::Atomic => rows_of_steps(rt, alloc, graph, ends, readers),
+        Level::Causal => rows_backwards(alloc, pairs),
+        Level::Atomic => rows_of_steps(rt, alloc, pairs),
     }
 }
 
@@ -167,8 +161,7 @@ pub fn near(
 ) -> Result<Near, NoMemory>
     ensures { IfOk result (IsNearOf (judged graph.now level)) }
 {
-    let ends = session_ends(alloc, graph)?;
-    let readers = readers_apart(alloc, graph, &ends)?;
-    let rows = all_distances(rt, alloc, graph, &ends, &readers, level)?;
+    let pairs = Pairs::of(alloc, graph)?;
+    let rows = all_distances(rt, alloc, &pairs, level)?;
     Ok(Near::new(level, rows))
 }

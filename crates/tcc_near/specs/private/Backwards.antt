@@ -19,7 +19,7 @@ pub record IsLeastFrom (h : History) (IsOne : ℕ → Type 0) (row : List ℕ) :
   pub least : (b c : ℕ) (steps : List Step) → IsOne b → c < count h → Leads h b c steps → (slice_index row c < NONE) × (slice_index row c ≤ length steps)
   pub attained : (c : ℕ) → c < count h → (slice_index row c ≡ NONE) ⊎ ((slice_index row c ≤ count h) × IsLedFrom h IsOne c (slice_index row c))
 
--- the lesser number of two rows at each place, but 0 at the one from which the steps of the other lead
+-- the lesser value of two rows at each index, but 0 at the one from which the steps of the other lead
 pub record IsLowered (old : List ℕ) (other : List ℕ) (from : ℕ) (new : List ℕ) : Type 0 where
   pub long : length new ≡ length old
   pub itself : slice_index new from ≡ 0

@@ -10,11 +10,7 @@ use Rattle.tcc_graph.specs.declared.step.Step.{Step}
 use Rattle.tcc_bits.specs.Bits.{is_marked, words_for}
 use Rattle.tcc_near.specs.Distances.{IsShortest, IsWalkLength, least_in}
 use Rattle.tcc_near.specs.declared.distances.TheConstants.{NONE}
-
--- a row with room for the numbers below n that marks no others
-pub record IsRowOf (n : ℕ) (words : List ℕ) : Type 0 where
-  pub wide : length words ≡ words_for n
-  pub inside : (b : ℕ) → is_marked words b ≡ true → b < n
+use Rattle.tcc_txn.specs.declared.limits.TheConstants.{MAX_COUNT}
 
 -- the marks of a number, and none past the table
 abbrev pub marks_of : List (List ℕ) → ℕ → List ℕ
@@ -35,15 +31,32 @@ pub record AreEnds (h : History) (ends : List ℕ) : Type 0 where
 abbrev pub IsPairsFrom : History → ℕ → ℕ → List ℕ → Type 0
 IsPairsFrom h u end readers = (b : ℕ) → (causal_pair h u b ≡ true) ↔ (((u + 1 ≤ b) × (b < end)) ⊎ Contains readers b)
 
--- tables of the causal pairs from each transaction: where those of session pairs end, and the readers among the others
-pub record ArePairs (h : History) (ends : List ℕ) (readers : List (List ℕ)) : Type 0 where
-  pub ended : AreEnds h ends
+-- of each transaction the readers among the causal pairs that are no session pairs
+pub record AreReaders (h : History) (ends : List ℕ) (readers : List (List ℕ)) : Type 0 where
   pub long : length readers ≡ count h
   pub each : (u : ℕ) → u < count h → IsPairsFrom h u (slice_index ends u) (marks_of readers u)
 
--- a place for each number: from the number that stands there up to the number itself all are marked
+-- a history, and tables of the causal pairs from each of its transactions
+pub record PairTables : Type 0 where
+  pub history : History
+  pub ends : List ℕ
+  pub readers : List (List ℕ)
+
+-- the tables are those of the history: where session pairs end, and the readers among the others
+pub record ArePairs (pairs : PairTables) : Type 0 where
+  pub few : count pairs.history ≤ MAX_COUNT
+  pub ended : AreEnds pairs.history pairs.ends
+  pub others : AreReaders pairs.history pairs.ends pairs.readers
+
+-- of each number one from which on up to it all are marked
 abbrev pub AreSuffixes : List ℕ → List ℕ → Type 0
 AreSuffixes suffixes words = (last : ℕ) (b : ℕ) → last < length suffixes → slice_index suffixes last ≤ b → b ≤ last → is_marked words b ≡ true
+
+-- room for the marks of n numbers, and for each a number from which on up to it all are marked
+pub record AreMarks (n : ℕ) (words : List ℕ) (suffixes : List ℕ) : Type 0 where
+  pub wide : length words ≡ words_for n
+  pub long : length suffixes ≡ n
+  pub marked : AreSuffixes suffixes words
 
 -- a walk of at most n steps leads from a to b
 abbrev pub IsWithin : History → ℕ → ℕ → ℕ → Type 0
@@ -98,3 +111,10 @@ one_step mark = if mark then 1 else NONE
 -- seen is what has a distance
 abbrev pub IsSeen : List ℕ → List ℕ → Type 0
 IsSeen row seen = (b : ℕ) → b < length row → (is_marked seen b ≡ false) ↔ (slice_index row b ≡ NONE)
+
+-- what is marked and had no distance has got this one: those are the fresh ones, and seen is what has a distance now
+pub record IsRound (marks : List ℕ) (old : List ℕ) (new : List ℕ) (met : List ℕ) (found : List ℕ) (distance : ℕ) : Type 0 where
+  pub each : (b : ℕ) → slice_index new b ≡ numbered old marks distance b
+  pub fresh : (b : ℕ) → Contains found b ↔ ((is_marked marks b ≡ true) × (slice_index old b ≡ NONE))
+  pub seen : IsSeen new met
+  pub fewer : 0 < length found → unnumbered new < unnumbered old

@@ -14,12 +14,11 @@ take_in_one-requires c =
 
 pub returns : goal.returns
 returns c =
-    let h = c.args._graph.now in
-    let a = c.args.from in
-    let old = c.args.run.now in
+    let h = c.args._pairs.now.history in
     let new = c.take_in_one.new.row in
-    let copied : c.in_ok-row.row.items ≡ old = search rules in
+    let copied : c.in_ok-row.row.items ≡ c.args.run.now = search rules in
+    let low : IsLowered c.args.run.now c.args.distances.now c.args.from new = rw (c.deref_mut.ensures.value, copied) at c.take_in_one.ensures in
     let row_long : c.in_ok-row.row.len ≡ length c.in_ok-row.row.items = search rules in
-    let low : IsLowered old c.args.distances.now a new = rw (c.deref_mut.ensures.value, copied) at c.take_in_one.ensures in
     rw (c.new.ensures, take_at new _ c.in_ok-row.row.len (low.long ∙ sym (rw copied at row_long)))
-    (least_more h (omega (arith, c.requires.few)) (IsSessionPair h a) old c.args.distances.now a new c.requires.below c.requires.run c.requires.distances low)
+    (least_more h (omega (arith, c.requires.pairs.few)) (IsSessionPair h c.args.from) c.args.run.now c.args.distances.now c.args.from new c.requires.below
+    c.requires.run c.requires.distances low)

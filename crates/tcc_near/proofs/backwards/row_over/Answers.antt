@@ -13,7 +13,7 @@ take_in_each-requires-clause-run c =
 
 pub returns : goal.returns
 returns c =
-    let h = c.args.graph.now in
+    let h = c.args.pairs.now.history in
     let a = c.args.from in
     let mid = c.take_in_each.new.row in
     let new = c.lengthen.new.row in
@@ -26,4 +26,4 @@ returns c =
     let same : length new ≡ length mid = rw middle at c.lengthen.ensures.long in
     let each : (k : ℕ) → k < length mid → slice_index new k ≡ min (slice_index mid k + 1) NONE = rw middle at c.lengthen.ensures.each in
     rw (c.new.ensures, take_at new _ c.in_ok-row.row.len (same ∙ over.long ∙ sym (rw copied at row_long ∙ run_long)))
-    (distances_over h (omega (arith, c.requires.few)) (IsNextOrOne h a c.args.readers.now) a mid new over c.requires.pairs same each)
+    (distances_over h (omega (arith, c.requires.pairs.few)) (IsNextOrOne h a c.args.readers.now) a mid new over c.requires.others same each)

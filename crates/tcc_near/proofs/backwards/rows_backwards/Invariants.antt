@@ -8,5 +8,5 @@ use Rattle.tcc_near.proofs.backwards.rows_backwards.Given as goal
 
 abbrev pub invariant-loop-source : goal.invariant-loop-source
 invariant-loop-source l =
-    AreKnown l.graph l.rows.items
-    × ((u : ℕ) → u < l.source → u < count l.graph → HasLengths (causally l.graph) u (row_of l.rows.items u))
+    AreKnown l.pairs.history l.rows.items
+    × ((u : ℕ) → u < l.source → u < count l.pairs.history → HasLengths (causally l.pairs.history) u (row_of l.rows.items u))

@@ -9,13 +9,13 @@ use Rattle.tcc_near.proofs.backwards.take_in_each.Goals as goal
 
 pub loop-number-init : goal.loop-number-init
 loop-number-init c =
-    let h = c.args._graph.now in
+    let h = c.args._pairs.now.history in
     let a = c.args._from in
     least_same h (IsSessionPair h a) (IsNextOrOne h a (take 0 c.args.numbers.now)) c.args.row.now (next_none h a c.args.numbers.now) c.requires.run
 
 pub loop-number-preserved : goal.loop-number-preserved
 loop-number-preserved c =
-    let h = c.args._graph.now in
+    let h = c.args._pairs.now.history in
     let a = c.args._from in
     let rows = c.args.rows.now in
     let numbers = c.args.numbers.now in
@@ -27,7 +27,7 @@ loop-number-preserved c =
     let low : IsLowered c.loop-number.row (row_of rows one) one c.take_in_one.new.row = rw row at c.take_in_one.ensures in
     least_same h (λ b. IsNextOrOne h a (take n numbers) b ⊎ (b ≡ one)) (IsNextOrOne h a (take (n + 1) numbers)) c.take_in_one.new.row
     (next_more h a numbers n c.loop-number-test.true)
-    (least_more h (omega (arith, c.requires.few)) (IsNextOrOne h a (take n numbers)) c.loop-number.row (row_of rows one) one c.take_in_one.new.row inside
+    (least_more h (omega (arith, c.requires.pairs.few)) (IsNextOrOne h a (take n numbers)) c.loop-number.row (row_of rows one) one c.take_in_one.new.row inside
     c.loop-number.invariant (known_there h rows one inside there.1 c.requires.known) low)
 
 pub returns : goal.returns

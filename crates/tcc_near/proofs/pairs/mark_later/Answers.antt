@@ -2,39 +2,38 @@ use Rattle.std.proofs.Common.{◌≡◌, ◌≤◌, ◌<◌, ◌-◌, ℕ, true,
 use Rattle.tcc_bits.specs.Bits.{is_marked}
 use Rattle.tcc_bits.proofs.MarkLemmas.{AddsBetween, between_known, between_marked}
 use Rattle.tcc_near.proofs.MarkLemmas.{suffixes_set}
+use Rattle.tcc_near.proofs.pairs.mark_later.Goals.{After-min-known}
 use Rattle.tcc_near.proofs.pairs.mark_later.Goals as goal
+
+least : (c : After-min-known) → c.min-known.result ≡ min (slice_index c.args.suffixes.now (c.args.end - 1)) c.args.end
+least c = c.min-known.ensures
+
+-- from there on the session is marked
+marked : (c : After-min-known) (b : ℕ) → c.min-known.result ≤ b → b < c.args.end → is_marked c.args.words.now b ≡ true
+marked c b from below =
+    c.requires.suffixes (c.args.end - 1) b (omega (arith, c.requires.some, c.requires.within)) (omega (arith, least c, from, below)) (omega (arith, below))
 
 pub returns-then-first-known : goal.returns-then-first-known
 returns-then-first-known c =
+    let after = (goal.at.returns-then-first-known c).After-min-known in
     let words = c.args.words.now in
-    let suffixes = c.args.suffixes.now in
-    let first = c.args.first in
+    let new = c.mark_between.new.words in
     let end = c.args.end in
-    let known = c.min-known.result in
-    let least : known ≡ min (slice_index suffixes (end - 1)) end = c.min-known.ensures in
-    let marked : (b : ℕ) → known ≤ b → b < end → is_marked words b ≡ true =
-    λ b from below. c.requires.suffixes (end - 1) b (omega (arith, c.requires.some, c.requires.within)) (omega (arith, least)) (omega arith) in
-    let is : AddsBetween words c.mark_between.new.words first end =
-    between_known words c.mark_between.new.words first known end (omega (arith, least)) marked c.mark_between.ensures.each in
+    let is : AddsBetween words new c.args.first end =
+    between_known words new c.args.first c.min-known.result end (omega (arith, least after)) (marked after) c.mark_between.ensures.each in
     record {
       same = c.mark_between.ensures.same;
-      long = length-set suffixes (end - 1) first;
-      suffixes = suffixes_set suffixes words c.mark_between.new.words first end c.requires.some c.requires.within c.requires.suffixes is;
+      long = length-set c.args.suffixes.now (end - 1) c.args.first;
+      suffixes = suffixes_set c.args.suffixes.now words new c.args.first end c.requires.some c.requires.within c.requires.suffixes is;
       each = is;
     }
 
 pub returns-else-first-known : goal.returns-else-first-known
 returns-else-first-known c =
-    let words = c.args.words.now in
-    let suffixes = c.args.suffixes.now in
-    let first = c.args.first in
-    let end = c.args.end in
-    let least : c.min-known.result ≡ min (slice_index suffixes (end - 1)) end = c.min-known.ensures in
+    let after = (goal.at.returns-else-first-known c).After-min-known in
     record {
       same = refl;
       long = refl;
       suffixes = c.requires.suffixes;
-      each =
-          between_marked words first end (λ b from below. c.requires.suffixes (end - 1) b (omega (arith, c.requires.some, c.requires.within))
-          (omega (arith, least, c.if-first-known.false)) (omega arith));
+      each = between_marked c.args.words.now c.args.first c.args.end (λ b from. marked after b (omega (arith, from, c.if-first-known.false)));
     }

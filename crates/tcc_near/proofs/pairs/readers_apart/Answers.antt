@@ -20,7 +20,6 @@ returns c =
     let inv = c.loop-from.invariant in
     let all : c.loop-from.from ≡ length c.args.ends.now = omega (arith, c.loop-from-test.false, c.loop-from.auto.from-end) in
     record {
-      ended = c.requires.ends;
       long = inv.0 ∙ (all ∙ c.requires.ends.long);
       each = λ u from. inv.1 u [] (omega (arith, all, from, c.requires.ends.long));
     }

@@ -5,10 +5,10 @@ use Rattle.tcc_near.proofs.search.all_distances.Goals as goal
 
 pub returns-in-Causal : goal.returns-in-Causal
 returns-in-Causal g c =
-    rw c.in-Causal.is (IfOk-weaker c.rows_backwards.result _ _ (λ rows have. near_from_rows c.args.graph.now level.Causal rows.items have)
+    rw c.in-Causal.is (IfOk-weaker c.rows_backwards.result _ _ (λ rows have. near_from_rows c.args.pairs.now.history level.Causal rows.items have)
     c.rows_backwards.ensures)
 
 pub returns-in-Atomic : goal.returns-in-Atomic
 returns-in-Atomic g c =
-    rw c.in-Atomic.is (IfOk-weaker c.rows_of_steps.result _ _ (λ rows have. near_from_rows c.args.graph.now level.Atomic rows.items have)
+    rw c.in-Atomic.is (IfOk-weaker c.rows_of_steps.result _ _ (λ rows have. near_from_rows c.args.pairs.now.history level.Atomic rows.items have)
     c.rows_of_steps.ensures)

@@ -1,16 +1,16 @@
-use Rattle.std.proofs.Common.{◌≡◌, ◌≤◌, ◌+◌, length}
+use Rattle.std.proofs.Common.{◌≡◌, ◌≤◌, ◌<◌, ◌+◌, ℕ, true, length}
 use Rattle.tcc_reads.specs.History.{count}
-use Rattle.tcc_near.specs.private.Breadth.{IsRowOf, IsSearched, IsMarked, IsSeen, AreSuffixes, unnumbered}
+use Rattle.tcc_bits.specs.Bits.{is_marked}
+use Rattle.tcc_near.specs.private.Breadth.{AreMarks, IsSearched, IsMarked, IsSeen, unnumbered}
 use Rattle.tcc_near.proofs.search.lengths_from.Given as goal
 
 abbrev pub invariant-loop-before : goal.invariant-loop-before
-invariant-loop-before l =
-    (length l.steps.items ≡ count l.graph)
-    × IsRowOf (count l.graph) l.words.items
-    × (length l.seen.items ≡ length l.words.items)
-    × IsSeen l.steps.items l.seen.items
-    × (unnumbered l.steps.items + l.before ≤ count l.graph)
-    × IsSearched l.graph l.source l.before l.steps.items
-    × IsMarked l.graph l.source (l.before + 1) l.words.items
-    × (length l.suffixes.items ≡ count l.graph)
-    × AreSuffixes l.suffixes.items l.words.items
+invariant-loop-before l = record {
+  marks : AreMarks (count l.pairs.history) l.words.items l.suffixes.items;
+  inside : (b : ℕ) → is_marked l.words.items b ≡ true → b < count l.pairs.history;
+  same : length l.seen.items ≡ length l.words.items;
+  seen : IsSeen l.steps.items l.seen.items;
+  few : unnumbered l.steps.items + l.before ≤ count l.pairs.history;
+  searched : IsSearched l.pairs.history l.source l.before l.steps.items;
+  marked : IsMarked l.pairs.history l.source (l.before + 1) l.words.items;
+}

@@ -1,12 +1,11 @@
-use Rattle.std.proofs.Common.{◌≡◌, ◌↔◌, ℕ, true, length, take}
+use Rattle.std.proofs.Common.{◌≡◌, ◌↔◌, ℕ, true, take}
 use Rattle.std.specs.Prelude.{Contains}
+use Rattle.tcc_reads.specs.History.{count}
 use Rattle.tcc_bits.specs.Bits.{is_marked}
-use Rattle.tcc_near.specs.private.Breadth.{AreSuffixes, IsLedTo}
+use Rattle.tcc_near.specs.private.Breadth.{AreMarks, IsLedTo}
 use Rattle.tcc_near.proofs.search.spread.Given as goal
 
-abbrev pub invariant-loop-place : goal.invariant-loop-place
-invariant-loop-place l =
-    (length l.words ≡ length l.initial.words)
-    × (length l.suffixes ≡ length l.initial.suffixes)
-    × AreSuffixes l.suffixes l.words
-    × ((b : ℕ) → (is_marked l.words b ≡ true) ↔ IsLedTo l.graph l.initial.words (Contains (take l.place-index l.fresh)) b)
+abbrev pub invariant-loop-number : goal.invariant-loop-number
+invariant-loop-number l =
+    AreMarks (count l.pairs.history) l.words l.suffixes
+    × ((b : ℕ) → (is_marked l.words b ≡ true) ↔ IsLedTo l.pairs.history l.initial.words (Contains (take l.number-index l.fresh)) b)
