@@ -23,7 +23,7 @@ use Rattle.tcc_reads.specs.Sources.{name_cmp}
 use Rattle.tcc_derive.specs.private.Choices.{IsNearest, IsNearestReader, IsChoice}
 use Rattle.tcc_derive.proofs.BucketLemmas.{Contains-taken, Contains-still, Contains-last}
 use Rattle.tcc_graph.proofs.WriterLemmas.{numbers_below, number_in, writer_writes, writer_listed}
-use Rattle.tcc_derive.proofs.KeyLemmas.{read_place}
+use Rattle.tcc_derive.proofs.KeyLemmas.{read_key}
 use Rattle.tcc_near.specs.declared.distances.TheConstants.{NONE}
 use Rattle.tcc_graph.proofs.NameLemmas.{has_name-contains}
 use Rattle.tcc_txn.proofs.Lists.{in_filter, found_number, number_found}
@@ -34,7 +34,7 @@ abbrev pub IsBest : List ℕ → List ℕ → ℕ → Option ℕ → Type 0
 IsBest readers steps least None = (least ≡ NONE) × ((d : ℕ) → Contains readers d → get_or steps d 0 ≡ NONE)
 IsBest readers steps least (Some c) = (least ≡ get_or steps c 0) × IsNearest readers steps c
 
--- what stands before a place of an ascending list is below what stands there
+-- what stands before an index of an ascending list is below what stands there
 earlier_below : (readers : List ℕ) (i r c : ℕ) → IsStrictlySortedBy nat_cmp readers → i < length readers → r ≡ get_or readers i r
     → Contains (take i readers) c → c < r
 earlier_below readers i r c sorted l is (j, m, e) =
@@ -144,7 +144,7 @@ IsBestChoice h steps b a among least (Some found) = (least ≡ get_or steps foun
 not_above_itself : (x : List ℕ) → name_cmp x x ≢ Greater
 not_above_itself x e = let tie : name_cmp x x ≡ Equal = tied_itself nat_list_cmp_total x in cc
 
--- what stands before a place among the keys comes before what stands there
+-- what stands before an index among the keys comes before what stands there
 earlier_key : (ks : List (List ℕ)) (i : ℕ) (y x : List ℕ) → IsStrictlySortedBy name_cmp ks → i < length ks → y ≡ get_or ks i y → Contains (take i ks) x
     → name_cmp x y ≢ Greater
 earlier_key ks i y x sorted l is (j, m, e) above =
@@ -209,7 +209,7 @@ module _ (h : History) (steps : List ℕ) (b a : ℕ) (ks : List (List ℕ)) (i 
   )
 
 key_there : (h : History) (a c : ℕ) (x : List ℕ) → IsReadsPair h a c x → Contains (keys h) x
-key_there h a c x pair = let place = read_place h a c x pair in (place.0, place.1, get_or_default (keys h) place.0 x [] place.1 ∙ place.2)
+key_there h a c x pair = let key = read_key h a c x pair in (key.0, key.1, get_or_default (keys h) key.0 x [] key.1 ∙ key.2)
 
 pub choice_of : (h : History) (steps : List ℕ) (b a least : ℕ) (best : Option (List ℕ × ℕ)) → IsBestChoice h steps b a (keys h) least best
     → MatchOption best ((x : List ℕ) (d : ℕ) → MayContradict h b a x d → get_or steps d 0 ≡ NONE) (λ found. IsChoice h steps b a found.0 found.1)

@@ -10,8 +10,8 @@ use Rattle.tcc_graph.specs.KeyIndices.{name_of}
 use Rattle.tcc_graph.proofs.KeysLemmas.{has_name-keys}
 use Rattle.tcc_graph.proofs.WriterLemmas.{read_is_key}
 
-pub read_place : (h : History) (a c : ℕ) (x : List ℕ) → IsReadsPair h a c x → (k : ℕ) × (k < length (keys h)) × (name_of (keys h) k ≡ x)
-read_place h a c x p =
+pub read_key : (h : History) (a c : ℕ) (x : List ℕ) → IsReadsPair h a c x → (k : ℕ) × (k < length (keys h)) × (name_of (keys h) k ≡ x)
+read_key h a c x p =
     let any = Any-from_list_any (bytes_eq x) (keys h) (has_name-keys h x ∙ read_is_key h a c x p) in
     (any.0, any.2, get_or_default (keys h) any.0 [] any.1 any.2 ∙ any.3 ∙ sym ((bytes_eq-Decides x any.1).0 any.4))
 

@@ -1,11 +1,14 @@
 -- Steps to the nearest readers, which one read after another lowers.
-use Rattle.std.proofs.Common.{ℕ, ◌<◌, ◌≤◌, ◌≡◌, ◌≢◌, ◌⊎◌, inl, inr, List, [], ◌∷◌, ◌++◌, length, get_or, set, min}
-use Rattle.std.proofs.Common.{refl, sym, ◌∙◌, arith, ⊎_elim, zero, suc}
+use Rattle.std.proofs.Common.{ℕ, ◌+◌, ◌<◌, ◌≤◌, ◌≡◌, ◌≢◌, ◌⊎◌, inl, inr, List, [], ◌∷◌, ◌++◌, length, get_or, set, take, flat_map, min}
+use Rattle.std.proofs.Common.{refl, sym, ap, ◌∙◌, arith, ⊎_elim, zero, suc}
+use Rattle.std.proofs.lemmas.Grind.{flat_map-append}
 use Rattle.std.specs.List.{Contains}
 use Rattle.std.proofs.lemmas.Bool.{cases_eq, cases_lt}
-use Rattle.std.proofs.lemmas.List.{get_or-set_same, get_or-set_other, length-set}
+use Rattle.std.proofs.lemmas.List.{append-nil, get_or_default, get_or-set_same, get_or-set_other, length-set}
 use Rattle.std.proofs.lemmas.List.Elements.{Contains-append_left, Contains-append_right, Contains-append_cases}
+use Rattle.tcc_derive.specs.private.Buckets.{bucket}
 use Rattle.tcc_derive.specs.private.Lowering.{Lowers}
+use Rattle.tcc_derive.proofs.BucketLemmas.{taken}
 use Rattle.tcc_derive.specs.declared.read.Read.{Read}
 
 pub lowers_none : (steps old : List ℕ) → Lowers [] steps old old
@@ -34,6 +37,21 @@ module _ (steps : List ℕ) where
         (λ w. inr (w.0, Contains-append_right xs ys w.0 w.1, w.2, w.3))
         (second.from a);
   }
+
+  -- the reads of one key more
+  pub lowers_next : (reads : List (List Read)) (written : List ℕ) (n : ℕ) (old mid new : List ℕ) → n < length written
+      → Lowers (flat_map (bucket reads) (take n written)) steps old mid → Lowers (bucket reads (get_or written n 0)) steps mid new
+      → Lowers (flat_map (bucket reads) (take (n + 1) written)) steps old new
+  lowers_next reads written n old mid new within first second =
+      rw more (lowers_then (flat_map (bucket reads) (take n written)) (bucket reads k) old mid new first second)
+    where
+      k : ℕ
+      k = get_or written n 0
+
+      more : flat_map (bucket reads) (take (n + 1) written) ≡ flat_map (bucket reads) (take n written) ++ bucket reads (get_or written n 0)
+      more =
+          ap (flat_map (bucket reads)) (taken written n k within (get_or_default written n 0 k within))
+          ∙ flat_map-append (bucket reads) (take n written) (k ∷ []) ∙ ap (λ rest. flat_map (bucket reads) (take n written) ++ rest) (append-nil (bucket reads k))
 
   module _ (r : Read) (old new : List ℕ) (inside : r.source < length old)
       (now : new ≡ set old r.source (min (get_or old r.source 0) (get_or steps r.reader 0))) where

@@ -281,7 +281,7 @@ module _ (j : Judged) (t : Tables) (u : ℕ) (from : u < count j.history) (price
   pub costed_at : (v : ℕ) → v < count j.history → IsCost j u v (cost_at t u v)
   costed_at v to = subst (λ (o : Option ℕ). IsCost j u v o) (sym (cost_is v to)) (costed.costed v to)
 
--- ---- the place of a number among ascending ones
+-- ---- the index of a number among ascending ones
 
 pub numbers_rise : (xs : List (ℕ × ℕ)) → AllPairs (λ (p q : ℕ × ℕ). p.0 < q.0) xs → IsNonDecreasingBy (λ (p : ℕ × ℕ). p.0) xs
 numbers_rise xs pairs = IsNonDecreasingBy-from_default (λ (p : ℕ × ℕ). p.0) xs (0, 0) (λ i j upto below. go i j below (cases_lt i j) upto)
@@ -290,7 +290,7 @@ numbers_rise xs pairs = IsNonDecreasingBy-from_default (λ (p : ℕ × ℕ). p.0
     go i j below (inl less) upto = let less' : (get_or xs i (0, 0)).0 < (get_or xs j (0, 0)).0 = pairs i j (0, 0) less below in omega arith
     go i j below (inr more) upto = let same : i ≡ j = omega (arith, more, upto) in rw same (omega arith)
 
--- what stands at some place
+-- what stands at some index
 pub among_found : (xs : List (ℕ × ℕ)) (k v c : ℕ) → AllPairs (λ (p q : ℕ × ℕ). p.0 < q.0) xs → k < length xs → get_or xs k (0, 0) ≡ (v, c)
     → cost_among xs v ≡ Some c
 among_found [] k v c pairs inside is = absurd (omega arith)
@@ -304,7 +304,7 @@ among_found (p ∷ xs) (suc k) v c pairs inside is =
     rw (ne_eqb p.0 v (λ e. absurd (omega (arith, e, less, number))))
     (among_found xs k v c (λ i m d l n. pairs (suc i) (suc m) d (omega arith) (omega arith)) (omega arith) is)
 
--- where no place has the number
+-- where no index has the number
 pub among_absent : (xs : List (ℕ × ℕ)) (v : ℕ) → ((i : ℕ) → i < length xs → (get_or xs i (0, 0)).0 ≢ v) → cost_among xs v ≡ None
 among_absent [] v none = refl
 among_absent (p ∷ xs) v none = rw (ne_eqb p.0 v (none 0 (omega arith))) (among_absent xs v (λ i l. none (suc i) (omega arith)))

@@ -19,7 +19,7 @@ use Rattle.tcc_derive.specs.private.KeyTables.{IsReadsOf, IsWritesOf}
 use Rattle.tcc_derive.specs.private.Lowering.{price_by, ArePricedBy}
 use Rattle.tcc_derive.specs.private.Rows.{IsPriceRow}
 use Rattle.tcc_derive.specs.declared.read.Read.{Read}
-use Rattle.tcc_derive.proofs.KeyLemmas.{read_place}
+use Rattle.tcc_derive.proofs.KeyLemmas.{read_key}
 use Rattle.tcc_near.specs.declared.distances.TheConstants.{NONE}
 use Rattle.tcc_txn.specs.declared.limits.TheConstants.{MAX_COUNT}
 use Rattle.tcc_graph.specs.Tables.{row_of}
@@ -72,10 +72,10 @@ module _ (j : Judged) (near : NearTable) (reads : List (List Read)) (written : L
   reason_read : (a : ℕ) (x : List ℕ) (c : ℕ) → MayContradict j.history b a x c
       → Contains (flat_map (bucket reads) (bucket written b)) (record { source = a; reader = c })
   reason_read a x c (other, pair, writer) =
-      let place = read_place j.history a c x pair in
-      in_flat_map (bucket reads) (bucket written b) place.0 (record { source = a; reader = c })
-      (wrote.each b place.0 from place.1 (rw place.2 writer))
-      ((read.each place.0 place.1 (record { source = a; reader = c })).1 (rw place.2 pair))
+      let key = read_key j.history a c x pair in
+      in_flat_map (bucket reads) (bucket written b) key.0 (record { source = a; reader = c })
+      (wrote.each b key.0 from key.1 (rw key.2 writer))
+      ((read.each key.0 key.1 (record { source = a; reader = c })).1 (rw key.2 pair))
 
   -- and each of those may be contradicted
   read_reason : (r : Read) → Contains (flat_map (bucket reads) (bucket written b)) r → r.source ≢ b

@@ -95,7 +95,7 @@ module _ (h : History) where
   pub have_reads : (n : ℕ) (reads : List (List Read)) (written : List (List ℕ)) (b : ℕ) → n ≡ count h → IsReadsOf h reads → IsWritesOf h written
       → b < count h → HaveReads n reads (bucket written b)
   have_reads n reads written b long read wrote from = record {
-    places = λ k d l. rw read.long (wrote.wrote b (get_or (bucket written b) k d) from (Contains-get_or (bucket written b) k d l)).0;
+    inside = λ k d l. rw read.long (wrote.wrote b (get_or (bucket written b) k d) from (Contains-get_or (bucket written b) k d l)).0;
     sources = λ k d l j e m. rw long (pair_in reads read k d l j e m).0;
     readers = λ k d l j e m. rw long (pair_in reads read k d l j e m).1;
   }

@@ -1,8 +1,10 @@
 //! The prices of a graph at a level.
-ghost use Rattle.std.specs.Prelude.{IfOk};
+ghost use Rattle.std.specs.Prelude.{◌≤◌, length, IfOk};
 ghost use Rattle.tcc_near.specs.Distances.{IsNearOf};
 ghost use Rattle.tcc_derive.specs.Limits.{IsLimit};
 ghost use Rattle.tcc_derive.specs.Prices.{IsPricesOf};
+ghost use Rattle.tcc_derive.specs.private.Rows.{IsPriceRow, HasRows};
+ghost use Rattle.tcc_txn.specs.declared.limits.TheConstants.{MAX_COUNT};
 ghost use Rattle.tcc_graph.specs.Levels.{judged};
 
 use crate::Prices;
@@ -15,9 +17,27 @@ use crate::sources::source_table;
 use crate::write_table::write_table;
 use std::alloc::Global;
 use std::thread::Threads;
+use tcc_bits::Row;
 use tcc_graph::Graph;
 use tcc_near::Near;
 use tcc_txn::NoMemory;
+
+/// What derived links cost, a row for each transaction that they lead from, by who reads and who writes each key.
+fn all_prices(
+    rt: &(impl Threads + Sync),
+    alloc: Global,
+    graph: &Graph,
+    near: &Near,
+) -> Result<Vec<Row<u16>>, NoMemory>
+    requires { IsNearOf (judged graph.now near.now.level) near.now }
+    ensures rows { IfOk result (λ rows. HasRows graph.now (IsPriceRow (judged graph.now near.now.level)) rows.items) }
+    ensures few { IfOk result (λ rows. length rows.items ≤ MAX_COUNT) }
+{
+    let written = write_table(alloc, graph)?;
+    let reads = read_table(alloc, graph)?;
+    let sources = source_table(alloc, &reads, graph.count() as usize)?;
+    price_rows(rt, alloc, graph, &reads, &sources, &written, near)
+}
 
 /// The prices of a graph, by its lengths and at their level.
 /// Between each two transactions they are the least cost of a derived link, over all its reasons, and that of a link of
@@ -32,10 +52,7 @@ pub fn derive(
     ensures prices { IfOk result (IsPricesOf (judged graph.now near.now.level)) }
     ensures limit { IfOk result (λ prices. IsLimit near.now.rows prices.prices prices.limit) }
 {
-    let written = write_table(alloc, graph)?;
-    let reads = read_table(alloc, graph)?;
-    let sources = source_table(alloc, &reads, graph.count() as usize)?;
-    let prices = price_rows(rt, alloc, graph, &reads, &sources, &written, near)?;
+    let prices = all_prices(rt, alloc, graph, near)?;
     let others = other_rows(rt, alloc, graph, near, &prices)?;
     let ends = session_ends(alloc, graph)?;
     let limit = cost_limit(near, &prices, &others);

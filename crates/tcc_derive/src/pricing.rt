@@ -6,7 +6,7 @@ ghost use Rattle.tcc_derive.specs.private.Buckets.{bucket};
 ghost use Rattle.tcc_derive.specs.private.KeyTables.{IsReadsOf, IsWritesOf};
 ghost use Rattle.tcc_derive.specs.private.Lowering.{one_more, HaveReads, Lowers, ArePricedBy};
 ghost use Rattle.tcc_derive.specs.private.Rows.{IsPriceRow, HasRows};
-ghost use Rattle.tcc_derive.specs.private.Sources.{AreSources, HaveSources};
+ghost use Rattle.tcc_derive.specs.private.Sources.{HaveSources};
 ghost use Rattle.tcc_graph.specs.Levels.{judged};
 ghost use Rattle.tcc_near.specs.declared.distances.TheConstants.{NONE};
 ghost use Rattle.tcc_txn.specs.declared.limits.TheConstants.{MAX_COUNT};
@@ -54,23 +54,27 @@ fn add_step(costs: &mut [u16])
 fn lower_by_key(
     alloc: Global,
     nearest: &mut [u16],
-    reads: &[Read],
-    rows: &[Row<u64>],
+    reads: &[Row<Read>],
+    sources: &[Sources],
+    key_index: usize,
     steps: &[u16],
     levels: u16,
 ) -> Result<(), NoMemory>
-    requires rows { (length rows.now ≡ 0) ⊎ AreSources (length steps.now) reads.now rows.now }
-    requires sources { All (λ r. r.source < length nearest.old) reads.now }
-    requires readers { All (λ r. r.reader < length steps.now) reads.now }
+    requires key { key_index < length reads.now }
+    requires rows { HaveSources (length steps.now) reads.now sources.now }
+    requires sources { All (λ r. r.source < length nearest.old) (bucket reads.now key_index) }
+    requires readers { All (λ r. r.reader < length steps.now) (bucket reads.now key_index) }
     requires few { length steps.now ≤ MAX_COUNT }
     requires levels { All (λ s. (s < levels) ⊎ (s ≡ NONE)) steps.now }
-    ensures { OnOk result (Lowers reads.now steps.now nearest.old nearest.new) }
+    ensures { OnOk result (Lowers (bucket reads.now key_index) steps.now nearest.old nearest.new) }
 {
+    let key_reads = reads[key_index].as_slice();
+    let rows = sources[key_index].as_slice();
     if rows.is_empty() || levels > FEW_LEVELS {
-        lower(nearest, reads, steps);
+        lower(nearest, key_reads, steps);
         return Ok(());
     }
-    lower_by_levels(alloc, nearest, reads, rows, steps, levels)
+    lower_by_levels(alloc, nearest, key_reads, rows, steps, levels)
 }
 
 /// What derived links from `b` cost, by the keys that it writes and the lengths from it: a step more than the way to the
@@ -91,11 +95,8 @@ fn price_row(
 {
     let levels = levels_of(steps);
     let mut costs = vec![in alloc; NONE; steps.len()]?;
-    for place in written {
-        let key = *place;
-        let rows = sources[key].as_slice();
-        let of_key = reads[key].as_slice();
-        lower_by_key(alloc, &mut costs, of_key, rows, steps, levels)?;
+    for key_index in written {
+        lower_by_key(alloc, &mut costs, reads, sources, *key_index, steps, levels)?;
     }
     add_step(&mut costs);
     costs[b] = NONE;

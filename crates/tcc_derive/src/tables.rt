@@ -175,8 +175,8 @@ fn cost_among(others: &[(u32, u32)], v: u32) -> Option<u32>
     requires { AllPairs (λ p q. p.0 < q.0) others.now }
     ensures { result ≡ cost_among others.now v }
 {
-    let place = others.partition_point(|other| other.0 < v);
-    match others.get(place) {
+    let index = others.partition_point(|other| other.0 < v);
+    match others.get(index) {
         Some(&(number, cost)) if number == v => Some(cost),
         _ => None,
     }

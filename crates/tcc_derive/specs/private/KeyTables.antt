@@ -16,12 +16,12 @@ pub record IsReadsOf (h : History) (reads : List (List Read)) : Type 0 where
   pub long : length reads ≡ length (keys h)
   pub each : (k : ℕ) → k < length (keys h) → AreReadsAt h k (bucket reads k)
 
--- the bucket of each transaction has the places, below n, of the keys that it writes
+-- the bucket of each transaction has the indices, below n, of the keys that it writes
 pub record HasWrites (h : History) (n : ℕ) (written : List (List ℕ)) : Type 0 where
   pub long : length written ≡ count h
   pub wrote : (b : ℕ) (k : ℕ) → b < count h → Contains (bucket written b) k → (k < length (keys h)) × IsWriter h b (name_of (keys h) k)
   pub each : (b : ℕ) (k : ℕ) → b < count h → k < n → IsWriter h b (name_of (keys h) k) → Contains (bucket written b) k
 
--- the bucket of each transaction has exactly the places of the keys that it writes
+-- the bucket of each transaction has exactly the indices of the keys that it writes
 abbrev pub IsWritesOf : History → List (List ℕ) → Type 0
 IsWritesOf h written = HasWrites h (length (keys h)) written

@@ -30,7 +30,7 @@ pub record ArePricedBy (reads : List Read) (steps : List ℕ) (b : ℕ) (costs :
 
 -- the keys have buckets of reads, whose sources and readers are below n
 pub record HaveReads (n : ℕ) (reads : List (List Read)) (keys : List ℕ) : Type 0 where
-  pub places : All (λ k. k < length reads) keys
+  pub inside : All (λ k. k < length reads) keys
   pub sources : All (λ bucket. All (λ r. r.source < n) bucket) reads
   pub readers : All (λ bucket. All (λ r. r.reader < n) bucket) reads
 

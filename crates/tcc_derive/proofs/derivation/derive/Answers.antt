@@ -3,7 +3,6 @@ use Rattle.tcc_reads.specs.History.{count}
 use Rattle.tcc_graph.specs.Levels.{Judged, judged}
 use Rattle.tcc_txn.specs.declared.limits.TheConstants.{MAX_COUNT}
 use Rattle.tcc_derive.proofs.PricesLemmas.{prices_of, shaped, others_within, have_by_class}
-use Rattle.tcc_derive.proofs.TableLemmas.{all_sources, all_readers}
 use Rattle.tcc_derive.proofs.derivation.derive.Goals as goal
 
 pub returns-clause-prices : goal.returns-clause-prices
@@ -12,7 +11,7 @@ returns-clause-prices g c =
     rw (c.new.ensures, c.level.ensures)
     (prices_of j c.args.near.now c.in_ok-prices.prices.items c.in_ok-ends.ends.items c.in_ok-others.others.items c.cost_limit-limit.result c.requires
     c.in_ok-prices.ensures.rows
-    c.in_ok-ends.ensures (rw c.deref-5.ensures.value at c.in_ok-others.ensures))
+    c.in_ok-ends.ensures (rw c.deref.ensures.value at c.in_ok-others.ensures))
 
 pub new-requires-clause-shape : goal.new-requires-clause-shape
 new-requires-clause-shape g c =
@@ -21,23 +20,23 @@ new-requires-clause-shape g c =
     let few : count c.args.graph.now ≤ MAX_COUNT = omega (arith, c.in_ok-prices.ensures.few, rows.long) in
     rw c.level.ensures
     (shaped j c.args.near.now c.in_ok-prices.prices.items c.in_ok-ends.ends.items c.in_ok-others.others.items c.cost_limit-limit.result c.requires rows
-    c.in_ok-ends.ensures (rw c.deref-5.ensures.value at c.in_ok-others.ensures) few)
+    c.in_ok-ends.ensures (rw c.deref.ensures.value at c.in_ok-others.ensures) few)
 
 pub cost_limit-limit-requires-clause-within : goal.cost_limit-limit-requires-clause-within
 cost_limit-limit-requires-clause-within g c =
     let j : Judged = judged c.args.graph.now c.args.near.now.level in
-    rw c.deref-7.ensures.value
+    rw c.deref-3.ensures.value
     (others_within j c.args.near.now c.in_ok-prices.prices.items c.in_ok-ends.ends.items c.in_ok-others.others.items 0 c.requires c.in_ok-prices.ensures.rows
-    c.in_ok-ends.ensures (rw c.deref-5.ensures.value at c.in_ok-others.ensures) (length c.args.near.now.rows) (omega (arith, c.requires.square.long)))
+    c.in_ok-ends.ensures (rw c.deref.ensures.value at c.in_ok-others.ensures) (length c.args.near.now.rows) (omega (arith, c.requires.square.long)))
 
 pub by_class_rows-requires-clause-within : goal.by_class_rows-requires-clause-within
 by_class_rows-requires-clause-within g c κs inside =
     let j : Judged = judged c.args.graph.now c.args.near.now.level in
     let rows = c.in_ok-prices.ensures.rows in
-    rw c.deref-8.ensures.value
+    rw c.deref-4.ensures.value
     (others_within j c.args.near.now c.in_ok-prices.prices.items c.in_ok-ends.ends.items c.in_ok-others.others.items c.cost_limit-limit.result c.requires rows
-    c.in_ok-ends.ensures (rw c.deref-5.ensures.value at c.in_ok-others.ensures) (length c.in_ok-others.others.items)
-    (omega (arith, (rw c.deref-5.ensures.value at c.in_ok-others.ensures).long)))
+    c.in_ok-ends.ensures (rw c.deref.ensures.value at c.in_ok-others.ensures) (length c.in_ok-others.others.items)
+    (omega (arith, (rw c.deref.ensures.value at c.in_ok-others.ensures).long)))
 
 pub new-requires-clause-by_class : goal.new-requires-clause-by_class
 new-requires-clause-by_class g c =
@@ -45,13 +44,8 @@ new-requires-clause-by_class g c =
     rw c.level.ensures
     (have_by_class j c.args.near.now c.in_ok-prices.prices.items c.in_ok-ends.ends.items c.in_ok-others.others.items c.cost_limit-limit.result c.requires
     c.in_ok-prices.ensures.rows
-    c.in_ok-ends.ensures (rw c.deref-5.ensures.value at c.in_ok-others.ensures)
-    c.in_ok-by_class.by_class.items (rw (c.deref-8.ensures.value, c.deref-9.ensures.value) at c.in_ok-by_class.ensures))
+    c.in_ok-ends.ensures (rw c.deref.ensures.value at c.in_ok-others.ensures)
+    c.in_ok-by_class.by_class.items (rw (c.deref-4.ensures.value, c.deref-5.ensures.value) at c.in_ok-by_class.ensures))
 
-pub source_table-requires-clause-sources : goal.source_table-requires-clause-sources
-source_table-requires-clause-sources g c =
-    rw c.deref.ensures.value (all_sources c.args.graph.now c.count.result c.in_ok-reads.reads.items c.count.ensures.value c.in_ok-reads.ensures)
-
-pub source_table-requires-clause-readers : goal.source_table-requires-clause-readers
-source_table-requires-clause-readers g c =
-    rw c.deref.ensures.value (all_readers c.args.graph.now c.count.result c.in_ok-reads.reads.items c.count.ensures.value c.in_ok-reads.ensures)
+pub returns-clause-limit : goal.returns-clause-limit
+returns-clause-limit g c = rw c.new.ensures (rw c.deref-2.ensures.value at c.cost_limit-limit.ensures)

@@ -46,12 +46,12 @@ returns g c =
     let small : count h ≤ MAX_COUNT = omega (arith, c.count.ensures.value, c.count.ensures.few) in
     let got = c.in_ok-collect.ensures in
     let chain = rw (c.with_min_len.ensures.base, c.map.ensures.base, c.map.ensures.f) at got.1 in
-    let places = chain.1 ∙ numbers_below _ _ n c.into_par_iter.ensures.0 c.into_par_iter.ensures.1 in
+    let numbers = chain.1 ∙ numbers_below _ _ n c.into_par_iter.ensures.0 c.into_par_iter.ensures.1 in
     let IsPriced : ℕ → List ℕ → Type 0 =
     λ b row. ArePricedBy (flat_map (bucket reads) (bucket written b)) (row_of near.rows b) b row in
     record {
       rows = matched c.in_ok-collect.field-0 _ _ _ got.2 (λ rows made.
-          let each = each_given NoMemory IsPriced n chain.0 got.0 rows.items places chain.2 made in
+          let each = each_given NoMemory IsPriced n chain.0 got.0 rows.items numbers chain.2 made in
           record {
             long = each.0 ∙ c.count.ensures.value;
             each = λ b from.
@@ -59,5 +59,5 @@ returns g c =
                 (each.1 b [] (omega (arith, c.count.ensures.value)));
           });
       few = matched c.in_ok-collect.field-0 _ _ _ got.2 (λ rows made.
-          omega (arith, (each_given NoMemory IsPriced n chain.0 got.0 rows.items places chain.2 made).0, c.count.ensures.few));
+          omega (arith, (each_given NoMemory IsPriced n chain.0 got.0 rows.items numbers chain.2 made).0, c.count.ensures.few));
     }
