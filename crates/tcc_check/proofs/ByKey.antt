@@ -9,14 +9,14 @@ use Rattle.tcc_reads.specs.History.{History, count, entry_at}
 use Rattle.tcc_graph.specs.Keys.{has_name, key_at}
 use Rattle.tcc_graph.specs.Relations.{IsReadsPair}
 use Rattle.tcc_graph.proofs.NameLemmas.{has_name-contains, contains-has_name}
-use Rattle.tcc_check.specs.private.Groups.{AreGroupsOf, links_by, total}
+use Rattle.tcc_check.specs.private.Groups.{AreGroupsOf, links_by}
 use Rattle.tcc_check.specs.private.Readings.{AreReadingsAt, AreReadingsTo, KeyWeighs, PairWeighs, PlaceWeighs, ReadingWeighs, readings_at}
 use Rattle.tcc_check.specs.private.Weights.{IsLowered, unlinked}
 use Rattle.tcc_check.specs.private.WeightsFrom.{ContradictsBy, SourceWeighs}
 use Rattle.tcc_check.proofs.LinksFrom.{seconds-by, zip-at, zip-from}
 use Rattle.tcc_check.proofs.LinksFrom.{one-lowered}
 use Rattle.tcc_check.proofs.Lowering.{lowered_none, lowered_as, lowered_then, lowered_one}
-use Rattle.tcc_check.proofs.Overshot.{at_run, group_begins, group_weight, run_long}
+use Rattle.tcc_check.proofs.Grouped.{at_run, begin, group, group_begins, group_weight, in_run, run_long}
 use Rattle.tcc_txn.proofs.Lists.{from_map, in_map}
 
 -- ---- the readings of a key
@@ -229,94 +229,84 @@ module _ (readings : List (ℕ × ℕ)) (row : List ℕ) (u : ℕ) (old new : Li
 
 -- one group more
 module _ (groups : List (ℕ × ℕ)) (members : List ℕ) (are : AreGroupsOf groups members) (row : List ℕ) (u i : ℕ) (run : List ℕ)
-    (inside : i < length groups) (is : run ≡ take (get_or groups i (0, 0)).1 (drop (total (take i groups)) members)) (old now : List ℕ)
-    (before : IsLowered (SeenReading (total (take i groups)) (links_by groups members) row u) old now) where
-  abbrev first : ℕ
-  first = total (take i groups)
-
-  abbrev group : ℕ × ℕ
-  group = get_or groups i (0, 0)
-
+    (inside : i < length groups) (is : run ≡ take (group groups i).1 (drop (begin groups i) members)) (old now : List ℕ)
+    (before : IsLowered (SeenReading (begin groups i) (links_by groups members) row u) old now) where
   abbrev links : List (ℕ × ℕ)
   links = links_by groups members
 
-  here : (k : ℕ) → k < group.1 → get_or links (first + k) (0, 0) ≡ (get_or run k 0, group.0)
-  here k l = at_run groups members are [] 0 0 i run inside is k l
+  -- what the readings before this group lower, those of it, and both
+  abbrev Earlier : ℕ → ℕ → Type 0
+  Earlier = SeenReading (begin groups i) links row u
 
-  long : length run ≡ group.1
-  long = run_long groups members are [] 0 0 i run inside is
+  abbrev Here : ℕ → ℕ → Type 0
+  Here = SourceWeighs (group groups i).0 run row
 
-  in-group : (v w : ℕ) → (v ≢ u) × (k : ℕ) × (first ≤ k) × (k < first + group.1) × ((get_or links k (0, 0)).1 ≡ v) × (w ≡ get_or row (get_or links k (0, 0)).0 0)
-      → (v ≢ u) × SourceWeighs group.0 run row v w
-  in-group v w (apart, k, from, l, source, has) =
-      let same : first + (k - first) ≡ k = omega (arith, from) in
-      let short : k - first < group.1 = omega (arith, l, from) in
-      let at : get_or links k (0, 0) ≡ (get_or run (k - first) 0, group.0) =
-      ap (λ (z : ℕ). get_or links z (0, 0)) (sym same) ∙ here (k - first) short in (
-        apart,
-        (
-          sym source ∙ ap (λ (z : ℕ × ℕ). z.1) at,
-          get_or run (k - first) 0,
-          (
-            k - first,
-            omega (arith, short, long),
-            get_or_default run (k - first) _ 0 (omega (arith, short, long)),
-          ),
-          has ∙ ap (λ (z : ℕ × ℕ). get_or row z.0 0) at,
-        ),
-      )
+  abbrev Later : ℕ → ℕ → Type 0
+  Later = SeenReading (begin groups i + (group groups i).1) links row u
 
-  split : (v w : ℕ) → SeenReading (first + group.1) links row u v w → SeenReading first links row u v w ⊎ ((v ≢ u) × SourceWeighs group.0 run row v w)
-  split v w (apart, k, l, source, has) = go (cases_lt k first)
+  long : length run ≡ (group groups i).1
+  long = run_long groups members are i run inside is
+
+  split : (v w : ℕ) → Later v w → Earlier v w ⊎ ((v ≢ u) × Here v w)
+  split v w (apart, k, l, source, has) = go (cases_lt k (begin groups i))
     where
-      go : (k < first) ⊎ (first ≤ k) → SeenReading first links row u v w ⊎ ((v ≢ u) × SourceWeighs group.0 run row v w)
+      go : (k < begin groups i) ⊎ (begin groups i ≤ k) → Earlier v w ⊎ ((v ≢ u) × Here v w)
       go (inl less) = inl (apart, k, less, source, has)
-      go (inr from) = inr (in-group v w (apart, k, from, l, source, has))
+      go (inr from) =
+          let at = in_run groups members are i run inside is k from l in
+          let short : k - begin groups i < length run = omega (arith, l, from, long) in
+          inr (
+            apart,
+            (
+              sym source ∙ ap (λ (z : ℕ × ℕ). z.1) at,
+              get_or run (k - begin groups i) 0,
+              (k - begin groups i, short, get_or_default run (k - begin groups i) _ 0 short),
+              has ∙ ap (λ (z : ℕ × ℕ). get_or row z.0 0) at,
+            ),
+          )
 
-  older : (v w : ℕ) → SeenReading first links row u v w → SeenReading (first + group.1) links row u v w
+  older : (v w : ℕ) → Earlier v w → Later v w
   older v w (apart, k, l, source, has) = (apart, k, omega (arith, l), source, has)
 
-  pub group-passed : group.0 ≡ u → IsLowered (SeenReading (first + group.1) links row u) old now
+  pub group-passed : (group groups i).0 ≡ u → IsLowered Later old now
   group-passed same = lowered_as _ _ old now older (λ v w s. back v w (split v w s)) before
     where
-      back : (v w : ℕ) → SeenReading first links row u v w ⊎ ((v ≢ u) × SourceWeighs group.0 run row v w) → SeenReading first links row u v w
+      back : (v w : ℕ) → Earlier v w ⊎ ((v ≢ u) × Here v w) → Earlier v w
       back v w (inl s) = s
       back v w (inr (apart, more)) = absurd (apart (more.0 ∙ same))
 
-  pub group-lowered : (newer : List ℕ) → group.0 ≢ u → IsLowered (SourceWeighs group.0 run row) now newer
-      → IsLowered (SeenReading (first + group.1) links row u) old newer
+  pub group-lowered : (newer : List ℕ) → (group groups i).0 ≢ u → IsLowered Here now newer → IsLowered Later old newer
   group-lowered newer other more = lowered_as _ _ old newer to (λ v w s. back v w (split v w s)) (lowered_then _ _ old now newer before more)
     where
-      to : (v w : ℕ) → SeenReading first links row u v w ⊎ SourceWeighs group.0 run row v w → SeenReading (first + group.1) links row u v w
+      to : (v w : ℕ) → Earlier v w ⊎ Here v w → Later v w
       to v w (inl s) = older v w s
       to v w (inr (source, c, (k, l, e), has)) =
-          let short : k < group.1 = omega (arith, l, long) in
-          let at = here k short in
+          let short : k < (group groups i).1 = omega (arith, l, long) in
+          let at = at_run groups members are i run inside is k short in
           let reader : get_or run k 0 ≡ c = get_or_default run k 0 c l ∙ e in (
             (λ same. other (sym source ∙ same)),
-            first + k,
+            begin groups i + k,
             omega (arith, short),
             ap (λ (z : ℕ × ℕ). z.1) at ∙ sym source,
             has ∙ ap (λ z. get_or row z 0) (sym reader) ∙ ap (λ (z : ℕ × ℕ). get_or row z.0 0) (sym at),
           )
 
-      back : (v w : ℕ) → SeenReading first links row u v w ⊎ ((v ≢ u) × SourceWeighs group.0 run row v w)
-          → SeenReading first links row u v w ⊎ SourceWeighs group.0 run row v w
+      back : (v w : ℕ) → Earlier v w ⊎ ((v ≢ u) × Here v w) → Earlier v w ⊎ Here v w
       back v w (inl s) = inl s
       back v w (inr (apart, more)) = inr more
 
 -- each group is of some reader, and of a source
 module _ (groups : List (ℕ × ℕ)) (members : List ℕ) (are : AreGroupsOf groups members) (i : ℕ) (run : List ℕ) (inside : i < length groups)
-    (is : run ≡ take (get_or groups i (0, 0)).1 (drop (total (take i groups)) members)) where
+    (is : run ≡ take (group groups i).1 (drop (begin groups i) members)) where
   pub group-some : 0 < length run
-  group-some = omega (arith, run_long groups members are [] 0 0 i run inside is, are.some i (0, 0) inside)
+  group-some = omega (arith, run_long groups members are i run inside is, are.some i (0, 0) inside)
 
 pub group-source : (groups : List (ℕ × ℕ)) (members : List ℕ) → AreGroupsOf groups members → (i n : ℕ) → i < length groups
-    → All (λ (reading : ℕ × ℕ). reading.1 < n) (links_by groups members) → (get_or groups i (0, 0)).0 < n
+    → All (λ (reading : ℕ × ℕ). reading.1 < n) (links_by groups members) → (group groups i).0 < n
 group-source groups members are i n inside below =
     omega (
       arith,
-      below (total (take i groups)) (0, 0) (group_begins groups members are i inside),
+      below (begin groups i) (0, 0) (group_begins groups members are i inside),
       group_weight groups members are i inside,
     )
 

@@ -10,12 +10,12 @@ use Rattle.tcc_graph.specs.Levels.{Judged, judged}
 use Rattle.tcc_graph.specs.Links.{cost, link_cost, link_from, link_to}
 use Rattle.tcc_graph.specs.declared.link.Link.{Link}
 use Rattle.tcc_graph.proofs.Linking.{cost_append, one_cost}
-use Rattle.tcc_cert.specs.CycleRules.{IsLinkRight, IsLinkWrong, ends_at}
+use Rattle.tcc_cert.specs.CycleRules.{IsLinkRight, IsLinkWrong, IsWrongFrom, ends_at}
 use Rattle.tcc_cert.specs.Rules.{IsRightCycle}
 use Rattle.tcc_cert.specs.declared.certificate.CycleClaim.{CycleClaim}
 use Rattle.tcc_cert.proofs.Ends.{ends_at-push, ends_at_some}
 use Rattle.tcc_check.specs.declared.links.LinksSeen.{LinksSeen}
-use Rattle.tcc_check.specs.private.Links.{AreSeenTo, IsFirstWrongFrom, IsWrongFrom, begins_at, ends_or, first_wrong, left_behind}
+use Rattle.tcc_check.specs.private.Links.{AreSeenTo, IsFirstWrongFrom, begins_at, ends_or, first_wrong, left_behind}
 use Rattle.tcc_check.specs.Verdicts.{IsCycleFault}
 
 -- ---- the next link
@@ -126,24 +126,10 @@ module _ (h : History) (k : CycleClaim) where
   j = judged h k.level
 
   as_wrong : begins_at k.links ≡ ends_at 0 k.links → (n : ℕ) → IsWrongFrom j (begins_at k.links) k.links n → IsLinkWrong j k.links n
-  as_wrong closed n w = record {
-    before = w.before;
-    link = w.link;
-    after = w.after;
-    split = w.split;
-    place = w.place;
-    wrong = subst (λ (at : ℕ). IsLinkRight j (ends_at at w.before) w.link → ⊥) closed w.wrong;
-  }
+  as_wrong closed n w = subst (λ (from : ℕ). IsWrongFrom j from k.links n) closed w
 
   wrong_as : begins_at k.links ≡ ends_at 0 k.links → (n : ℕ) → IsLinkWrong j k.links n → IsWrongFrom j (begins_at k.links) k.links n
-  wrong_as closed n w = record {
-    before = w.before;
-    link = w.link;
-    after = w.after;
-    split = w.split;
-    place = w.place;
-    wrong = subst (λ (at : ℕ). IsLinkRight j (ends_at at w.before) w.link → ⊥) (sym closed) w.wrong;
-  }
+  wrong_as closed n w = subst (λ (from : ℕ). IsWrongFrom j from k.links n) (sym closed) w
 
   none_wrong : ((n : ℕ) → n ≤ length k.links → IsWrongFrom j (begins_at k.links) k.links n → ⊥) → begins_at k.links ≡ ends_at 0 k.links
       → (n : ℕ) → IsLinkWrong j k.links n → ⊥

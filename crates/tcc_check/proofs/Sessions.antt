@@ -297,6 +297,11 @@ first_more P xs i x inside is before here k d below = go (cases_eq k i)
     go (inl same) = subst (λ m. P (get_or xs m d)) (sym same) (subst P (is ∙ get_or_default xs i x d inside) here)
     go (inr apart) = before k d (omega arith)
 
+-- the same of the next by its number
+pub next_more : {X : Type 0} (P : X → Type 0) (xs : List X) (i : ℕ) (e : X) → i < length xs
+    → ((k : ℕ) (d : X) → k < i → P (get_or xs k d)) → P (get_or xs i e) → (k : ℕ) (d : X) → k < i + 1 → P (get_or xs k d)
+next_more P xs i e inside = first_more P xs i (get_or xs i e) inside (get_or_default xs i e (get_or xs i e) inside)
+
 -- so for all of them
 pub by_reads : (h : History) (c : ℕ) (P : List ℕ → ℕ → Type 0) (reads : List (List ℕ × ℕ)) → reads ≡ (entry_at h c).reads
     → ((k : ℕ) (d : List ℕ × ℕ) → k < length reads → P (get_or reads k d).0 (get_or reads k d).1) → (x : List ℕ) (a : ℕ) → IsReadsPair h a c x → P x a

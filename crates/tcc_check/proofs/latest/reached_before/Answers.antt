@@ -1,9 +1,8 @@
 use Rattle.std.proofs.Common.{ℕ, ◌≡◌, ◌<◌, ◌≢◌, get_or, sym, subst, arith, ◌∙◌}
 use Rattle.std.proofs.lemmas.Bool.{iff_false}
-use Rattle.std.proofs.lemmas.List.{get_or_default}
 use Rattle.tcc_graph.specs.declared.level.Level.TheVariants.{Causal}
 use Rattle.tcc_cert.specs.OrderRules.{MayReach}
-use Rattle.tcc_check.proofs.Sessions.{first_more}
+use Rattle.tcc_check.proofs.Sessions.{next_more}
 use Rattle.tcc_check.proofs.latest.reached_before.Goals as goal
 use Rattle.tcc_check.proofs.latest.reached_before.Goals.{else-writer-source-via-then-writer-source+then-places-source+else-may_reach}
 use Rattle.tcc_check.proofs.latest.reached_before.Goals.{else-writer-source-via-then-writer-source+else-places-source}
@@ -15,10 +14,9 @@ loop-writer-init c = λ k d l. absurd (omega arith)
 pub loop-writer-preserved : goal.loop-writer-preserved
 loop-writer-preserved c =
     let h = c.args.graph.now in
-    let b : ℕ = get_or c.args.writers.now c.loop-writer.writer-index 0 in
-    first_more (λ (b : ℕ). b ≢ c.args.source → MayReach h Causal c.args.clocks.now b c.args.c
-    → get_or c.args.places.now b 0 < get_or c.args.places.now c.args.source 0) c.args.writers.now c.loop-writer.writer-index b c.loop-writer-test.true
-    (get_or_default c.args.writers.now c.loop-writer.writer-index 0 b c.loop-writer-test.true) c.loop-writer.invariant
+    next_more (λ (b : ℕ). b ≢ c.args.source → MayReach h Causal c.args.clocks.now b c.args.c
+    → get_or c.args.places.now b 0 < get_or c.args.places.now c.args.source 0) c.args.writers.now c.loop-writer.writer-index 0 c.loop-writer-test.true
+    c.loop-writer.invariant
     (elim c.else-writer-source.branch [
       | else-writer-source-via-then-writer-source+then-places-source+else-may_reach w ↦
           (λ other p. absurd (iff_false w.may_reach.ensures w.if-may_reach.false p))
