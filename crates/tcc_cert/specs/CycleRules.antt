@@ -47,7 +47,7 @@ pub record IsWrongFrom (j : Judged) (from : ℕ) (links : List Link) (i : ℕ) :
   pub link : Link
   pub after : List Link
   pub split : links ≡ before ++ link ∷ after
-  pub place : i ≡ length before + 1
+  pub at : i ≡ length before + 1
   pub wrong : IsLinkRight j (ends_at from before) link → ⊥
 
 -- the same, where it has to begin where the last ends

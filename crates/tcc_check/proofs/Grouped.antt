@@ -221,7 +221,7 @@ module _ (groups : List (ℕ × ℕ)) (ends : List ℕ) (are : AreGroupsOf group
         let link = all (begin groups i + k) (0, 0) (omega (arith, l, run_long, group_inside i inside, length-links groups ends are.all)) in
         omega (arith, are_run k d l, ap (λ (z : ℕ × ℕ). z.0) at, link)
 
-    -- its links, by their place in it and by that among all
+    -- its links, by their index in it and by that among all
     pub at_run : (k : ℕ) → k < (group groups i).1 → get_or (links_by groups ends) (begin groups i + k) (0, 0) ≡ (get_or run k 0, (group groups i).0)
     at_run k l =
         in-group groups ends i k are.all inside l ∙ ap (λ (z : ℕ). (z, (group groups i).0)) (sym (are_run k 0 (omega (arith, l, run_long))))

@@ -46,7 +46,7 @@ module _ (ends : List (ℕ × ℕ)) (row : List ℕ) (low before : ℕ) where
       (λ v p. subst (λ (z : ℕ). SeenOver z ends row low before v) (sym all) (from_over v p)) found
 
   -- behind a link that takes as much as anything the row has, none takes less
-  pub rest_over : (i most : ℕ) (found : Option ℕ) → i < length ends → AreByWeight ends → All (λ number. number ≤ most) row
+  pub rest_over : (i most : ℕ) (found : Option ℕ) → i < length ends → AreByWeight ends → All (λ value. value ≤ most) row
       → most ≤ before + 1 + (get_or ends i (0, 0)).1 → IsFoundBelow n (SeenOver i ends row low before) found
       → IsFoundBelow n (IsOvershot ends row low before) found
   rest_over i most found inside sorted capped enough =

@@ -25,12 +25,12 @@ session_stands-requires-clause-writers c =
 pub loop-key-preserved : goal.loop-key-preserved
 loop-key-preserved c =
     let h = c.args.graph.now in
-    let stands : ℕ × ℕ → Type 0 = λ r. DoesSessionStand h c.args.places.now (writers h (key_at h r.0)) r.1 c.args.c in
+    let stands : ℕ × ℕ → Type 0 = λ r. DoesSessionStand h c.args.positions.now (writers h (key_at h r.0)) r.1 c.args.c in
     let here : stands (get_or c.reads_at-key-items.result.now c.loop-key.key-index (0, 0)) =
     rw (← c.writers_at.ensures) (c.session_stands.ensures c.if-not-session_stands.false) in
     next_more stands c.reads_at-key-items.result.now c.loop-key.key-index (0, 0) c.loop-key-test.true c.loop-key.invariant here
 
 pub returns : goal.returns
 returns c = λ t.
-    sessions_stand_by c.args.graph.now c.args.c c.reads_at-key-items.result.now c.args.places.now c.reads_at-key-items.ensures.value
+    sessions_stand_by c.args.graph.now c.args.c c.reads_at-key-items.result.now c.args.positions.now c.reads_at-key-items.ensures.value
     (λ j d l. c.loop-key.invariant j d (omega (arith, l, c.loop-key-test.false)))
