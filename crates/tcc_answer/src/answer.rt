@@ -14,8 +14,8 @@ use std::alloc::Global;
 use std::io::Write;
 use std::marker::Model;
 use tcc_cert::{
-    CertWriteFault, Certificate, CycleWriter, Links, Numbers, OrderClaim, Table, Version, write,
-    write_first_lines,
+    CertWriteFault, Certificate, CycleTable, CycleWriter, Links, Numbers, OrderClaim, Table,
+    Version, write, write_first_lines,
 };
 use tcc_graph::{Level, Link};
 
@@ -156,8 +156,8 @@ impl Anomaly {
         let steps = self.steps;
         let begun = write_first_lines(out, Version::Two, self.level, count, &self.links, steps)?;
         let mut writer = CycleWriter::behind(out, begun);
-        self.near.write_near(&mut writer)?;
-        self.far.write_far(&mut writer)?;
+        self.near.write(&mut writer, CycleTable::Near)?;
+        self.far.write(&mut writer, CycleTable::Far)?;
         writer.end()
     }
 

@@ -1,17 +1,17 @@
 //! The tables of an anomaly: rows as they were found, in 16 bits a number; they are capped where a row is written.
-ghost use Rattle.std.specs.Prelude.{◌≡◌, ◌≤◌, ℕ, List, [], Option, All, OnErr, OnOk, length, map, take};
+ghost use Rattle.std.specs.Prelude.{◌≡◌, ◌≤◌, ℕ, List, [], ◌∷◌, Option, All, OnErr, OnOk, length, map, take};
 ghost use Rattle.std.specs.Io.KnownBytes.{Appends};
 ghost use Rattle.tcc_txn.specs.declared.limits.TheConstants.{MAX_COUNT};
 ghost use Rattle.tcc_packed.specs.Packed.{at_most};
 ghost use Rattle.tcc_cert.specs.declared.certificate.CycleClaim.{CycleClaim};
 ghost use Rattle.tcc_cert.specs.Texts.{lines_text};
-ghost use Rattle.tcc_cert.specs.Begun.{given_lines, with_far, with_near};
+ghost use Rattle.tcc_cert.specs.Begun.{MayTake, given_lines, with_rows};
 ghost use Rattle.tcc_cert.specs.Given.{HasTaken};
 
 use std::alloc::Global;
 use std::io::Write;
 use std::marker::Model;
-use tcc_cert::{CertWriteFault, CycleWriter};
+use tcc_cert::{CertWriteFault, CycleTable, CycleWriter};
 use tcc_packed::PackedRow;
 use tcc_txn::MAX_COUNT;
 
@@ -34,46 +34,26 @@ impl Model for CappedRows {
     ghost invariant = { λ r. All (λ row. length row ≤ MAX_COUNT) r.rows.items };
 }
 
-/// Gives the writer a row of `near`, capped, by way of these places.
-fn give_near<W: Write>(
+/// Gives the writer a row of a table, capped, by way of this buffer.
+fn give<W: Write>(
     writer: &mut CycleWriter<'_, W>,
+    table: CycleTable,
     row: &PackedRow,
     cap: u32,
-    places: &mut [u32],
+    buffer: &mut [u32],
 ) -> Result<(), CertWriteFault>
-    requires { length row.now ≤ length places.old }
-    ensures long { length places.new ≡ length places.old }
+    requires { length row.now ≤ length buffer.old }
+    ensures long { length buffer.new ≡ length buffer.old }
     ensures same_reference { writer.new.out.ghost_name ≡ writer.old.out.ghost_name }
-    ensures whole { (before : Option (List ℕ)) (count : ℕ) (k : CycleClaim) → HasTaken W.contents before count k writer.old → k.far ≡ []
-        → OnOk result (HasTaken W.contents before count (with_near k (map (at_most cap) row.now)) writer.new) }
-    ensures part { (before : Option (List ℕ)) (count : ℕ) (k : CycleClaim) → HasTaken W.contents before count k writer.old → k.far ≡ []
+    ensures whole { (before : Option (List ℕ)) (count : ℕ) (k : CycleClaim) → HasTaken W.contents before count k writer.old → MayTake table k
+        → OnOk result (HasTaken W.contents before count (with_rows table k (map (at_most cap) row.now ∷ [])) writer.new) }
+    ensures part { (before : Option (List ℕ)) (count : ℕ) (k : CycleClaim) → HasTaken W.contents before count k writer.old → MayTake table k
         → OnErr result ((n : ℕ) × Appends before (W.contents writer.new.out.now)
-        (take n (lines_text (given_lines count (with_near k (map (at_most cap) row.now)))))) }
+        (take n (lines_text (given_lines count (with_rows table k (map (at_most cap) row.now ∷ [])))))) }
 {
-    let numbers = &mut places[..row.len()];
+    let numbers = &mut buffer[..row.len()];
     row.write_capped(cap, numbers);
-    writer.near_row(numbers)
-}
-
-/// The same of a row of `far`.
-fn give_far<W: Write>(
-    writer: &mut CycleWriter<'_, W>,
-    row: &PackedRow,
-    cap: u32,
-    places: &mut [u32],
-) -> Result<(), CertWriteFault>
-    requires { length row.now ≤ length places.old }
-    ensures long { length places.new ≡ length places.old }
-    ensures same_reference { writer.new.out.ghost_name ≡ writer.old.out.ghost_name }
-    ensures whole { (before : Option (List ℕ)) (count : ℕ) (k : CycleClaim) → HasTaken W.contents before count k writer.old
-        → OnOk result (HasTaken W.contents before count (with_far k (map (at_most cap) row.now)) writer.new) }
-    ensures part { (before : Option (List ℕ)) (count : ℕ) (k : CycleClaim) → HasTaken W.contents before count k writer.old
-        → OnErr result ((n : ℕ) × Appends before (W.contents writer.new.out.now)
-        (take n (lines_text (given_lines count (with_far k (map (at_most cap) row.now)))))) }
-{
-    let numbers = &mut places[..row.len()];
-    row.write_capped(cap, numbers);
-    writer.far_row(numbers)
+    writer.row(table, numbers)
 }
 
 impl CappedRows {
@@ -102,38 +82,21 @@ impl CappedRows {
         self.rows.len()
     }
 
-    /// Gives the writer all rows as those of `near`.
-    pub(crate) fn write_near<W: Write>(
+    /// Gives the writer all rows as those of a table.
+    pub(crate) fn write<W: Write>(
         &self,
         writer: &mut CycleWriter<'_, W>,
+        table: CycleTable,
     ) -> Result<(), CertWriteFault>
         ensures same_reference { writer.new.out.ghost_name ≡ writer.old.out.ghost_name }
-        ensures whole { (before : Option (List ℕ)) (count : ℕ) (k : CycleClaim) → HasTaken W.contents before count k writer.old → k.near ≡ [] → k.far ≡ []
-            → OnOk result (HasTaken W.contents before count (record k { near = self.now }) writer.new) }
-        ensures part { (before : Option (List ℕ)) (count : ℕ) (k : CycleClaim) → HasTaken W.contents before count k writer.old → k.near ≡ [] → k.far ≡ []
-            → OnErr result ((n : ℕ) × Appends before (W.contents writer.new.out.now) (take n (lines_text (given_lines count (record k { near = self.now }))))) }
+        ensures whole { (before : Option (List ℕ)) (count : ℕ) (k : CycleClaim) → HasTaken W.contents before count k writer.old → MayTake table k
+            → OnOk result (HasTaken W.contents before count (with_rows table k self.now) writer.new) }
+        ensures part { (before : Option (List ℕ)) (count : ℕ) (k : CycleClaim) → HasTaken W.contents before count k writer.old → MayTake table k
+            → OnErr result ((n : ℕ) × Appends before (W.contents writer.new.out.now) (take n (lines_text (given_lines count (with_rows table k self.now))))) }
     {
-        let mut places = [0; MAX_COUNT];
+        let mut buffer = [0; MAX_COUNT];
         for row in &self.rows {
-            give_near(writer, row, self.cap, &mut places)?;
-        }
-        Ok(())
-    }
-
-    /// Gives the writer all rows as those of `far`.
-    pub(crate) fn write_far<W: Write>(
-        &self,
-        writer: &mut CycleWriter<'_, W>,
-    ) -> Result<(), CertWriteFault>
-        ensures same_reference { writer.new.out.ghost_name ≡ writer.old.out.ghost_name }
-        ensures whole { (before : Option (List ℕ)) (count : ℕ) (k : CycleClaim) → HasTaken W.contents before count k writer.old → k.far ≡ []
-            → OnOk result (HasTaken W.contents before count (record k { far = self.now }) writer.new) }
-        ensures part { (before : Option (List ℕ)) (count : ℕ) (k : CycleClaim) → HasTaken W.contents before count k writer.old → k.far ≡ []
-            → OnErr result ((n : ℕ) × Appends before (W.contents writer.new.out.now) (take n (lines_text (given_lines count (record k { far = self.now }))))) }
-    {
-        let mut places = [0; MAX_COUNT];
-        for row in &self.rows {
-            give_far(writer, row, self.cap, &mut places)?;
+            give(writer, table, row, self.cap, &mut buffer)?;
         }
         Ok(())
     }

@@ -3,15 +3,17 @@ use Rattle.std.proofs.Common.{◌≡◌, ℕ, ◌+◌, List, [], ◌∷◌, ◌+
 use Rattle.std.specs.Result.{OnOk, OnErr, IsOk, IsErr}
 use Rattle.std.specs.Io.KnownBytes.{Appends}
 use Rattle.tcc_cert.specs.declared.cycle_writer.CycleWriter.{CycleWriter}
+use Rattle.tcc_cert.specs.declared.cycle_writer.CycleTable.{CycleTable}
+use Rattle.tcc_cert.specs.declared.cycle_writer.CycleTable.TheVariants as table
 use Rattle.tcc_cert.specs.declared.cycle_writer.Stage.{Stage}
 use Rattle.tcc_cert.specs.declared.cycle_writer.Stage.TheVariants.{Near, Far, Failed}
 use Rattle.tcc_cert.specs.declared.certificate.CycleClaim.{CycleClaim}
 use Rattle.tcc_cert.specs.Texts.{line_text, lines_text, numbers_words}
-use Rattle.tcc_cert.specs.Begun.{given_lines, with_near, with_far, stage_of}
-use Rattle.tcc_cert.specs.private.Writing.{far_mark, Stops, IsSent}
+use Rattle.tcc_cert.specs.Begun.{MayTake, given_lines, stage_of, with_rows}
+use Rattle.tcc_cert.specs.private.Writing.{IsSent, Stops, far_mark, mark_before, stage_behind}
 use Rattle.tcc_cert.specs.Given.{HasTaken, Sends}
 use Rattle.tcc_cert.proofs.SentFacts.{Sends-then, Stops-then, Appends-part, Appends-whole}
-use Rattle.tcc_cert.proofs.GivenTexts.{IsPart, text_of, begun_of, one_near, one_far, whole_text}
+use Rattle.tcc_cert.proofs.GivenTexts.{IsPart, begun_of, no_rows, one_far, one_near, row_next, text_of, whole_text}
 
 -- what was sent, as it was noted
 pub noted : {X Y E F : Type 0} (s : Result Y F) (r : Result X E) (a b : Option (List ℕ)) (f g t : List ℕ)
@@ -31,9 +33,21 @@ not_failed : (far : List (List ℕ)) → stage_of far ≡ Failed → ⊥
 not_failed [] is = subst working is tt
 not_failed (x ∷ xs) is = subst working is tt
 
+-- the text with one row more, and the stage behind it
+more_text : (t : CycleTable) (count : ℕ) (row : List ℕ) (k : CycleClaim) (stage : Stage) → stage ≡ stage_of k.far → MayTake t k
+    → lines_text (given_lines count k) ++ (mark_before t stage ++ line_text (numbers_words row)) ≡ lines_text (given_lines count (with_rows t k (row ∷ [])))
+more_text table.Near count row k stage is none = sym (one_near count k row none)
+more_text table.Far count row k stage is none =
+    ap (λ stage. lines_text (given_lines count k) ++ (far_mark stage ++ line_text (numbers_words row))) is ∙ sym (one_far count k row)
+
 stage_more : (far : List (List ℕ)) (row : List ℕ) → stage_of (far ++ row ∷ []) ≡ Far
 stage_more [] row = refl
 stage_more (x ∷ xs) row = refl
+
+more_stage : (t : CycleTable) (row : List ℕ) (k : CycleClaim) (stage : Stage) → stage ≡ stage_of k.far
+    → stage_behind t stage ≡ stage_of (with_rows t k (row ∷ [])).far
+more_stage table.Near row k stage is = is
+more_stage table.Far row k stage is = sym (stage_more k.far row)
 
 module _ {W : Type 0} (contents : W → Option (List ℕ)) where
   pub works : {before : Option (List ℕ)} {count : ℕ} {k : CycleClaim} {w : CycleWriter W} → HasTaken contents before count k w → w.stage ≡ Failed → ⊥
@@ -43,51 +57,24 @@ module _ {W : Type 0} (contents : W → Option (List ℕ)) where
   abbrev pub IsSentBy : {E : Type 0} → Result Unit E → CycleWriter W → CycleWriter W → List ℕ → Type 0
   IsSentBy s old new text = IsSent s (contents old.out.now) old.outgoing (contents new.out.now) new.outgoing text
 
-  -- a row of `near`
-  pub near_whole : {E : Type 0} (s : Result Unit E) (old new : CycleWriter W) (before : Option (List ℕ)) (count : ℕ) (k : CycleClaim) (row : List ℕ)
-      → HasTaken contents before count k old → k.far ≡ []
-      → IsSentBy s old new (line_text (numbers_words row)) → OnOk s (new.stage ≡ old.stage)
-      → OnOk s (HasTaken contents before count (with_near k row) new)
-  near_whole (Ok x) old new before count k row h none sent stage =
-      record {
-        lines = subst (Sends before [] (contents new.out.now) new.outgoing) (sym (one_near count k row none)) (Sends-then h.lines sent);
-        stage = stage ∙ h.stage;
-      }
-  near_whole (Err e) old new before count k row h none sent stage = tt
-
-  pub near_part : {E : Type 0} (s : Result Unit E) (old new : CycleWriter W) (before : Option (List ℕ)) (count : ℕ) (k : CycleClaim) (row : List ℕ)
-      → HasTaken contents before count k old → k.far ≡ []
-      → IsSentBy s old new (line_text (numbers_words row))
-      → OnErr s (IsPart before (contents new.out.now) (lines_text (given_lines count (with_near k row))))
-  near_part (Ok x) old new before count k row h none sent = tt
-  near_part (Err e) old new before count k row h none sent =
-      subst (IsPart before (contents new.out.now)) (sym (one_near count k row none)) (Appends-part (Stops-then h.lines sent))
-
-  -- what was given so far, and one row of `far`
-  far_more : {before : Option (List ℕ)} {count : ℕ} {k : CycleClaim} {w : CycleWriter W} (row : List ℕ) → HasTaken contents before count k w
-      → lines_text (given_lines count k) ++ (far_mark w.stage ++ line_text (numbers_words row)) ≡ lines_text (given_lines count (with_far k row))
-  far_more {before} {count} {k} {w} row h =
-      ap (λ stage. lines_text (given_lines count k) ++ (far_mark stage ++ line_text (numbers_words row))) h.stage ∙ sym (one_far count k row)
-
-  -- a row of `far`, behind the mark if it is the first
-  pub far_whole : {E : Type 0} (s : Result Unit E) (old new : CycleWriter W) (before : Option (List ℕ)) (count : ℕ) (k : CycleClaim) (row : List ℕ)
-      → HasTaken contents before count k old
-      → IsSentBy s old new (far_mark old.stage ++ line_text (numbers_words row))
-      → OnOk s (new.stage ≡ Far)
-      → OnOk s (HasTaken contents before count (with_far k row) new)
-  far_whole (Ok x) old new before count k row h sent stage = record {
-    lines = subst (Sends before [] (contents new.out.now) new.outgoing) (far_more row h) (Sends-then h.lines sent);
-    stage = stage ∙ sym (stage_more k.far row);
+  -- a row, behind the mark if it is the first of `far`
+  pub row_whole : {E : Type 0} (s : Result Unit E) (t : CycleTable) (old new : CycleWriter W) (before : Option (List ℕ)) (count : ℕ) (k : CycleClaim)
+      (row : List ℕ) → HasTaken contents before count k old → MayTake t k
+      → IsSentBy s old new (mark_before t old.stage ++ line_text (numbers_words row)) → OnOk s (new.stage ≡ stage_behind t old.stage)
+      → OnOk s (HasTaken contents before count (with_rows t k (row ∷ [])) new)
+  row_whole (Ok x) t old new before count k row h may sent stage = record {
+    lines = subst (Sends before [] (contents new.out.now) new.outgoing) (more_text t count row k old.stage h.stage may) (Sends-then h.lines sent);
+    stage = stage ∙ more_stage t row k old.stage h.stage;
   }
-  far_whole (Err e) old new before count k row h sent stage = tt
+  row_whole (Err e) t old new before count k row h may sent stage = tt
 
-  pub far_part : {E : Type 0} (s : Result Unit E) (old new : CycleWriter W) (before : Option (List ℕ)) (count : ℕ) (k : CycleClaim) (row : List ℕ)
-      → HasTaken contents before count k old
-      → IsSentBy s old new (far_mark old.stage ++ line_text (numbers_words row))
-      → OnErr s (IsPart before (contents new.out.now) (lines_text (given_lines count (with_far k row))))
-  far_part (Ok x) old new before count k row h sent = tt
-  far_part (Err e) old new before count k row h sent =
-      subst (IsPart before (contents new.out.now)) (far_more row h) (Appends-part (Stops-then h.lines sent))
+  pub row_part : {E : Type 0} (s : Result Unit E) (t : CycleTable) (old new : CycleWriter W) (before : Option (List ℕ)) (count : ℕ) (k : CycleClaim)
+      (row : List ℕ) → HasTaken contents before count k old → MayTake t k
+      → IsSentBy s old new (mark_before t old.stage ++ line_text (numbers_words row))
+      → OnErr s (IsPart before (contents new.out.now) (lines_text (given_lines count (with_rows t k (row ∷ [])))))
+  row_part (Ok x) t old new before count k row h may sent = tt
+  row_part (Err e) t old new before count k row h may sent =
+      subst (IsPart before (contents new.out.now)) (more_text t count row k old.stage h.stage may) (Appends-part (Stops-then h.lines sent))
 
   -- what was given, and the end
   end_more : {before : Option (List ℕ)} {k : CycleClaim} {w : CycleWriter W} → HasTaken contents before (length k.near) k w
@@ -127,14 +114,13 @@ module _ {W : Type 0} (contents : W → Option (List ℕ)) where
       }
 
   -- the rows up to the next one were given
-  pub near_next : (before : Option (List ℕ)) (count : ℕ) (k : CycleClaim) (rows : List (List ℕ)) (i : ℕ) (slice : List ℕ) (w : CycleWriter W)
-      → take i rows ++ slice ∷ [] ≡ take (i + 1) rows
-      → HasTaken contents before count (with_near (record k { near = take i rows }) slice) w
-      → HasTaken contents before count (record k { near = take (i + 1) rows }) w
-  near_next before count k rows i slice w is h = subst (λ near. HasTaken contents before count (record k { near = near }) w) is h
+  pub rows_given : (before : Option (List ℕ)) (count : ℕ) (t : CycleTable) (k : CycleClaim) (rows : List (List ℕ)) (i : ℕ) (row : List ℕ) (w : CycleWriter W)
+      → take i rows ++ row ∷ [] ≡ take (i + 1) rows
+      → HasTaken contents before count (with_rows t (with_rows t k (take i rows)) (row ∷ [])) w
+      → HasTaken contents before count (with_rows t k (take (i + 1) rows)) w
+  rows_given before count t k rows i row w is h = subst (λ given. HasTaken contents before count given w) (row_next t k rows i row is) h
 
-  pub far_next : (before : Option (List ℕ)) (count : ℕ) (k : CycleClaim) (rows : List (List ℕ)) (i : ℕ) (slice : List ℕ) (w : CycleWriter W)
-      → take i rows ++ slice ∷ [] ≡ take (i + 1) rows
-      → HasTaken contents before count (with_far (record k { far = take i rows }) slice) w
-      → HasTaken contents before count (record k { far = take (i + 1) rows }) w
-  far_next before count k rows i slice w is h = subst (λ far. HasTaken contents before count (record k { far = far }) w) is h
+  -- no row was given yet
+  pub none_given : (before : Option (List ℕ)) (count : ℕ) (t : CycleTable) (k : CycleClaim) (w : CycleWriter W)
+      → HasTaken contents before count k w → HasTaken contents before count (with_rows t k []) w
+  none_given before count t k w h = subst (λ given. HasTaken contents before count given w) (sym (no_rows t k)) h

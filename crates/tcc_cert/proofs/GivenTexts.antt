@@ -7,8 +7,10 @@ use Rattle.std.proofs.lemmas.Grind.{take_at_read, flat_map-append}
 use Rattle.std.specs.Io.KnownBytes.{Appends}
 use Rattle.tcc_cert.specs.declared.certificate.CycleClaim.{CycleClaim}
 use Rattle.tcc_cert.specs.declared.certificate.Certificate.TheVariants as claim
+use Rattle.tcc_cert.specs.declared.cycle_writer.CycleTable.{CycleTable}
+use Rattle.tcc_cert.specs.declared.cycle_writer.CycleTable.TheVariants as table
 use Rattle.tcc_cert.specs.Texts.{Words, line_text, lines_text, numbers_words, table_lines, link_lines, header_words, certificate_text}
-use Rattle.tcc_cert.specs.Begun.{begun_lines, far_lines, given_lines, with_near, with_far, stage_of}
+use Rattle.tcc_cert.specs.Begun.{MayTake, begun_lines, far_lines, given_lines, stage_of, with_rows}
 use Rattle.tcc_cert.specs.private.Writing.{far_mark}
 use Rattle.tcc_cert.proofs.SentFacts.{Stops-early, Appends-part}
 
@@ -48,7 +50,7 @@ near_text count k more none =
     ∙ ap (λ t. t ++ lines_text (table_lines more)) (sym (apart l (table_lines k.near) (far_lines k.far)))
 
 pub one_near : (count : ℕ) (k : CycleClaim) (row : List ℕ) → k.far ≡ []
-    → lines_text (given_lines count (with_near k row)) ≡ lines_text (given_lines count k) ++ line_text (numbers_words row)
+    → lines_text (given_lines count (with_rows table.Near k (row ∷ []))) ≡ lines_text (given_lines count k) ++ line_text (numbers_words row)
 one_near count k row none =
     near_text count k (row ∷ []) none ∙ ap (λ t. lines_text (given_lines count k) ++ t) (append-nil (line_text (numbers_words row)))
 
@@ -71,7 +73,7 @@ marked (x ∷ xs) row =
     ∙ ap (λ t. flat_map line_text ((codes "far" ∷ []) ∷ table_lines (x ∷ xs)) ++ t) (append-nil (line_text (numbers_words row)))
 
 pub one_far : (count : ℕ) (k : CycleClaim) (row : List ℕ)
-    → lines_text (given_lines count (with_far k row)) ≡ lines_text (given_lines count k) ++ (far_mark (stage_of k.far) ++ line_text (numbers_words row))
+    → lines_text (given_lines count (with_rows table.Far k (row ∷ []))) ≡ lines_text (given_lines count k) ++ (far_mark (stage_of k.far) ++ line_text (numbers_words row))
 one_far count k row = behind_far count k (k.far ++ row ∷ []) (far_mark (stage_of k.far) ++ line_text (numbers_words row)) (marked k.far row)
 
 more_marked : (far more : List (List ℕ)) → (t : List ℕ) × (lines_text (far_lines (far ++ more)) ≡ lines_text (far_lines far) ++ t)
@@ -120,43 +122,53 @@ pub rows_next : (rows : List (List ℕ)) (i : ℕ) (row slice : List ℕ) → sl
     → take i rows ++ slice ∷ [] ≡ take (i + 1) rows
 rows_next rows i row slice same lt is = ap (λ y. take i rows ++ y ∷ []) same ∙ rows_more rows i row lt is
 
-module _ (a b : Option (List ℕ)) (count : ℕ) (k : CycleClaim) where
-  -- a part of the text with these rows went out
-  abbrev pub IsNearPart : List (List ℕ) → Type 0
-  IsNearPart near = IsPart a b (lines_text (given_lines count (record k { near = near })))
+-- ---- more rows of a table
 
-  abbrev pub IsFarPart : List (List ℕ) → Type 0
-  IsFarPart far = IsPart a b (lines_text (given_lines count (record k { far = far })))
+-- no rows more change nothing, and some and then others are all of them
+pub no_rows : (t : CycleTable) (k : CycleClaim) → with_rows t k [] ≡ k
+no_rows table.Near k = ap (λ near. record k { near = near }) (append-nil k.near)
+no_rows table.Far k = ap (λ far. record k { far = far }) (append-nil k.far)
 
-  -- a part of the text up to a row is one of the text up to a later one
-  part_near : (rows : List (List ℕ)) (i : ℕ) → k.far ≡ [] → IsNearPart (take i rows) → IsNearPart rows
-  part_near rows i none h =
-      rw (ap (λ near. lines_text (given_lines count (record k { near = near }))) (sym (take-append-drop i rows))
-      ∙ near_text count (record k { near = take i rows }) (drop i rows) none)
-      (part_early a b _ _ h)
+rows_twice : (t : CycleTable) (k : CycleClaim) (rows more : List (List ℕ)) → with_rows t (with_rows t k rows) more ≡ with_rows t k (rows ++ more)
+rows_twice table.Near k rows more = ap (λ near. record k { near = near }) (append_assoc k.near rows more)
+rows_twice table.Far k rows more = ap (λ far. record k { far = far }) (append_assoc k.far rows more)
 
-  part_far : (rows : List (List ℕ)) (i : ℕ) → IsFarPart (take i rows) → IsFarPart rows
-  part_far rows i h =
-      let more = more_marked (take i rows) (drop i rows) in
-      rw (ap (λ far. lines_text (given_lines count (record k { far = far }))) (sym (take-append-drop i rows))
-      ∙ behind_far count (record k { far = take i rows }) (take i rows ++ drop i rows) more.0 more.1)
-      (part_early a b _ _ h)
+pub may_take : (t : CycleTable) (k : CycleClaim) (rows : List (List ℕ)) → MayTake t k → MayTake t (with_rows t k rows)
+may_take table.Near k rows none = none
+may_take table.Far k rows none = tt
+
+-- the rows up to the next one
+pub row_next : (t : CycleTable) (k : CycleClaim) (rows : List (List ℕ)) (i : ℕ) (row : List ℕ) → take i rows ++ row ∷ [] ≡ take (i + 1) rows
+    → with_rows t (with_rows t k (take i rows)) (row ∷ []) ≡ with_rows t k (take (i + 1) rows)
+row_next t k rows i row is = rows_twice t k (take i rows) (row ∷ []) ∙ ap (with_rows t k) is
+
+-- the text with more rows goes on where that without them ends
+text_more : (t : CycleTable) (count : ℕ) (k : CycleClaim) (more : List (List ℕ)) → MayTake t k
+    → (rest : List ℕ) × (lines_text (given_lines count (with_rows t k more)) ≡ lines_text (given_lines count k) ++ rest)
+text_more table.Near count k more none = (lines_text (table_lines more), near_text count k more none)
+text_more table.Far count k more none =
+    let marked = more_marked k.far more in
+    (marked.0, behind_far count k (k.far ++ more) marked.0 marked.1)
+
+module _ (a b : Option (List ℕ)) (count : ℕ) where
+  -- a part of the text of what was given went out
+  abbrev pub IsGivenPart : CycleClaim → Type 0
+  IsGivenPart k = IsPart a b (lines_text (given_lines count k))
+
+  -- a part of the text before more rows is one of that with them
+  pub part_more : (t : CycleTable) (k : CycleClaim) → MayTake t k → (more : List (List ℕ)) → IsGivenPart k → IsGivenPart (with_rows t k more)
+  part_more t k may more h = let text = text_more t count k more may in subst (IsPart a b) (sym text.1) (part_early a b _ text.0 h)
 
   -- a part of the text up to the next row is one of the text up to the last
-  pub part_near_row : (rows : List (List ℕ)) (i : ℕ) (slice : List ℕ) → k.far ≡ [] → take i rows ++ slice ∷ [] ≡ take (i + 1) rows
-      → IsPart a b (lines_text (given_lines count (with_near (record k { near = take i rows }) slice))) → IsNearPart rows
-  part_near_row rows i slice none is h = part_near rows (i + 1) none (subst IsNearPart is h)
-
-  pub part_far_row : (rows : List (List ℕ)) (i : ℕ) (slice : List ℕ) → take i rows ++ slice ∷ [] ≡ take (i + 1) rows
-      → IsPart a b (lines_text (given_lines count (with_far (record k { far = take i rows }) slice))) → IsFarPart rows
-  part_far_row rows i slice is h = part_far rows (i + 1) (subst IsFarPart is h)
-
-  -- a part of the text before the rows of `far` is one of the text with them
-  pub part_before_far : (far : List (List ℕ)) → k.far ≡ [] → IsPart a b (lines_text (given_lines count k)) → IsFarPart far
-  part_before_far far none h =
-      subst (IsPart a b)
-      (sym (behind_far count k far (lines_text (far_lines far)) (ap (λ f. lines_text (far_lines f) ++ lines_text (far_lines far)) (sym none))))
-      (part_early a b _ _ h)
+  pub part_row : (t : CycleTable) (k : CycleClaim) → MayTake t k → (rows : List (List ℕ)) (i : ℕ) (row : List ℕ)
+      → take i rows ++ row ∷ [] ≡ take (i + 1) rows
+      → IsGivenPart (with_rows t (with_rows t k (take i rows)) (row ∷ [])) → IsGivenPart (with_rows t k rows)
+  part_row t k may rows i row is h =
+      let here = with_rows t k (take (i + 1) rows) in
+      let all : with_rows t here (drop (i + 1) rows) ≡ with_rows t k rows =
+      rows_twice t k (take (i + 1) rows) (drop (i + 1) rows) ∙ ap (with_rows t k) (take-append-drop (i + 1) rows) in
+      subst IsGivenPart all
+      (part_more t here (may_take t k (take (i + 1) rows) may) (drop (i + 1) rows) (subst IsGivenPart (row_next t k rows i row is) h))
 
 -- a part of the text of what was given is one of the whole text
 pub part_given : (a b : Option (List ℕ)) (k : CycleClaim)

@@ -39,22 +39,22 @@ searched-on bytes n within none =
     let long = length-take-le n bytes within in
     ap line_length (sym (take-append-drop n bytes)) ∙ unbroken (take n bytes) (drop n bytes) (none ∙ sym long) ∙ ap (λ m. m + line_length (drop n bytes)) long
 
-place-found : (n m at : ℕ) (t : Bool) → Some at ≡ cond t (Some n) None → at ≡ n
-place-found n m at true is = cc
-place-found n m at false is = absurd cc
+position-found : (n m at : ℕ) (t : Bool) → Some at ≡ cond t (Some n) None → at ≡ n
+position-found n m at true is = cc
+position-found n m at false is = absurd cc
 
-place-none : (n m : ℕ) (t : Bool) (o : Option ℕ) → o ≡ None → o ≡ cond t (Some n) None → t ≡ false
-place-none n m true o e is = absurd cc
-place-none n m false o e is = refl
+position-none : (n m : ℕ) (t : Bool) (o : Option ℕ) → o ≡ None → o ≡ cond t (Some n) None → t ≡ false
+position-none n m true o e is = absurd cc
+position-none n m false o e is = refl
 
--- what a slice from a place on has
+-- what a slice from a position on has
 from_place : (bytes : List ℕ) (n : ℕ) → take (length bytes - n) (drop n bytes) ≡ drop n bytes
 from_place bytes n = take_all (length bytes - n) (drop n bytes) (omega (arith, length-drop n bytes))
 
 pub length-at : (bytes : List ℕ) (n at : ℕ) → n ≤ length bytes → line_length (take n bytes) ≡ n
     → Some at ≡ position (λ byte. eqb byte 10) (take (length bytes - n) (drop n bytes)) → n + at ≡ line_length bytes
 length-at bytes n at within none is =
-    let found = place-found (line_length (drop n bytes)) (length (drop n bytes)) at _ (is ∙ ap (position (λ byte. eqb byte 10)) (from_place bytes n)) in
+    let found = position-found (line_length (drop n bytes)) (length (drop n bytes)) at _ (is ∙ ap (position (λ byte. eqb byte 10)) (from_place bytes n)) in
     ap (λ m. n + m) found ∙ sym (searched-on bytes n within none)
 
 pub length-none : (bytes : List ℕ) (n : ℕ) → n ≤ length bytes → line_length (take n bytes) ≡ n
@@ -62,7 +62,7 @@ pub length-none : (bytes : List ℕ) (n : ℕ) → n ≤ length bytes → line_l
 length-none bytes n within none is =
     let rest = drop n bytes in
     let all =
-    place-none (line_length rest) (length rest) (ltb (line_length rest) (length rest)) None refl
+    position-none (line_length rest) (length rest) (ltb (line_length rest) (length rest)) None refl
     (is ∙ ap (position (λ byte. eqb byte 10)) (from_place bytes n)) in
     let le = length-within rest in
     let long = length-drop n bytes in

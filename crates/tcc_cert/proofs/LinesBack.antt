@@ -6,7 +6,7 @@ use Rattle.std.specs.List.{AllByRecursion}
 use Rattle.std.proofs.lemmas.List.{drop_at, length-append}
 use Rattle.tcc_cert.specs.declared.fault.CertFaultKind.{CertFaultKind}
 use Rattle.tcc_cert.specs.Texts.{Words, words_text, line_text}
-use Rattle.tcc_cert.specs.Reading.{◌>>=◌, words_of, Place, Reads, judged, next, words, numbered, repeated}
+use Rattle.tcc_cert.specs.Reading.{◌>>=◌, words_of, Position, Reads, judged, next, words, numbered, repeated}
 use Rattle.tcc_cert.proofs.ReadingFacts.{IsAbove, IsAbove-append, IsAbove-less, AreWords, later, line_of-line, words_of-words}
 use Rattle.tcc_cert.proofs.Numbered.{EachFrom, each-same}
 
@@ -14,8 +14,8 @@ use Rattle.tcc_cert.proofs.Numbered.{EachFrom, each-same}
 pub then_ok : {A B E : Type 0} {r : Result A E} {x : A} (f : A → Result B E) → r ≡ Ok x → (r >>= f) ≡ f x
 then_ok f e = ap (λ s. s >>= f) e
 
--- the place before these bytes
-abbrev pub at : ℕ → List ℕ → Place
+-- the position before these bytes
+abbrev pub at : ℕ → List ℕ → Position
 at n bytes = record { line = n; bytes = bytes }
 
 behind-line : (line rest : List ℕ) → drop (length line + 1) (line ++ 10 ∷ rest) ≡ rest
@@ -56,7 +56,7 @@ pub record IsReadBack {X : Type 0} (v : Version) (form : Words → Result X Cert
   pub back : form (spelled x) ≡ Ok x
 
 -- a value whose text is read as it, wherever it stands
-abbrev pub IsReadAt : {X : Type 0} → (Place → Reads X) → (X → List ℕ) → X → Type 0
+abbrev pub IsReadAt : {X : Type 0} → (Position → Reads X) → (X → List ℕ) → X → Type 0
 IsReadAt read text x = (n : ℕ) (rest : List ℕ) → (end : ℕ) × (read (at n (text x ++ rest)) ≡ Ok (x, at end rest))
 
 pub line-at : {X : Type 0} (v : Version) (form : Words → Result X CertFaultKind) (spelled : X → Words) (x : X) → IsReadBack v form spelled x
@@ -64,7 +64,7 @@ pub line-at : {X : Type 0} (v : Version) (form : Words → Result X CertFaultKin
 line-at v form spelled x back n rest = (n + 1, words-line v form n (spelled x) rest back.are back.short x back.back)
 
 -- values that are read, one after the other
-pub numbered-back : {X : Type 0} (read : ℕ → Place → Reads X) (text : X → List ℕ) (from : ℕ) (xs : List X) → EachFrom (λ i x. IsReadAt (read i) text x) from xs
+pub numbered-back : {X : Type 0} (read : ℕ → Position → Reads X) (text : X → List ℕ) (from : ℕ) (xs : List X) → EachFrom (λ i x. IsReadAt (read i) text x) from xs
     → (n : ℕ) (rest : List ℕ) → (end : ℕ) × (numbered read from (length xs) (at n (flat_map text xs ++ rest)) ≡ Ok (xs, at end rest))
 numbered-back read text from [] back n rest = (n, refl)
 numbered-back read text from (x ∷ xs) back n rest =
@@ -73,6 +73,6 @@ numbered-back read text from (x ∷ xs) back n rest =
     let split : flat_map text (x ∷ xs) ++ rest ≡ text x ++ (flat_map text xs ++ rest) = append_assoc (text x) (flat_map text xs) rest in
     (others.0, rw (split, first.1, others.1) refl)
 
-pub repeated-back : {X : Type 0} (read : Place → Reads X) (text : X → List ℕ) (xs : List X) → AllByRecursion (IsReadAt read text) xs
+pub repeated-back : {X : Type 0} (read : Position → Reads X) (text : X → List ℕ) (xs : List X) → AllByRecursion (IsReadAt read text) xs
     → (n : ℕ) (rest : List ℕ) → (end : ℕ) × (repeated read (length xs) (at n (flat_map text xs ++ rest)) ≡ Ok (xs, at end rest))
 repeated-back read text xs back n rest = numbered-back (λ i. read) text 0 xs (each-same (IsReadAt read text) 0 xs back) n rest

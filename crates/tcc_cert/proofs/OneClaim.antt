@@ -26,7 +26,7 @@ use Rattle.tcc_cert.specs.Texts.{Words, line_text, lines_text, numbers_words, ta
 use Rattle.tcc_cert.specs.Texts.{claim_lines, header_of, certificate_text, IsNumber, IsCount, HasTableText, HasClocksText, HasText}
 use Rattle.tcc_cert.specs.Texts.{HasCycleText, HasLinkText, HasOrderText, cycle_lines, order_lines}
 use Rattle.tcc_cert.specs.Reading.{count_of, number_of, word_line, numbers_line, two_words, three_words}
-use Rattle.tcc_cert.specs.Reading.{order_sizes, cycle_sizes, sizes_line, Place, next, words, repeated}
+use Rattle.tcc_cert.specs.Reading.{order_sizes, cycle_sizes, sizes_line, Position, next, words, repeated}
 use Rattle.tcc_cert.specs.Reading.{header_line, link_at, table_at, clocks_at, order_at, cycle_at, claim_at}
 use Rattle.tcc_cert.specs.Reading.{behind_header, certificate_at, start_of, certificate_read}
 use Rattle.tcc_cert.proofs.Items.{flat_map-map, flat_map-flat_map}
@@ -49,7 +49,7 @@ row-from v columns most small at after row e =
     let is = row-text columns most line.0 row small line.1 in
     ((is.0, is.1.high), line.2 ∙ ap (λ ws. line_text ws ++ after.bytes) is.1.text)
 
-table-text : (v : Version) (rows : ℕ) (columns : ℕ → ℕ) (most : ℕ) (at after : Place) (table : List (List ℕ)) → most < 2 ^ 64
+table-text : (v : Version) (rows : ℕ) (columns : ℕ → ℕ) (most : ℕ) (at after : Position) (table : List (List ℕ)) → most < 2 ^ 64
     → table_at v rows columns most at ≡ Ok (table, after)
     → HasTableText rows columns most table × (at.bytes ≡ lines_text (table_lines table) ++ after.bytes)
 table-text v rows columns most at after table small e =
@@ -76,7 +76,7 @@ number-small v = omega (arith, numbers v)
 
 -- ---- marks
 
-mark-text : (v : Version) (wanted : List ℕ) (at after : Place) (done : Unit {0}) → words v (word_line wanted) at ≡ Ok (done, after)
+mark-text : (v : Version) (wanted : List ℕ) (at after : Position) (done : Unit {0}) → words v (word_line wanted) at ≡ Ok (done, after)
     → at.bytes ≡ line_text (wanted ∷ []) ++ after.bytes
 mark-text v wanted at after done e =
     let line = words-text v (word_line wanted) at after done e in
@@ -84,7 +84,7 @@ mark-text v wanted at after done e =
 
 -- ---- claims of orders
 
-clocks-text : (v : Version) (level : Level) (n s : ℕ) (at after : Place) (clocks : List (List ℕ)) → clocks_at v level n s at ≡ Ok (clocks, after)
+clocks-text : (v : Version) (level : Level) (n s : ℕ) (at after : Position) (clocks : List (List ℕ)) → clocks_at v level n s at ≡ Ok (clocks, after)
     → HasClocksText v level n s clocks × (at.bytes ≡ lines_text (clocks_lines level clocks) ++ after.bytes)
 clocks-text v Causal n s at after clocks e =
     let first = then_parts (words v (word_line (codes "clocks")) at) _ (clocks, after) e in
@@ -98,7 +98,7 @@ clocks-text v Atomic n s at after clocks e =
     let is = same_pair e in
     (sym is.0, ap (λ p. p.bytes) is.1)
 
-pub record IsOrderText (v : Version) (level : Level) (n s : ℕ) (at : Place) (certificate : Certificate) : Type 0 where
+pub record IsOrderText (v : Version) (level : Level) (n s : ℕ) (at : Position) (certificate : Certificate) : Type 0 where
   pub order : List ℕ
   pub clocks : List (List ℕ)
   pub is : claim.Order (record { version = v; level = level; order = order; sessions = s; clocks = clocks }) ≡ certificate
@@ -107,7 +107,7 @@ pub record IsOrderText (v : Version) (level : Level) (n s : ℕ) (at : Place) (c
   pub table : HasClocksText v level n s clocks
   pub text : at.bytes ≡ lines_text (numbers_words order ∷ (clocks_lines level clocks ++ (codes "end" ∷ []) ∷ []))
 
-order-read : (v : Version) (level : Level) (n s : ℕ) (at after : Place) (certificate : Certificate) → order_at v level n s at ≡ Ok (certificate, after)
+order-read : (v : Version) (level : Level) (n s : ℕ) (at after : Position) (certificate : Certificate) → order_at v level n s at ≡ Ok (certificate, after)
     → after.bytes ≡ [] → IsOrderText v level n s at certificate
 order-read v level n s at after certificate e end =
     let first = then_parts (words v (numbers_line n (ranges_of v).number) at) _ (certificate, after) e in
@@ -136,7 +136,7 @@ order-read v level n s at after certificate e end =
 
 -- ---- claims of cycles
 
-pub record IsCycleText (v : Version) (level : Level) (n m l : ℕ) (at : Place) (certificate : Certificate) : Type 0 where
+pub record IsCycleText (v : Version) (level : Level) (n m l : ℕ) (at : Position) (certificate : Certificate) : Type 0 where
   pub links : List Link
   pub near : List (List ℕ)
   pub far : List (List ℕ)
@@ -148,7 +148,7 @@ pub record IsCycleText (v : Version) (level : Level) (n m l : ℕ) (at : Place) 
   pub text : at.bytes
       ≡ lines_text (flat_map link_lines links ++ (codes "near" ∷ []) ∷ (table_lines near ++ (codes "far" ∷ []) ∷ (table_lines far ++ (codes "end" ∷ []) ∷ [])))
 
-cycle-read : (v : Version) (level : Level) (n m l : ℕ) (at after : Place) (certificate : Certificate) → cycle_at v level n m l at ≡ Ok (certificate, after)
+cycle-read : (v : Version) (level : Level) (n m l : ℕ) (at after : Position) (certificate : Certificate) → cycle_at v level n m l at ≡ Ok (certificate, after)
     → after.bytes ≡ [] → IsCycleText v level n m l at certificate
 cycle-read v level n m l at after certificate e end =
     let first = then_parts (repeated (link_at v) m at) _ (certificate, after) e in
@@ -252,7 +252,7 @@ header-line line header e =
     (header-or line (codes "tcc-certificate 2 causal") (Two, Causal) _ header refl
     (header-or line (codes "tcc-certificate 2 atomic") (Two, Atomic) (Err Header) header refl (λ none. absurd cc)))) e
 
-header-read : (at after : Place) (header : Version × Level) → next MAX_HEADER_BYTES header_line at ≡ Ok (header, after)
+header-read : (at after : Position) (header : Version × Level) → next MAX_HEADER_BYTES header_line at ≡ Ok (header, after)
     → at.bytes ≡ header_text header ++ after.bytes
 header-read at after header e =
     let line = next-text MAX_HEADER_BYTES header_line at after header e in
@@ -264,7 +264,7 @@ header-read at after header e =
 abbrev pub IsWhole : Version → Level → List ℕ → Certificate → Type 0
 IsWhole v level text certificate = HasText certificate × (header_of certificate ≡ header_words v level) × (text ≡ lines_text (claim_lines certificate))
 
-order-whole : (v : Version) (level : Level) (n s : ℕ) (at : Place) (ws : Words) (text : List ℕ) (certificate : Certificate) → IsSizesText v ws (Order n s)
+order-whole : (v : Version) (level : Level) (n s : ℕ) (at : Position) (ws : Words) (text : List ℕ) (certificate : Certificate) → IsSizesText v ws (Order n s)
     → text ≡ line_text ws ++ at.bytes → IsOrderText v level n s at certificate
     → IsWhole v level text certificate
 order-whole v level n s at ws text certificate sizes is o =
@@ -279,7 +279,7 @@ order-whole v level n s at ws text certificate sizes is o =
     is ∙ ap (λ w. line_text w ++ at.bytes) sizes.2 ∙ rw o.count (ap (λ t. line_text (codes "order" ∷ decimal n ∷ decimal s ∷ []) ++ t) o.text) in
     subst (IsWhole v level text) o.is (has, refl, whole)
 
-cycle-whole : (v : Version) (level : Level) (n m l : ℕ) (at : Place) (ws : Words) (text : List ℕ) (certificate : Certificate)
+cycle-whole : (v : Version) (level : Level) (n m l : ℕ) (at : Position) (ws : Words) (text : List ℕ) (certificate : Certificate)
     → IsSizesText v ws (Cycle n m l) → text ≡ line_text ws ++ at.bytes → IsCycleText v level n m l at certificate
     → IsWhole v level text certificate
 cycle-whole v level n m l at ws text certificate sizes is o =
@@ -298,7 +298,7 @@ cycle-whole v level n m l at ws text certificate sizes is o =
     (ap (λ t. line_text (codes "cycle" ∷ decimal n ∷ decimal m ∷ decimal l ∷ []) ++ t) o.text) in
     subst (IsWhole v level text) o.is (has, refl, whole)
 
-claim-whole : (v : Version) (level : Level) (sizes : Sizes) (at after : Place) (ws : Words) (text : List ℕ) (certificate : Certificate)
+claim-whole : (v : Version) (level : Level) (sizes : Sizes) (at after : Position) (ws : Words) (text : List ℕ) (certificate : Certificate)
     → IsSizesText v ws sizes → text ≡ line_text ws ++ at.bytes → claim_at v level sizes at ≡ Ok (certificate, after) → after.bytes ≡ []
     → IsWhole v level text certificate
 claim-whole v level (Order n s) at after ws text certificate sizes is e end =

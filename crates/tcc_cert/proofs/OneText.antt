@@ -32,7 +32,7 @@ use Rattle.tcc_cert.specs.Texts.{step_words, link_lines, IsNumber, IsCount, IsKe
 use Rattle.tcc_cert.specs.Texts.{HasLinkText}
 use Rattle.tcc_cert.specs.Reading.{◌>>=◌, words_of, parted, is_decimal, number_of, transaction_of, count_of, key_of, word_line}
 use Rattle.tcc_cert.specs.Reading.{numbers_of, numbers_line, two_words, three_words, five_words, by_word, session_of, reads_of, step_line}
-use Rattle.tcc_cert.specs.Reading.{head_of_step, derived_of, head_line, Place, Reads, judged, line_length, line_of, behind, next}
+use Rattle.tcc_cert.specs.Reading.{head_of_step, derived_of, head_line, Position, Reads, judged, line_length, line_of, behind, next}
 use Rattle.tcc_cert.specs.Reading.{words, numbered, repeated, walk_of, link_at}
 use Rattle.tcc_cert.proofs.RangeFacts.{numbers, counts}
 use Rattle.tcc_cert.proofs.Numbered.{EachFrom, same-each}
@@ -264,7 +264,7 @@ pub words-back : (line : List ℕ) → words_text (words_of line) ≡ line
 words-back [] = refl
 words-back (byte ∷ bytes) = join-same (parted (byte ∷ bytes)) ∙ join_with_byte-slice_split 32 (byte ∷ bytes)
 
-judged-parts : {X : Type 0} (at after : Place) (shown : Result X CertFaultKind) (x : X) (end : Place) → judged at after shown ≡ Ok (x, end)
+judged-parts : {X : Type 0} (at after : Position) (shown : Result X CertFaultKind) (x : X) (end : Position) → judged at after shown ≡ Ok (x, end)
     → (shown ≡ Ok x) × (after ≡ end)
 judged-parts at after (Ok y) x end e =
     let is = same_pair e in
@@ -284,7 +284,7 @@ line-text most bytes line e =
     split_at_first (λ byte. eqb byte 10) bytes 0 within ∙ rw (feed, is, long) refl
 
 -- the next line
-pub next-text : {X : Type 0} (most : ℕ) (form : List ℕ → Result X CertFaultKind) (at after : Place) (x : X) → next most form at ≡ Ok (x, after)
+pub next-text : {X : Type 0} (most : ℕ) (form : List ℕ → Result X CertFaultKind) (at after : Position) (x : X) → next most form at ≡ Ok (x, after)
     → (line : List ℕ) × (form line ≡ Ok x) × (at.bytes ≡ line ++ 10 ∷ after.bytes)
 next-text most form at after x e =
     let first = then_parts (judged at at (line_of most at.bytes)) _ (x, after) e in
@@ -292,7 +292,7 @@ next-text most form at after x e =
     let shown = judged-parts at (behind at first.0.0) (form first.0.0) x after first.2 in
     (first.0.0, shown.0, line-text most at.bytes first.0.0 line.0 ∙ ap (λ p. first.0.0 ++ 10 ∷ p.bytes) shown.1)
 
-pub words-text : {X : Type 0} (v : Version) (form : Words → Result X CertFaultKind) (at after : Place) (x : X) → words v form at ≡ Ok (x, after)
+pub words-text : {X : Type 0} (v : Version) (form : Words → Result X CertFaultKind) (at after : Position) (x : X) → words v form at ≡ Ok (x, after)
     → (ws : Words) × (form ws ≡ Ok x) × (at.bytes ≡ line_text ws ++ after.bytes)
 words-text v form at after x e =
     let read = next-text (ranges_of v).line_bytes (λ line. form (words_of line)) at after x e in
@@ -302,11 +302,11 @@ words-text v form at after x e =
 -- ---- parts so many times
 
 -- what is read has this property, and was read from this text
-abbrev pub IsReadFrom : {X : Type 0} → (Place → Reads X) → (X → Type 0) → (X → List ℕ) → Type 0
-IsReadFrom {X = X} read property text = (at after : Place) (x : X) → read at ≡ Ok (x, after) → property x × (at.bytes ≡ text x ++ after.bytes)
+abbrev pub IsReadFrom : {X : Type 0} → (Position → Reads X) → (X → Type 0) → (X → List ℕ) → Type 0
+IsReadFrom {X = X} read property text = (at after : Position) (x : X) → read at ≡ Ok (x, after) → property x × (at.bytes ≡ text x ++ after.bytes)
 
-pub numbered-text : {X : Type 0} (read : ℕ → Place → Reads X) (property : ℕ → X → Type 0) (text : X → List ℕ)
-    → ((i : ℕ) → IsReadFrom (read i) (property i) text) → (from n : ℕ) (at after : Place) (xs : List X)
+pub numbered-text : {X : Type 0} (read : ℕ → Position → Reads X) (property : ℕ → X → Type 0) (text : X → List ℕ)
+    → ((i : ℕ) → IsReadFrom (read i) (property i) text) → (from n : ℕ) (at after : Position) (xs : List X)
     → numbered read from n at ≡ Ok (xs, after) → EachFrom property from xs × (length xs ≡ n) × (at.bytes ≡ flat_map text xs ++ after.bytes)
 numbered-text read property text each_from from zero at after xs e =
     let is = same_pair e in
@@ -322,8 +322,8 @@ numbered-text {X} read property text each_from from (suc n) at after xs e =
     subst (λ ys. EachFrom property from ys × (length ys ≡ suc n) × (at.bytes ≡ flat_map text ys ++ after.bytes)) is.0
     ((one.0, rest.0), ap (λ m. suc m) rest.1, whole ∙ ap (λ p. flat_map text (first.0.0 ∷ others.0.0) ++ p.bytes) is.1)
 
-pub repeated-text : {X : Type 0} (read : Place → Reads X) (property : X → Type 0) (text : X → List ℕ) → IsReadFrom read property text
-    → (n : ℕ) (at after : Place) (xs : List X) → repeated read n at ≡ Ok (xs, after)
+pub repeated-text : {X : Type 0} (read : Position → Reads X) (property : X → Type 0) (text : X → List ℕ) → IsReadFrom read property text
+    → (n : ℕ) (at after : Position) (xs : List X) → repeated read n at ≡ Ok (xs, after)
     → AllByRecursion property xs × (length xs ≡ n) × (at.bytes ≡ flat_map text xs ++ after.bytes)
 repeated-text read property text from n at after xs e =
     let all = numbered-text (λ i. read) (λ i. property) text (λ i. from) 0 n at after xs e in
@@ -404,7 +404,7 @@ head-text version (word ∷ fields) head e =
     head-choice version word fields head (choice (same word (codes "D")) (five_words (derived_of version) fields) _ (Ok head) e)
 
 -- a link of one step
-one-step : (version : Version) (s : Step) (at mid after : Place) (l : Link) → HasStepText version s → at.bytes ≡ line_text (step_words s) ++ mid.bytes
+one-step : (version : Version) (s : Step) (at mid after : Position) (l : Link) → HasStepText version s → at.bytes ≡ line_text (step_words s) ++ mid.bytes
     → walk_of version (head_of_step s, mid) ≡ Ok (l, after)
     → HasLinkText version l × (at.bytes ≡ lines_text (link_lines l) ++ after.bytes)
 one-step version (step.Session u v) at mid after l has text e =
@@ -422,7 +422,7 @@ one-step version (step.Reads u v k) at mid after l has text e =
           ∙ ap (λ p. lines_text (link_lines (link.Reads u v k)) ++ p.bytes) is.1,
     )
 
-link-choice : (version : Version) (ws : Words) (head : Head) (at mid after : Place) (l : Link) → at.bytes ≡ line_text ws ++ mid.bytes
+link-choice : (version : Version) (ws : Words) (head : Head) (at mid after : Position) (l : Link) → at.bytes ≡ line_text ws ++ mid.bytes
     → walk_of version (head, mid) ≡ Ok (l, after) → IsDerivedHead version ws head ⊎ IsStepHead version ws head
     → HasLinkText version l × (at.bytes ≡ lines_text (link_lines l) ++ after.bytes)
 link-choice version ws head at mid after l text e (inr h) =

@@ -6,35 +6,35 @@ use Rattle.tcc_cert.specs.declared.fault.CertFaultKind.{CertFaultKind}
 use Rattle.tcc_cert.specs.declared.reading.forms.Head.{Head}
 use Rattle.tcc_cert.specs.Outcomes.{reached}
 use Rattle.tcc_cert.specs.Texts.{Words}
-use Rattle.tcc_cert.specs.Reading.{◌>>=◌, Place, Reads, judged, behind, line_of, next, words}
+use Rattle.tcc_cert.specs.Reading.{◌>>=◌, Position, Reads, judged, behind, line_of, next, words}
 use Rattle.tcc_cert.specs.Reading.{numbered, repeated, words_of, step_line, with_walk, head_line}
 use Rattle.tcc_cert.specs.Reading.{walk_of, link_at}
 
--- from this place the reading ended at no line before it
-pub record IsOnward {X : Type 0} (at : Place) (read : Reads X) : Type 0 where
+-- from this position the reading ended at no line before it
+pub record IsOnward {X : Type 0} (at : Position) (read : Reads X) : Type 0 where
   pub onward : at.line ≤ reached read
 
-pub onward-then : {A B : Type 0} (at : Place) (read : Reads A) (go : A × Place → Reads B) → IsOnward at read → ((x : A × Place) → IsOnward x.1 (go x))
+pub onward-then : {A B : Type 0} (at : Position) (read : Reads A) (go : A × Position → Reads B) → IsOnward at read → ((x : A × Position) → IsOnward x.1 (go x))
     → IsOnward at (read >>= go)
 onward-then at (Ok x) go here later = record { onward = omega (arith, here.onward, (later x).onward) }
 onward-then at (Err fault) go here later = record { onward = here.onward }
 
-onward-judged : {X : Type 0} (at after : Place) (shown : Result X CertFaultKind) → at.line ≤ after.line → IsOnward at (judged at after shown)
+onward-judged : {X : Type 0} (at after : Position) (shown : Result X CertFaultKind) → at.line ≤ after.line → IsOnward at (judged at after shown)
 onward-judged at after (Ok x) le = record { onward = le }
 onward-judged at after (Err kind) le = record { onward = omega arith }
 
-next-form : {X : Type 0} (form : List ℕ → Result X CertFaultKind) (at : Place) (line : Result (List ℕ) CertFaultKind)
+next-form : {X : Type 0} (form : List ℕ → Result X CertFaultKind) (at : Position) (line : Result (List ℕ) CertFaultKind)
     → IsOnward at (judged at at line >>= λ read. judged at (behind at read.0) (form read.0))
 next-form form at (Ok line) = onward-judged at (behind at line) (form line) (omega arith)
 next-form form at (Err kind) = record { onward = omega arith }
 
-pub onward-next : {X : Type 0} (most : ℕ) (form : List ℕ → Result X CertFaultKind) (at : Place) → IsOnward at (next most form at)
+pub onward-next : {X : Type 0} (most : ℕ) (form : List ℕ → Result X CertFaultKind) (at : Position) → IsOnward at (next most form at)
 onward-next most form at = next-form form at (line_of most at.bytes)
 
-pub onward-ok : {X : Type 0} (x : X) (at after : Place) → at.line ≤ after.line → IsOnward at (Ok (x, after))
+pub onward-ok : {X : Type 0} (x : X) (at after : Position) → at.line ≤ after.line → IsOnward at (Ok (x, after))
 onward-ok x at after le = record { onward = le }
 
-pub onward-numbered : {X : Type 0} (read : ℕ → Place → Reads X) (from n : ℕ) → ((i : ℕ) (at : Place) → IsOnward at (read i at)) → (at : Place)
+pub onward-numbered : {X : Type 0} (read : ℕ → Position → Reads X) (from n : ℕ) → ((i : ℕ) (at : Position) → IsOnward at (read i at)) → (at : Position)
     → IsOnward at (numbered read from n at)
 onward-numbered read from zero on at = onward-ok [] at at (omega arith)
 onward-numbered read from (suc n) on at =
@@ -42,17 +42,17 @@ onward-numbered read from (suc n) on at =
     _ (onward-numbered read (from + 1) n on first.1)
     (λ others. onward-ok (first.0 ∷ others.0) others.1 others.1 (omega arith)))
 
-pub onward-words : {X : Type 0} (version : Version) (form : Words → Result X CertFaultKind) (at : Place) → IsOnward at (words version form at)
+pub onward-words : {X : Type 0} (version : Version) (form : Words → Result X CertFaultKind) (at : Position) → IsOnward at (words version form at)
 onward-words version form at = onward-next (ranges_of version).line_bytes (λ line. form (words_of line)) at
 
-pub onward-steps : (version : Version) (count : ℕ) (at : Place) → IsOnward at (repeated (words version (step_line version)) count at)
-onward-steps version count at = onward-numbered (λ i. words version (step_line version)) 0 count (λ i place. onward-words version (step_line version) place) at
+pub onward-steps : (version : Version) (count : ℕ) (at : Position) → IsOnward at (repeated (words version (step_line version)) count at)
+onward-steps version count at = onward-numbered (λ i. words version (step_line version)) 0 count (λ i position. onward-words version (step_line version) position) at
 
-pub onward-walk : (version : Version) (head : Head × Place) → IsOnward head.1 (walk_of version head)
+pub onward-walk : (version : Version) (head : Head × Position) → IsOnward head.1 (walk_of version head)
 onward-walk version head =
     onward-then head.1 (repeated (words version (step_line version)) head.0.steps head.1) _ (onward-steps version head.0.steps head.1)
     (λ walk. onward-ok (with_walk head.0.link walk.0) walk.1 walk.1 (omega arith))
 
-pub onward-link : (version : Version) (at : Place) → IsOnward at (link_at version at)
+pub onward-link : (version : Version) (at : Position) → IsOnward at (link_at version at)
 onward-link version at =
     onward-then at (words version (head_line version) at) (walk_of version) (onward-words version (head_line version) at) (onward-walk version)

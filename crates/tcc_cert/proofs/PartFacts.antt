@@ -25,12 +25,12 @@ use Rattle.tcc_cert.specs.Outcomes.{IsReading, reached}
 use Rattle.tcc_cert.specs.Parts.{◌>>>◌, Parts, after_part, claim_parts, cycle_parts, end_parts, far_parts, link_rows}
 use Rattle.tcc_cert.specs.Parts.{near_parts, order_parts, order_rest, parts_behind, parts_of, parts_read}
 use Rattle.tcc_cert.specs.Parts.{rows_then, whole_parts, with_clocks, with_tables}
-use Rattle.tcc_cert.specs.Reading.{◌>>=◌, Place, Reads, behind_header, certificate_at, certificate_read, claim_at, clocks_at, cycle_at}
+use Rattle.tcc_cert.specs.Reading.{◌>>=◌, Position, Reads, behind_header, certificate_at, certificate_read, claim_at, clocks_at, cycle_at}
 use Rattle.tcc_cert.specs.Reading.{ended, header_line, link_at, next, numbered, numbers_line, order_at, repeated, sizes_line, start_of}
 use Rattle.tcc_cert.specs.Reading.{word_line, words}
 
 -- the fault of what stands behind the end
-abbrev fault_behind : Place → Option CertFaultKind
+abbrev fault_behind : Position → Option CertFaultKind
 fault_behind at = cond (eqb (length at.bytes) 0) None (Some Trailing)
 
 -- the certificate that was read has these parts behind others, and the text ends as they do
@@ -38,12 +38,12 @@ abbrev pub IsTold : List Part → Reads Certificate → Parts → Type 0
 IsTold front (Ok read) told = (parts_of read.0 ≡ front ++ told.parts) × (told.line ≡ read.1.line) × (told.fault ≡ fault_behind read.1)
 IsTold front (Err fault) told = (told.line ≡ fault.line) × (told.fault ≡ Some fault.kind)
 
-bind-assoc : {A B C : Type 0} (read : Reads A) (f : A × Place → Reads B) (g : B × Place → Reads C) → ((read >>= f) >>= g) ≡ (read >>= λ x. f x >>= g)
+bind-assoc : {A B C : Type 0} (read : Reads A) (f : A × Position → Reads B) (g : B × Position → Reads C) → ((read >>= f) >>= g) ≡ (read >>= λ x. f x >>= g)
 bind-assoc (Ok x) f g = refl
 bind-assoc (Err fault) f g = refl
 
-told-behind : {X : Type 0} (front : List Part) (read : Reads X) (go : X × Place → Reads Certificate) (behind : X × Place → Parts)
-    → ((x : X × Place) → IsTold front (go x) (behind x))
+told-behind : {X : Type 0} (front : List Part) (read : Reads X) (go : X × Position → Reads Certificate) (behind : X × Position → Parts)
+    → ((x : X × Position) → IsTold front (go x) (behind x))
     → IsTold front (read >>= go) (read >>> behind)
 told-behind front (Ok x) go behind later = later x
 told-behind front (Err fault) go behind later = (refl, refl)
@@ -53,13 +53,13 @@ told-part : (front : List Part) (first : Part) (read : Reads Certificate) (told 
 told-part front first (Ok x) told is = (is.0 ∙ append_assoc front (first ∷ []) told.parts, is.1, is.2)
 told-part front first (Err fault) told is = is
 
-told-rows : {X : Type 0} (form : X → Part) (read : ℕ → Place → Reads X) (behind : Place → Parts) (n from : ℕ) (at : Place) (front : List Part)
-    (go : List X × Place → Reads Certificate)
-    → ((rows : List X) (after : Place) → length rows ≡ n → IsTold (front ++ map form rows) (go (rows, after)) (behind after))
+told-rows : {X : Type 0} (form : X → Part) (read : ℕ → Position → Reads X) (behind : Position → Parts) (n from : ℕ) (at : Position) (front : List Part)
+    (go : List X × Position → Reads Certificate)
+    → ((rows : List X) (after : Position) → length rows ≡ n → IsTold (front ++ map form rows) (go (rows, after)) (behind after))
     → IsTold front (numbered read from n at >>= go) (rows_then form read behind from n at)
 told-rows form read behind zero from at front go later = subst (λ l. IsTold l (go ([], at)) (behind at)) (append-nil front) (later [] at refl)
 told-rows {X} form read behind (suc n) from at front go later =
-    let others : (first : X × Place) → List X × Place → Reads (List X) = λ first rest. Ok (first.0 ∷ rest.0, rest.1) in
+    let others : (first : X × Position) → List X × Position → Reads (List X) = λ first rest. Ok (first.0 ∷ rest.0, rest.1) in
     subst (λ r. IsTold front r (rows_then form read behind from (suc n) at))
     (sym (bind-assoc (read from at) (λ first. numbered read (from + 1) n first.1 >>= others first) go))
     (told-behind front (read from at) (λ first. (numbered read (from + 1) n first.1 >>= others first) >>= go)
@@ -71,7 +71,7 @@ told-rows {X} form read behind (suc n) from at front go later =
     (λ rows after long. subst (λ l. IsTold l (go (first.0 ∷ rows, after)) (behind after)) (sym (append_assoc front (form first.0 ∷ []) (map form rows)))
     (later (first.0 ∷ rows) after (ap suc long)))))))
 
-told-end : (front : List Part) (version : Version) (c : Certificate) (at : Place) → parts_of c ≡ front
+told-end : (front : List Part) (version : Version) (c : Certificate) (at : Position) → parts_of c ≡ front
     → IsTold front (words version (word_line (codes "end")) at >>= λ end. Ok (c, end.1)) (end_parts version at)
 told-end front version c at is = told-behind front (words version (word_line (codes "end")) at) _ _ (λ end. (is ∙ sym (append-nil front), refl, refl))
 
@@ -79,15 +79,15 @@ told-end front version c at is = told-behind front (words version (word_line (co
 abbrev head_of : Version → Level → ℕ → List ℕ → OrderHead
 head_of version level s order = record { version = version; level = level; order = order; sessions = s }
 
-told-clocks : (version : Version) (level : Level) (n s : ℕ) (order : List ℕ) (at : Place)
+told-clocks : (version : Version) (level : Level) (n s : ℕ) (order : List ℕ) (at : Position)
     → IsTold (part.Order (head_of version level s order) ∷ [])
     (clocks_at version level n s at >>= λ clocks. words version (word_line (codes "end")) clocks.1 >>= λ end. Ok
     (claim.Order (with_clocks (head_of version level s order) clocks.0), end.1)) (order_rest version level n s at)
 told-clocks version Causal n s order at =
     let head = head_of version Causal s order in
     let front = part.Order head ∷ [] in
-    let row : ℕ → Place → Reads (List ℕ) = λ t. words version (numbers_line s (ranges_of version).number) in
-    let end : List (List ℕ) × Place → Reads Certificate =
+    let row : ℕ → Position → Reads (List ℕ) = λ t. words version (numbers_line s (ranges_of version).number) in
+    let end : List (List ℕ) × Position → Reads Certificate =
     λ clocks. words version (word_line (codes "end")) clocks.1 >>= λ end. Ok (claim.Order (with_clocks head clocks.0), end.1) in
     subst (λ r. IsTold front r (order_rest version Causal n s at))
     (sym (bind-assoc (words version (word_line (codes "clocks")) at) (λ mark. numbered row 0 n mark.1) end))
@@ -99,9 +99,9 @@ told-clocks version Atomic n s order at =
     let head = head_of version Atomic s order in
     told-end (part.Order head ∷ []) version (claim.Order (with_clocks head [])) at refl
 
-told-order : (version : Version) (level : Level) (n s : ℕ) (at : Place) → IsTold [] (order_at version level n s at) (order_parts version level n s at)
+told-order : (version : Version) (level : Level) (n s : ℕ) (at : Position) → IsTold [] (order_at version level n s at) (order_parts version level n s at)
 told-order version level n s at =
-    let go : List ℕ × Place → Reads Certificate =
+    let go : List ℕ × Position → Reads Certificate =
     λ order. clocks_at version level n s order.1 >>= λ clocks. words version (word_line (codes "end")) clocks.1 >>= λ end. Ok
     (claim.Order (with_clocks (head_of version level s order.0) clocks.0), end.1) in
     told-behind [] (words version (numbers_line n (ranges_of version).number) at) go
@@ -109,17 +109,17 @@ told-order version level n s at =
     (λ order. told-part [] (part.Order (head_of version level s order.0)) (go order) (order_rest version level n s order.1)
     (told-clocks version level n s order.0 order.1))
 
-told-cycle : (version : Version) (level : Level) (n count least : ℕ) (at : Place)
+told-cycle : (version : Version) (level : Level) (n count least : ℕ) (at : Position)
     → IsTold [] (cycle_at version level n count least at) (cycle_parts version level n count least at)
 told-cycle version level n count least at =
     let head : CycleHead = record { version = version; level = level; count = n; links = count; least = least } in
-    let near_row : ℕ → Place → Reads (List ℕ) = λ a. words version (numbers_line n (ranges_of version).cost) in
-    let far_row : ℕ → Place → Reads (List ℕ) = λ s. words version (numbers_line (n - lowest version s) (ranges_of version).cost) in
-    let end : List Link → List (List ℕ) → List (List ℕ) × Place → Reads Certificate =
+    let near_row : ℕ → Position → Reads (List ℕ) = λ a. words version (numbers_line n (ranges_of version).cost) in
+    let far_row : ℕ → Position → Reads (List ℕ) = λ s. words version (numbers_line (n - lowest version s) (ranges_of version).cost) in
+    let end : List Link → List (List ℕ) → List (List ℕ) × Position → Reads Certificate =
     λ links near far. words version (word_line (codes "end")) far.1 >>= λ end. Ok (claim.Cycle (with_tables head links near far.0), end.1) in
-    let far : List Link → List (List ℕ) × Place → Reads Certificate =
+    let far : List Link → List (List ℕ) × Position → Reads Certificate =
     λ links near. words version (word_line (codes "far")) near.1 >>= λ mark. numbered far_row 0 n mark.1 >>= end links near.0 in
-    let behind_links : List Link × Place → Reads Certificate =
+    let behind_links : List Link × Position → Reads Certificate =
     λ links. words version (word_line (codes "near")) links.1 >>= λ mark. numbered near_row 0 n mark.1 >>= far links.0 in
     let claim_part = part.Cycle head in
     told-part [] claim_part (repeated (link_at version) count at >>= behind_links) (link_rows version n 0 count at)
@@ -139,11 +139,11 @@ told-cycle version level n count least at =
     ∙ ap (λ m. part.Cycle (record head { links = m }) ∷ map part.Link links ++ (map part.Near near ++ map part.Far far)) many
     ∙ ap (λ t. claim_part ∷ t) (sym (append_assoc (map part.Link links) (map part.Near near) (map part.Far far))))))))))
 
-told-claim : (version : Version) (level : Level) (sizes : Sizes) (at : Place) → IsTold [] (claim_at version level sizes at) (claim_parts version level sizes at)
+told-claim : (version : Version) (level : Level) (sizes : Sizes) (at : Position) → IsTold [] (claim_at version level sizes at) (claim_parts version level sizes at)
 told-claim version level (Order n s) at = told-order version level n s at
 told-claim version level (Cycle n count least) at = told-cycle version level n count least at
 
-pub told-whole : (at : Place) → IsTold [] (certificate_at at) (whole_parts at)
+pub told-whole : (at : Position) → IsTold [] (certificate_at at) (whole_parts at)
 told-whole at =
     told-behind [] (next MAX_HEADER_BYTES header_line at) behind_header parts_behind
     (λ header. told-behind [] (words header.0.0 (sizes_line header.0.0) header.1) (λ sizes. claim_at header.0.0 header.0.1 sizes.0 sizes.1)

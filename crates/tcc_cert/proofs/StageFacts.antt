@@ -26,7 +26,7 @@ use Rattle.tcc_cert.specs.Parts.{◌>>>◌, FaultsIn, IsFirst, Parts, after_part
 use Rattle.tcc_cert.specs.Parts.{ending, far_parts, far_rows, link_rows, near_parts, order_rest, parts_behind, rows_then}
 use Rattle.tcc_cert.specs.Parts.{whole_parts}
 use Rattle.tcc_cert.specs.Shapes.{behind_table, columns_in, height, most_in, part_of, table_parts, table_rows, word_before}
-use Rattle.tcc_cert.specs.Reading.{Place, Reads, header_line, link_at, next, numbers_line, sizes_line, word_line, words}
+use Rattle.tcc_cert.specs.Reading.{Position, Reads, header_line, link_at, next, numbers_line, sizes_line, word_line, words}
 use Rattle.tcc_cert.specs.private.Stages.{TakesStep}
 use Rattle.tcc_cert.specs.Ahead.{IsBehind}
 use Rattle.tcc_cert.proofs.OnwardFacts.{IsOnward, onward-link, onward-next, onward-words}
@@ -34,71 +34,71 @@ use Rattle.tcc_cert.proofs.StepFacts.{onward-at, some-left}
 
 -- ---- parts go on from line to line, and never back
 
-onward-then : {X : Type 0} (at : Place) (read : Reads X) (behind : X × Place → Parts) → IsOnward at read → ((x : X × Place) → x.1.line ≤ (behind x).line)
+onward-then : {X : Type 0} (at : Position) (read : Reads X) (behind : X × Position → Parts) → IsOnward at read → ((x : X × Position) → x.1.line ≤ (behind x).line)
     → at.line ≤ (read >>> behind).line
 onward-then at (Ok x) behind on later = omega (arith, on.onward, later x)
 onward-then at (Err fault) behind on later = on.onward
 
-pub onward-rows : {X : Type 0} (form : X → Part) (read : ℕ → Place → Reads X) (behind : Place → Parts) (from n : ℕ)
-    → ((i : ℕ) (p : Place) → IsOnward p (read i p)) → ((p : Place) → p.line ≤ (behind p).line)
-    → (at : Place) → at.line ≤ (rows_then form read behind from n at).line
+pub onward-rows : {X : Type 0} (form : X → Part) (read : ℕ → Position → Reads X) (behind : Position → Parts) (from n : ℕ)
+    → ((i : ℕ) (p : Position) → IsOnward p (read i p)) → ((p : Position) → p.line ≤ (behind p).line)
+    → (at : Position) → at.line ≤ (rows_then form read behind from n at).line
 onward-rows form read behind from zero on later at = later at
 onward-rows form read behind from (suc n) on later at =
     onward-then at (read from at) _ (on from at) (λ row. onward-rows form read behind (from + 1) n on later row.1)
 
-pub onward-end : (version : Version) (at : Place) → at.line ≤ (end_parts version at).line
+pub onward-end : (version : Version) (at : Position) → at.line ≤ (end_parts version at).line
 onward-end version at = onward-then at (words version (word_line (codes "end")) at) _ (onward-words version (word_line (codes "end")) at) (λ end. omega arith)
 
-onward-table_rows : (version : Version) (table : TableShape) (from left : ℕ) → ((p : Place) → p.line ≤ (behind_table version table p).line) → (at : Place)
+onward-table_rows : (version : Version) (table : TableShape) (from left : ℕ) → ((p : Position) → p.line ≤ (behind_table version table p).line) → (at : Position)
     → at.line ≤ (table_rows version table from left at).line
 onward-table_rows version table from left later at =
     onward-rows (part_of table) (λ row. words version (numbers_line (columns_in version table row) (most_in version table)))
     (behind_table version table) from left
     (λ row p. onward-words version (numbers_line (columns_in version table row) (most_in version table)) p) later at
 
-pub onward-mark : (version : Version) (word : List ℕ) (behind : Place → Parts) → ((p : Place) → p.line ≤ (behind p).line) → (at : Place)
+pub onward-mark : (version : Version) (word : List ℕ) (behind : Position → Parts) → ((p : Position) → p.line ≤ (behind p).line) → (at : Position)
     → at.line ≤ (words version (word_line word) at >>> λ mark. behind mark.1).line
 onward-mark version word behind later at =
     onward-then at (words version (word_line word) at) _ (onward-words version (word_line word) at) (λ mark. later mark.1)
 
-pub onward-far : (version : Version) (n : ℕ) (at : Place) → at.line ≤ (far_parts version n at).line
+pub onward-far : (version : Version) (n : ℕ) (at : Position) → at.line ≤ (far_parts version n at).line
 onward-far version n at = onward-mark version (codes "far") (far_rows version n 0 n) (onward-table_rows version (shape.Far n) 0 n (onward-end version)) at
 
-onward-behind_table : (version : Version) (table : TableShape) (at : Place) → at.line ≤ (behind_table version table at).line
+onward-behind_table : (version : Version) (table : TableShape) (at : Position) → at.line ≤ (behind_table version table at).line
 onward-behind_table version (shape.Clocks n s) at = onward-end version at
 onward-behind_table version (shape.Near n) at = onward-far version n at
 onward-behind_table version (shape.Far n) at = onward-end version at
 
-pub onward-table : (version : Version) (table : TableShape) (from left : ℕ) (at : Place) → at.line ≤ (table_rows version table from left at).line
+pub onward-table : (version : Version) (table : TableShape) (from left : ℕ) (at : Position) → at.line ≤ (table_rows version table from left at).line
 onward-table version table from left at = onward-table_rows version table from left (onward-behind_table version table) at
 
-pub onward-marked : (version : Version) (table : TableShape) (at : Place) → at.line ≤ (table_parts version table at).line
+pub onward-marked : (version : Version) (table : TableShape) (at : Position) → at.line ≤ (table_parts version table at).line
 onward-marked version table at =
     onward-mark version (word_before table) (table_rows version table 0 (height table)) (onward-table version table 0 (height table)) at
 
-pub onward-links : (version : Version) (n from left : ℕ) (at : Place) → at.line ≤ (link_rows version n from left at).line
+pub onward-links : (version : Version) (n from left : ℕ) (at : Position) → at.line ≤ (link_rows version n from left at).line
 onward-links version n from left at =
     onward-rows part.Link (λ i. link_at version) (near_parts version n) from left (λ i p. onward-link version p) (onward-marked version (shape.Near n)) at
 
-pub onward-rest : (version : Version) (level : Level) (n s : ℕ) (at : Place) → at.line ≤ (order_rest version level n s at).line
+pub onward-rest : (version : Version) (level : Level) (n s : ℕ) (at : Position) → at.line ≤ (order_rest version level n s at).line
 onward-rest version Causal n s at = onward-marked version (shape.Clocks n s) at
 onward-rest version Atomic n s at = onward-end version at
 
-pub onward-claim : (version : Version) (level : Level) (sizes : Sizes) (at : Place) → at.line ≤ (claim_parts version level sizes at).line
+pub onward-claim : (version : Version) (level : Level) (sizes : Sizes) (at : Position) → at.line ≤ (claim_parts version level sizes at).line
 onward-claim version level (Order n s) at =
     onward-then at (words version (numbers_line n (ranges_of version).number) at) _ (onward-words version (numbers_line n (ranges_of version).number) at)
     (λ order. onward-rest version level n s order.1)
 onward-claim version level (Cycle n count least) at = onward-links version n 0 count at
 
-pub onward-behind : (header : (Version × Level) × Place) → header.1.line ≤ (parts_behind header).line
+pub onward-behind : (header : (Version × Level) × Position) → header.1.line ≤ (parts_behind header).line
 onward-behind header =
     onward-then header.1 (words header.0.0 (sizes_line header.0.0) header.1) _ (onward-words header.0.0 (sizes_line header.0.0) header.1)
     (λ sizes. onward-claim header.0.0 header.0.1 sizes.0 sizes.1)
 
-onward-whole : (at : Place) → at.line ≤ (whole_parts at).line
+onward-whole : (at : Position) → at.line ≤ (whole_parts at).line
 onward-whole at = onward-then at (next MAX_HEADER_BYTES header_line at) parts_behind (onward-next MAX_HEADER_BYTES header_line at) onward-behind
 
-pub onward-coming : (s : Coming) (at : Place) (ahead : Parts) → IsBehind s at ahead → at.line ≤ ahead.line
+pub onward-coming : (s : Coming) (at : Position) (ahead : Parts) → IsBehind s at ahead → at.line ≤ ahead.line
 onward-coming coming.Whole at ahead is = rw is (onward-whole at)
 onward-coming (coming.Links left) at ahead is = rw is.1 (onward-links left.version left.transactions is.0 left.many at)
 onward-coming (coming.Mark version table) at ahead is = rw is (onward-marked version table at)
@@ -107,8 +107,8 @@ onward-coming (coming.Rows left) at ahead is = rw is.2 (onward-table left.versio
 -- ---- what comes of a part
 
 -- it had a fault
-pub part-faults : {A F : Type 0} {at : Place} (read : Reads A) (behind : A × Place → Parts) (fault : CertFault)
-    → ((x : A × Place) → x.1.line ≤ (behind x).line) → Faults F at read fault
+pub part-faults : {A F : Type 0} {at : Position} (read : Reads A) (behind : A × Position → Parts) (fault : CertFault)
+    → ((x : A × Position) → x.1.line ≤ (behind x).line) → Faults F at read fault
     → FaultsIn F at.line (read >>> behind) fault
 part-faults read behind fault later (inl is) = inl (rw is refl)
 part-faults (Ok x) behind fault later (inr cut) = inr (record { failure = cut.failure; first = cut.first; last = omega (arith, cut.last, later x) })
@@ -127,7 +127,7 @@ step-earlier remaining wanted earlier ahead (Ok given) new le taken = taken
 step-earlier remaining wanted earlier ahead (Err fault) new le faults = wanted-earlier wanted earlier ahead fault le faults
 
 -- it was read, and what comes behind it is given
-pub part-then : {A R : Type 0} (remaining : R → Option (List ℕ)) (at : Place) {after : Place} {x : A} (read : Reads A) (behind : A × Place → Parts)
+pub part-then : {A R : Type 0} (remaining : R → Option (List ℕ)) (at : Position) {after : Position} {x : A} (read : Reads A) (behind : A × Position → Parts)
     (result : Result (Part × Stage) CertFault) (new : Input R)
     → read ≡ Ok (x, after) → at.line ≤ after.line → TakesStep remaining after.line (behind (x, after)) result new
     → TakesStep remaining at.line (read >>> behind) result new
@@ -136,7 +136,7 @@ part-then remaining at {after} {x} read behind result new is on taken =
     (step-earlier remaining after.line at.line (behind (x, after)) result new on taken)
 
 -- the sizes of a claim were read
-pub sizes-then : {R : Type 0} (remaining : R → Option (List ℕ)) (version : Version) (level : Level) (at : Place) {after : Place} {sizes : Sizes}
+pub sizes-then : {R : Type 0} (remaining : R → Option (List ℕ)) (version : Version) (level : Level) (at : Position) {after : Position} {sizes : Sizes}
     (result : Result (Part × Stage) CertFault) (new : Input R)
     → words version (sizes_line version) at ≡ Ok (sizes, after) → TakesStep remaining after.line (claim_parts version level sizes after) result new
     → TakesStep remaining at.line (parts_behind ((version, level), at)) result new
@@ -145,14 +145,14 @@ sizes-then remaining version level at result new is taken =
     (onward-at (words version (sizes_line version) at) (onward-words version (sizes_line version) at) is) taken
 
 -- the line before the rows had a fault, or was read, and what comes behind it is given
-pub mark-faults : {F : Type 0} (version : Version) (word : List ℕ) (behind : Place → Parts) (at : Place) (fault : CertFault)
-    → ((p : Place) → p.line ≤ (behind p).line) → Faults F at (words version (word_line word) at) fault
+pub mark-faults : {F : Type 0} (version : Version) (word : List ℕ) (behind : Position → Parts) (at : Position) (fault : CertFault)
+    → ((p : Position) → p.line ≤ (behind p).line) → Faults F at (words version (word_line word) at) fault
     → FaultsIn F at.line (words version (word_line word) at >>> λ mark. behind mark.1) fault
 mark-faults version word behind at fault later faults =
     part-faults (words version (word_line word) at) (λ mark. behind mark.1) fault (λ mark. later mark.1) faults
 
-pub mark-then : {R : Type 0} (remaining : R → Option (List ℕ)) (version : Version) (word : List ℕ) (behind : Place → Parts)
-    (at : Place) {after : Place} {done : Unit {0}} (result : Result (Part × Stage) CertFault) (new : Input R)
+pub mark-then : {R : Type 0} (remaining : R → Option (List ℕ)) (version : Version) (word : List ℕ) (behind : Position → Parts)
+    (at : Position) {after : Position} {done : Unit {0}} (result : Result (Part × Stage) CertFault) (new : Input R)
     → words version (word_line word) at ≡ Ok (done, after) → TakesStep remaining after.line (behind after) result new
     → TakesStep remaining at.line (words version (word_line word) at >>> λ mark. behind mark.1) result new
 mark-then remaining version word behind at result new is taken =
@@ -160,7 +160,7 @@ mark-then remaining version word behind at result new is taken =
     (onward-at (words version (word_line word) at) (onward-words version (word_line word) at) is) taken
 
 -- one row more
-pub row-more : (version : Version) (table : TableShape) (from left n : ℕ) (at after : Place) (row : List ℕ) → n ≡ suc left
+pub row-more : (version : Version) (table : TableShape) (from left n : ℕ) (at after : Position) (row : List ℕ) → n ≡ suc left
     → words version (numbers_line (columns_in version table from) (most_in version table)) at ≡ Ok (row, after)
     → table_rows version table from n at ≡ after_part (part_of table row) (table_rows version table (from + 1) left after)
 row-more version table from left n at after row more is = rw more (rw is refl)
@@ -170,7 +170,7 @@ row-first (shape.Clocks n s) row ahead rest is = is
 row-first (shape.Near n) row ahead rest is = is
 row-first (shape.Far n) row ahead rest is = is
 
-pub row-faults : {F : Type 0} (version : Version) (table : TableShape) (from left n : ℕ) (at : Place) (fault : CertFault) → n ≡ suc left
+pub row-faults : {F : Type 0} (version : Version) (table : TableShape) (from left n : ℕ) (at : Position) (fault : CertFault) → n ≡ suc left
     → Faults F at (words version (numbers_line (columns_in version table from) (most_in version table)) at) fault
     → FaultsIn F at.line (table_rows version table from n at) fault
 row-faults version table from left n at fault more faults =
@@ -178,17 +178,17 @@ row-faults version table from left n at fault more faults =
     (λ row. onward-table version table (from + 1) left row.1) faults)
 
 -- one link more
-pub link-more : (version : Version) (n from left m : ℕ) (at after : Place) (one : Link) → m ≡ suc left → link_at version at ≡ Ok (one, after)
+pub link-more : (version : Version) (n from left m : ℕ) (at after : Position) (one : Link) → m ≡ suc left → link_at version at ≡ Ok (one, after)
     → link_rows version n from m at ≡ after_part (part.Link one) (link_rows version n (from + 1) left after)
 link-more version n from left m at after one more is = rw more (rw is refl)
 
-pub link-faults : {F : Type 0} (version : Version) (n from left m : ℕ) (at : Place) (fault : CertFault) → m ≡ suc left
+pub link-faults : {F : Type 0} (version : Version) (n from left m : ℕ) (at : Position) (fault : CertFault) → m ≡ suc left
     → Faults F at (link_at version at) fault → FaultsIn F at.line (link_rows version n from m at) fault
 link-faults version n from left m at fault more faults =
     rw more (part-faults (link_at version at) _ fault (λ one. onward-links version n (from + 1) left one.1) faults)
 
 -- the line `end` was read, and something stands behind it, or the reader failed
-pub end-faults : {R : Type 0} (version : Version) (at after : Place) (done : Unit {0}) (fault : CertFault) (new : Input R)
+pub end-faults : {R : Type 0} (version : Version) (at after : Position) (done : Unit {0}) (fault : CertFault) (new : Input R)
     → words version (word_line (codes "end")) at ≡ Ok (done, after) → at.line ≤ after.line
     → Ends after (Err fault) new → FaultsIn (HasFailed new) at.line (end_parts version at) fault
 end-faults version at after done fault new is on (line, inl more) = inl (rw (is, some-left after.bytes more.1, line, more.0) refl)

@@ -9,11 +9,11 @@ use Rattle.tcc_cert.specs.declared.reading.input.Input.{Input}
 use Rattle.tcc_cert.specs.private.Inputs.{line_in, TakesLine, Gives}
 use Rattle.tcc_cert.specs.Outcomes.{IsFailure, reached}
 use Rattle.tcc_cert.specs.private.Showing.{Shows, at_line, Faults}
-use Rattle.tcc_cert.specs.Reading.{◌>>=◌, Place, Reads, behind, next, numbered}
+use Rattle.tcc_cert.specs.Reading.{◌>>=◌, Position, Reads, behind, next, numbered}
 use Rattle.tcc_cert.proofs.OnwardFacts.{IsOnward, onward-then, onward-ok, onward-next, onward-numbered}
 
 -- the first part had a fault
-pub first-faults : {A B F : Type 0} {at : Place} (read : Reads A) (go : A × Place → Reads B) (fault : CertFault) → ((x : A × Place) → IsOnward x.1 (go x))
+pub first-faults : {A B F : Type 0} {at : Position} (read : Reads A) (go : A × Position → Reads B) (fault : CertFault) → ((x : A × Position) → IsOnward x.1 (go x))
     → Faults F at read fault → Faults F at (read >>= go) fault
 first-faults read go fault later (inl is) = inl (rw is refl)
 first-faults (Ok x) go fault later (inr stopped) =
@@ -21,19 +21,19 @@ first-faults (Ok x) go fault later (inr stopped) =
 first-faults (Err e) go fault later (inr stopped) = inr (record { failure = stopped.failure; first = stopped.first; last = stopped.last })
 
 -- the reading began no later
-faults-from : {A F : Type 0} {at now : Place} (read : Reads A) (fault : CertFault) → at.line ≤ now.line → Faults F now read fault → Faults F at read fault
+faults-from : {A F : Type 0} {at now : Position} (read : Reads A) (fault : CertFault) → at.line ≤ now.line → Faults F now read fault → Faults F at read fault
 faults-from read fault on (inl is) = inl is
 faults-from read fault on (inr stopped) = inr (record { failure = stopped.failure; first = omega (arith, on, stopped.first); last = stopped.last })
 
 -- a later part had a fault
-pub later-faults : {A B F : Type 0} {at after : Place} {x : A} (read : Reads A) (go : A × Place → Reads B) (fault : CertFault) → read ≡ Ok (x, after)
+pub later-faults : {A B F : Type 0} {at after : Position} {x : A} (read : Reads A) (go : A × Position → Reads B) (fault : CertFault) → read ≡ Ok (x, after)
     → at.line ≤ after.line
     → Faults F after (go (x, after)) fault → Faults F at (read >>= go) fault
 later-faults {A} {B} {F} {at} {after} {x} read go fault is on faults =
     subst (λ r. Faults F at (r >>= go) fault) (sym is) (faults-from (go (x, after)) fault on faults)
 
 -- a part that was read ends no line before its first
-pub onward-at : {A : Type 0} {at after : Place} {x : A} (read : Reads A) → IsOnward at read → read ≡ Ok (x, after) → at.line ≤ after.line
+pub onward-at : {A : Type 0} {at after : Position} {x : A} (read : Reads A) → IsOnward at read → read ≡ Ok (x, after) → at.line ≤ after.line
 onward-at {A} {at} {after} {x} read on is = (subst (IsOnward at) is on).onward
 
 -- ---- parts by number
@@ -42,7 +42,7 @@ onward-at {A} {at} {after} {x} read on is = (subst (IsOnward at) is on).onward
 abbrev pub before_rest : {X : Type 0} → List X → Reads (List X) → Reads (List X)
 before_rest front read = read >>= λ rest. Ok (front ++ rest.0, rest.1)
 
-pub record IsPart {X : Type 0} (read : ℕ → Place → Reads X) (count : ℕ) (at : Place) (front : List X) (i : ℕ) (now : Place) : Type 0 where
+pub record IsPart {X : Type 0} (read : ℕ → Position → Reads X) (count : ℕ) (at : Position) (front : List X) (i : ℕ) (now : Position) : Type 0 where
   pub on : at.line ≤ now.line
   pub part : numbered read 0 count at ≡ before_rest front (numbered read i (count - i) now)
 
@@ -59,15 +59,15 @@ on-rest : {X : Type 0} (front : List X) (read : Reads (List X)) → reached (bef
 on-rest front (Ok x) = refl
 on-rest front (Err e) = refl
 
-module _ {X : Type 0} (read : ℕ → Place → Reads X) (count : ℕ) (at : Place) where
+module _ {X : Type 0} (read : ℕ → Position → Reads X) (count : ℕ) (at : Position) where
   pub part-none : IsPart read count at [] 0 at
   part-none = record { on = omega arith; part = ap (λ n. numbered read 0 n at) (omega arith) ∙ rest-none _ }
 
-  one-more : (i n : ℕ) (now after : Place) (x : X) → read i now ≡ Ok (x, after)
+  one-more : (i n : ℕ) (now after : Position) (x : X) → read i now ≡ Ok (x, after)
       → numbered read i (suc n) now ≡ (numbered read (i + 1) n after >>= λ others. Ok (x ∷ others.0, others.1))
   one-more i n now after x is = rw is refl
 
-  pub part-more : (front : List X) (i : ℕ) (now after : Place) (x : X) → i < count → IsOnward now (read i now) → IsPart read count at front i now
+  pub part-more : (front : List X) (i : ℕ) (now after : Position) (x : X) → i < count → IsOnward now (read i now) → IsPart read count at front i now
       → read i now ≡ Ok (x, after) → IsPart read count at (front ++ x ∷ []) (i + 1) after
   part-more front i now after x lt on so_far is =
       let left : count - i ≡ suc (count - (i + 1)) = omega arith in
@@ -80,13 +80,13 @@ module _ {X : Type 0} (read : ℕ → Place → Reads X) (count : ℕ) (at : Pla
             ∙ rest-more front x (numbered read (i + 1) (count - (i + 1)) after);
       }
 
-  pub part-all : (front : List X) (i : ℕ) (now : Place) → count ≤ i → IsPart read count at front i now → numbered read 0 count at ≡ Ok (front, now)
+  pub part-all : (front : List X) (i : ℕ) (now : Position) → count ≤ i → IsPart read count at front i now → numbered read 0 count at ≡ Ok (front, now)
   part-all front i now le so_far =
       let left : count - i ≡ 0 = omega arith in
       so_far.part ∙ ap (λ n. before_rest front (numbered read i n now)) left ∙ ap (λ l. Ok (l, now)) (append-nil front)
 
   -- the next of them had a fault
-  pub part-faults : {F : Type 0} (front : List X) (i : ℕ) (now : Place) (fault : CertFault) → i < count → ((k : ℕ) (p : Place) → IsOnward p (read k p))
+  pub part-faults : {F : Type 0} (front : List X) (i : ℕ) (now : Position) (fault : CertFault) → i < count → ((k : ℕ) (p : Position) → IsOnward p (read k p))
       → IsPart read count at front i now → Faults F now (read i now) fault
       → Faults F at (numbered read 0 count at) fault
   part-faults {F} front i now fault lt on so_far faults =
@@ -103,7 +103,7 @@ module _ {X : Type 0} (read : ℕ → Place → Reads X) (count : ℕ) (at : Pla
       (faults-from (before_rest front (numbered read i (suc n) now)) fault so_far.on whole)
 
   -- memory was refused between two of them
-  pub part-refused : {F : Type 0} (front : List X) (i : ℕ) (now : Place) (kind : CertFaultKind) → ((k : ℕ) (p : Place) → IsOnward p (read k p))
+  pub part-refused : {F : Type 0} (front : List X) (i : ℕ) (now : Position) (kind : CertFaultKind) → ((k : ℕ) (p : Position) → IsOnward p (read k p))
       → IsPart read count at front i now → IsFailure F kind
       → Faults F at (numbered read 0 count at) (record { line = now.line; kind = kind })
   part-refused front i now kind on so_far failure =
@@ -114,7 +114,7 @@ module _ {X : Type 0} (read : ℕ → Place → Reads X) (count : ℕ) (at : Pla
 -- ---- the next line
 
 -- the next line was read and judged
-pub line-shows : {R X : Type 0} (remaining : R → Option (List ℕ)) (most : ℕ) (at : Place) (number : ℕ) (form : List ℕ → Result X CertFaultKind)
+pub line-shows : {R X : Type 0} (remaining : R → Option (List ℕ)) (most : ℕ) (at : Position) (number : ℕ) (form : List ℕ → Result X CertFaultKind)
     (shown : Result X CertFaultKind) (new : Input R)
     → TakesLine remaining most at (Ok number) new → Shows shown (form (line_in new)) → Gives remaining at (next most form at) (at_line number shown) new
 line-shows remaining most at number form (Ok x) new taken shows = (behind at (line_in new), rw (taken.0, shows) refl, taken.2)

@@ -1,10 +1,12 @@
 -- Worked texts agree with the definitions.
-use Rattle.std.proofs.Common.{◌≡◌, [], ◌∷◌, refl, codes, lit<}
+use Rattle.std.proofs.Common.{◌≡◌, ℕ, List, [], ◌∷◌, refl, codes, lit<}
 use Rattle.std.proofs.lemmas.Fmt.{decimal_digit}
 use Rattle.tcc_graph.specs.declared.step.Step.TheVariants as step
 use Rattle.tcc_graph.specs.declared.link.Link.TheVariants as link
 use Rattle.tcc_cert.specs.declared.certificate.Certificate.TheVariants as claim
 use Rattle.tcc_graph.specs.declared.level.Level.TheVariants.{Causal, Atomic}
+use Rattle.tcc_cert.specs.declared.certificate.CycleClaim.{CycleClaim}
+use Rattle.tcc_cert.specs.declared.version.Version.{Version}
 use Rattle.tcc_cert.specs.declared.version.Version.TheVariants.{One, Two}
 use Rattle.tcc_cert.specs.Texts.{certificate_text}
 
@@ -26,14 +28,17 @@ stale_read : certificate_text (claim.Cycle (record {
 stale_read = rw (decimal_digit 0 (lit< tt), decimal_digit 1 (lit< tt), decimal_digit 2 (lit< tt), decimal_digit 3 (lit< tt)) refl
 
 -- two transactions that read from one another
-two_reads : certificate_text (claim.Cycle (record {
-  version = One;
+abbrev circular : Version → List (List ℕ) → CycleClaim
+circular version far = record {
+  version = version;
   level = Causal;
   links = link.Reads 1 2 (codes "x") ∷ link.Reads 2 1 (codes "y") ∷ [];
   least = 2;
   near = (2 ∷ 1 ∷ 1 ∷ []) ∷ (2 ∷ 2 ∷ 1 ∷ []) ∷ (2 ∷ 1 ∷ 2 ∷ []) ∷ [];
-  far = (2 ∷ 1 ∷ 1 ∷ []) ∷ (2 ∷ 2 ∷ 1 ∷ []) ∷ (2 ∷ 1 ∷ 2 ∷ []) ∷ [];
-}))
+  far = far;
+}
+
+two_reads : certificate_text (claim.Cycle (circular One ((2 ∷ 1 ∷ 1 ∷ []) ∷ (2 ∷ 2 ∷ 1 ∷ []) ∷ (2 ∷ 1 ∷ 2 ∷ []) ∷ [])))
     ≡ codes "tcc-certificate 1\ncycle 3 2 2\nR 1 2 x\nR 2 1 y\nnear\n2 1 1\n2 2 1\n2 1 2\nfar\n2 1 1\n2 2 1\n2 1 2\nend\n"
 two_reads = rw (decimal_digit 1 (lit< tt), decimal_digit 2 (lit< tt), decimal_digit 3 (lit< tt)) refl
 
@@ -57,14 +62,7 @@ long_fork =
     ) refl
 
 -- rows of version 2 begin at their own number
-two_reads_upward : certificate_text (claim.Cycle (record {
-  version = Two;
-  level = Causal;
-  links = link.Reads 1 2 (codes "x") ∷ link.Reads 2 1 (codes "y") ∷ [];
-  least = 2;
-  near = (2 ∷ 1 ∷ 1 ∷ []) ∷ (2 ∷ 2 ∷ 1 ∷ []) ∷ (2 ∷ 1 ∷ 2 ∷ []) ∷ [];
-  far = (2 ∷ 1 ∷ 1 ∷ []) ∷ (2 ∷ 1 ∷ []) ∷ (2 ∷ []) ∷ [];
-}))
+two_reads_upward : certificate_text (claim.Cycle (circular Two ((2 ∷ 1 ∷ 1 ∷ []) ∷ (2 ∷ 1 ∷ []) ∷ (2 ∷ []) ∷ [])))
     ≡ codes "tcc-certificate 2 causal\ncycle 3 2 2\nR 1 2 x\nR 2 1 y\nnear\n2 1 1\n2 2 1\n2 1 2\nfar\n2 1 1\n2 1\n2\nend\n"
 two_reads_upward = rw (decimal_digit 1 (lit< tt), decimal_digit 2 (lit< tt), decimal_digit 3 (lit< tt)) refl
 

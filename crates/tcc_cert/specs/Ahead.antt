@@ -9,7 +9,7 @@ use Rattle.tcc_cert.specs.declared.reading.stages.Stage.TheVariants as stage
 use Rattle.tcc_cert.specs.declared.reading.stages.Coming.TheVariants as coming
 use Rattle.tcc_cert.specs.InputBytes.{HasFailed, IsAt}
 use Rattle.tcc_cert.specs.Parts.{Parts, FaultsIn, IsFirst, stopped, ending, link_rows, whole_parts}
-use Rattle.tcc_cert.specs.Reading.{Place}
+use Rattle.tcc_cert.specs.Reading.{Position}
 use Rattle.tcc_cert.specs.Shapes.{height, links_from, rows_from, table_parts, table_rows}
 use Rattle.tcc_cert.specs.declared.reading.input.Input.{Input}
 use Rattle.tcc_cert.specs.declared.reading.stages.Coming.{Coming}
@@ -26,8 +26,8 @@ rows_in (stage.Going at) = rows_at at
 rows_in stage.Ended = 0
 rows_in (stage.Stopped fault) = 0
 
--- the parts from the place on, where this is to come
-abbrev pub IsBehind : Coming → Place → Parts → Type 0
+-- the parts from the position on, where this is to come
+abbrev pub IsBehind : Coming → Position → Parts → Type 0
 IsBehind coming.Whole at ahead = ahead ≡ whole_parts at
 IsBehind (coming.Links left) at ahead = (from : ℕ) × (ahead ≡ link_rows left.version left.transactions from left.many at)
 IsBehind (coming.Mark version table) at ahead = ahead ≡ table_parts version table at
@@ -35,7 +35,7 @@ IsBehind (coming.Rows left) at ahead =
     (from : ℕ) × (from + left.many ≡ height left.table) × (ahead ≡ table_rows left.version left.table from left.many at)
 
 abbrev pub IsAheadIn : {R : Type 0} → (R → Option (List ℕ)) → Input R → Stage → Parts → Type 0
-IsAheadIn remaining input (stage.Going coming) ahead = (at : Place) × IsAt remaining input at × IsBehind coming at ahead
+IsAheadIn remaining input (stage.Going coming) ahead = (at : Position) × IsAt remaining input at × IsBehind coming at ahead
 IsAheadIn remaining input stage.Ended ahead = ahead ≡ ending ahead.line None
 IsAheadIn remaining input (stage.Stopped fault) ahead = ahead ≡ stopped fault
 

@@ -1,8 +1,10 @@
 -- The lines of a claim of a cycle of which not all rows are there yet.
-use Rattle.std.specs.Prelude.{ℕ, List, [], ◌∷◌, ◌++◌, length, codes, decimal, flat_map}
+use Rattle.std.specs.Prelude.{ℕ, ◌≡◌, List, [], ◌∷◌, ◌++◌, length, codes, decimal, flat_map}
 use Rattle.tcc_graph.specs.declared.link.Link.{Link}
 use Rattle.tcc_graph.specs.declared.level.Level.{Level}
 use Rattle.tcc_cert.specs.declared.version.Version.{Version}
+use Rattle.tcc_cert.specs.declared.cycle_writer.CycleTable.{CycleTable}
+use Rattle.tcc_cert.specs.declared.cycle_writer.CycleTable.TheVariants as table
 use Rattle.tcc_cert.specs.declared.cycle_writer.Stage.{Stage}
 use Rattle.tcc_cert.specs.declared.cycle_writer.Stage.TheVariants.{Near, Far}
 use Rattle.tcc_cert.specs.declared.certificate.CycleClaim.{CycleClaim}
@@ -24,12 +26,15 @@ far_lines (row ∷ rows) = (codes "far" ∷ []) ∷ table_lines (row ∷ rows)
 abbrev pub given_lines : ℕ → CycleClaim → List Words
 given_lines count k = begun_lines k.version k.level count k.links k.least ++ (table_lines k.near ++ far_lines k.far)
 
--- one row more
-abbrev pub with_near : CycleClaim → List ℕ → CycleClaim
-with_near k row = record k { near = k.near ++ row ∷ [] }
+-- more rows of a table
+abbrev pub with_rows : CycleTable → CycleClaim → List (List ℕ) → CycleClaim
+with_rows table.Near k rows = record k { near = k.near ++ rows }
+with_rows table.Far k rows = record k { far = k.far ++ rows }
 
-abbrev pub with_far : CycleClaim → List ℕ → CycleClaim
-with_far k row = record k { far = k.far ++ row ∷ [] }
+-- there may be more rows of the table: none of `near` comes behind one of `far`
+abbrev pub MayTake : CycleTable → CycleClaim → Type 0
+MayTake table.Near k = k.far ≡ []
+MayTake table.Far k = Unit {0}
 
 -- rows of `far` come behind those of `near`
 abbrev pub stage_of : List (List ℕ) → Stage

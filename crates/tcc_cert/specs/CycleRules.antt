@@ -41,14 +41,18 @@ abbrev pub ends_at : ℕ → List Link → ℕ
 ends_at at [] = at
 ends_at at (l ∷ links) = ends_at (link_to l) links
 
--- the link after those before it is not right; the first has to begin where the last ends
-pub record IsLinkWrong (j : Judged) (links : List Link) (i : ℕ) : Type 0 where
+-- the link after those before it is not right, where the first has to begin at `from`
+pub record IsWrongFrom (j : Judged) (from : ℕ) (links : List Link) (i : ℕ) : Type 0 where
   pub before : List Link
   pub link : Link
   pub after : List Link
   pub split : links ≡ before ++ link ∷ after
-  pub place : i ≡ length before + 1
-  pub wrong : IsLinkRight j (ends_at (ends_at 0 links) before) link → ⊥
+  pub at : i ≡ length before + 1
+  pub wrong : IsLinkRight j (ends_at from before) link → ⊥
+
+-- the same, where it has to begin where the last ends
+abbrev pub IsLinkWrong : Judged → List Link → ℕ → Type 0
+IsLinkWrong j links i = IsWrongFrom j (ends_at 0 links) links i
 
 -- causal pairs are no farther than 1
 abbrev pub BreaksNearPair : History → List (List ℕ) → ℕ × ℕ → Type 0

@@ -4,7 +4,7 @@ use Rattle.tcc_cert.specs.declared.fault.CertFault.{CertFault}
 use Rattle.tcc_cert.specs.declared.fault.CertFaultKind.{CertFaultKind}
 use Rattle.tcc_cert.specs.declared.fault.CertFaultKind.TheVariants.{Read, NoMemory}
 use Rattle.tcc_cert.specs.declared.certificate.Certificate.{Certificate}
-use Rattle.tcc_cert.specs.Reading.{Place, Reads, certificate_at, certificate_read, start_of}
+use Rattle.tcc_cert.specs.Reading.{Position, Reads, certificate_at, certificate_read, start_of}
 
 -- what comes of a reader that failed, if it did, or where a run is out of memory
 abbrev pub IsFailure : Type 0 → CertFaultKind → Type 0
@@ -16,7 +16,7 @@ reached (Ok read) = read.1.line
 reached (Err fault) = fault.line
 
 -- the reader failed or memory was refused, no later than the line at which the reading would have ended
-pub record IsCutShort {X : Type 0} (failed : Type 0) (at : Place) (read : Reads X) (fault : CertFault) : Type 0 where
+pub record IsCutShort {X : Type 0} (failed : Type 0) (at : Position) (read : Reads X) (fault : CertFault) : Type 0 where
   pub failure : IsFailure failed fault.kind
   pub first : at.line ≤ fault.line
   pub last : fault.line ≤ reached read

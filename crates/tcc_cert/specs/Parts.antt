@@ -21,7 +21,7 @@ use Rattle.tcc_cert.specs.declared.reading.forms.Sizes.TheVariants.{Order, Cycle
 use Rattle.tcc_cert.specs.Ranges.{ranges_of}
 use Rattle.tcc_cert.specs.Tables.{lowest}
 use Rattle.tcc_cert.specs.Outcomes.{IsFailure}
-use Rattle.tcc_cert.specs.Reading.{Place, Reads, next, words, header_line, sizes_line, word_line, numbers_line, link_at, start_of}
+use Rattle.tcc_cert.specs.Reading.{Position, Reads, next, words, header_line, sizes_line, word_line, numbers_line, link_at, start_of}
 
 -- a claim of an order without its clocks, and with some
 abbrev pub order_head : OrderClaim → OrderHead
@@ -61,76 +61,76 @@ after_part first rest = record { parts = first ∷ rest.parts; line = rest.line;
 
 -- what comes behind something that was read, or its fault
 infixl 10 ◌>>>◌
-abbrev pub ◌>>>◌ : {X : Type 0} → Reads X → (X × Place → Parts) → Parts
+abbrev pub ◌>>>◌ : {X : Type 0} → Reads X → (X × Position → Parts) → Parts
 (Ok read) >>> behind = behind read
 (Err fault) >>> behind = stopped fault
 
 -- so many rows, or links, each of which goes by its number, the first of them by this one, and what comes behind them
-abbrev pub rows_then : {X : Type 0} → (X → Part) → (ℕ → Place → Reads X) → (Place → Parts) → ℕ → ℕ → Place → Parts
+abbrev pub rows_then : {X : Type 0} → (X → Part) → (ℕ → Position → Reads X) → (Position → Parts) → ℕ → ℕ → Position → Parts
 rows_then form read behind from zero at = behind at
 rows_then form read behind from (suc n) at = read from at >>> λ row. after_part (form row.0) (rows_then form read behind (from + 1) n row.1)
 
 -- the line `end`, and nothing behind it
-abbrev pub end_parts : Version → Place → Parts
+abbrev pub end_parts : Version → Position → Parts
 end_parts version at =
     words version (word_line (codes "end")) at >>> λ end. ending end.1.line (if length end.1.bytes == 0 then None else Some Trailing)
 
 -- the clocks from a row on, so many are left
-abbrev pub clock_rows : Version → ℕ → ℕ → ℕ → Place → Parts
+abbrev pub clock_rows : Version → ℕ → ℕ → ℕ → Position → Parts
 clock_rows version sessions from left at =
     rows_then part.Clocks (λ t. words version (numbers_line sessions (ranges_of version).number)) (end_parts version) from left at
 
-abbrev pub clock_parts : Version → ℕ → ℕ → Place → Parts
+abbrev pub clock_parts : Version → ℕ → ℕ → Position → Parts
 clock_parts version transactions sessions at =
     words version (word_line (codes "clocks")) at >>> λ mark. clock_rows version sessions 0 transactions mark.1
 
 -- `far` from a row on, so many are left
-abbrev pub far_rows : Version → ℕ → ℕ → ℕ → Place → Parts
+abbrev pub far_rows : Version → ℕ → ℕ → ℕ → Position → Parts
 far_rows version transactions from left at =
     rows_then part.Far (λ s. words version (numbers_line (transactions - lowest version s) (ranges_of version).cost)) (end_parts version) from left at
 
-abbrev pub far_parts : Version → ℕ → Place → Parts
+abbrev pub far_parts : Version → ℕ → Position → Parts
 far_parts version transactions at =
     words version (word_line (codes "far")) at >>> λ mark. far_rows version transactions 0 transactions mark.1
 
 -- `near` from a row on, so many are left, and `far`
-abbrev pub near_rows : Version → ℕ → ℕ → ℕ → Place → Parts
+abbrev pub near_rows : Version → ℕ → ℕ → ℕ → Position → Parts
 near_rows version transactions from left at =
     rows_then part.Near (λ a. words version (numbers_line transactions (ranges_of version).cost)) (far_parts version transactions) from left at
 
-abbrev pub near_parts : Version → ℕ → Place → Parts
+abbrev pub near_parts : Version → ℕ → Position → Parts
 near_parts version transactions at =
     words version (word_line (codes "near")) at >>> λ mark. near_rows version transactions 0 transactions mark.1
 
 -- the links of a cycle from one on, so many are left, and the tables
-abbrev pub link_rows : Version → ℕ → ℕ → ℕ → Place → Parts
+abbrev pub link_rows : Version → ℕ → ℕ → ℕ → Position → Parts
 link_rows version transactions from left at = rows_then part.Link (λ i. link_at version) (near_parts version transactions) from left at
 
 -- what comes behind the order of a claim
-abbrev pub order_rest : Version → Level → ℕ → ℕ → Place → Parts
+abbrev pub order_rest : Version → Level → ℕ → ℕ → Position → Parts
 order_rest version Causal transactions sessions at = clock_parts version transactions sessions at
 order_rest version Atomic transactions sessions at = end_parts version at
 
-abbrev pub order_parts : Version → Level → ℕ → ℕ → Place → Parts
+abbrev pub order_parts : Version → Level → ℕ → ℕ → Position → Parts
 order_parts version level transactions sessions at =
     words version (numbers_line transactions (ranges_of version).number) at
     >>> λ order. after_part (part.Order (record { version = version; level = level; order = order.0; sessions = sessions }))
     (order_rest version level transactions sessions order.1)
 
-abbrev pub cycle_parts : Version → Level → ℕ → ℕ → ℕ → Place → Parts
+abbrev pub cycle_parts : Version → Level → ℕ → ℕ → ℕ → Position → Parts
 cycle_parts version level transactions count least at =
     after_part (part.Cycle (record { version = version; level = level; count = transactions; links = count; least = least }))
     (link_rows version transactions 0 count at)
 
-abbrev pub claim_parts : Version → Level → Sizes → Place → Parts
+abbrev pub claim_parts : Version → Level → Sizes → Position → Parts
 claim_parts version level (Order transactions sessions) at = order_parts version level transactions sessions at
 claim_parts version level (Cycle transactions count least) at = cycle_parts version level transactions count least at
 
 -- what comes behind the first line
-abbrev pub parts_behind : (Version × Level) × Place → Parts
+abbrev pub parts_behind : (Version × Level) × Position → Parts
 parts_behind header = words header.0.0 (sizes_line header.0.0) header.1 >>> λ sizes. claim_parts header.0.0 header.0.1 sizes.0 sizes.1
 
-abbrev pub whole_parts : Place → Parts
+abbrev pub whole_parts : Position → Parts
 whole_parts at = next MAX_HEADER_BYTES header_line at >>> parts_behind
 
 -- the parts that the bytes give, and how that ends

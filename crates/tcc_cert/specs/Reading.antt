@@ -169,16 +169,16 @@ sizes_line version line = by_word (codes "order") (two_words (order_sizes versio
 -- ---- lines
 
 -- the number of the next line, and the bytes from it on
-pub record Place : Type 0 where
+pub record Position : Type 0 where
   pub line : ℕ
   pub bytes : List ℕ
 
 -- what was read, and where the next line begins
 abbrev pub Reads : Type 0 → Type 0
-Reads X = Result (X × Place) CertFault
+Reads X = Result (X × Position) CertFault
 
 -- what the next line shows, or its fault
-abbrev pub judged : {X : Type 0} → Place → Place → Result X CertFaultKind → Reads X
+abbrev pub judged : {X : Type 0} → Position → Position → Result X CertFaultKind → Reads X
 judged at after (Ok x) = Ok (x, after)
 judged at after (Err kind) = Err (record { line = at.line; kind = kind })
 
@@ -193,22 +193,22 @@ line_of most bytes =
     else if nat_lt (line_length bytes) (length bytes) then Ok (take (line_length bytes) bytes)
     else Err Truncated
 
--- the place behind a line of this length
-abbrev pub behind : Place → List ℕ → Place
+-- the position behind a line of this length
+abbrev pub behind : Position → List ℕ → Position
 behind at line = record { line = at.line + 1; bytes = drop (length line + 1) at.bytes }
 
 -- the next line, of at most so many bytes, judged by its form
-abbrev pub next : {X : Type 0} → ℕ → (List ℕ → Result X CertFaultKind) → Place → Reads X
+abbrev pub next : {X : Type 0} → ℕ → (List ℕ → Result X CertFaultKind) → Position → Reads X
 next most form at = do
   line ← judged at at (line_of most at.bytes)
   judged at (behind at line.0) (form line.0)
 
 -- the same of a line after the first
-abbrev pub words : {X : Type 0} → Version → (Words → Result X CertFaultKind) → Place → Reads X
+abbrev pub words : {X : Type 0} → Version → (Words → Result X CertFaultKind) → Position → Reads X
 words version form at = next (ranges_of version).line_bytes (λ line. form (words_of line)) at
 
 -- so many parts, each of which may go by its number, the first of them by this one
-abbrev pub numbered : {X : Type 0} → (ℕ → Place → Reads X) → ℕ → ℕ → Place → Reads (List X)
+abbrev pub numbered : {X : Type 0} → (ℕ → Position → Reads X) → ℕ → ℕ → Position → Reads (List X)
 numbered read from zero at = Ok ([], at)
 numbered read from (suc n) at = do
   first ← read from at
@@ -216,7 +216,7 @@ numbered read from (suc n) at = do
   Ok (first.0 ∷ others.0, others.1)
 
 -- the same part so many times
-abbrev pub repeated : {X : Type 0} → (Place → Reads X) → ℕ → Place → Reads (List X)
+abbrev pub repeated : {X : Type 0} → (Position → Reads X) → ℕ → Position → Reads (List X)
 repeated read n at = numbered (λ i. read) 0 n at
 
 -- the version and the level that the first line says
@@ -229,33 +229,33 @@ header_line line =
     else Err Header
 
 -- the link of this head, and the steps of its walk
-abbrev pub walk_of : Version → Head × Place → Reads Link
+abbrev pub walk_of : Version → Head × Position → Reads Link
 walk_of version head = do
   walk ← repeated (words version (step_line version)) head.0.steps head.1
   Ok (with_walk head.0.link walk.0, walk.1)
 
-abbrev pub link_at : Version → Place → Reads Link
+abbrev pub link_at : Version → Position → Reads Link
 link_at version at = words version (head_line version) at >>= walk_of version
 
 -- so many lines of numbers, each of as many as its number says
-abbrev pub table_at : Version → ℕ → (ℕ → ℕ) → ℕ → Place → Reads (List (List ℕ))
+abbrev pub table_at : Version → ℕ → (ℕ → ℕ) → ℕ → Position → Reads (List (List ℕ))
 table_at version rows columns most at = numbered (λ s. words version (numbers_line (columns s) most)) 0 rows at
 
 -- N lines of S numbers behind their mark, and nothing at `Atomic`
-abbrev pub clocks_at : Version → Level → ℕ → ℕ → Place → Reads (List (List ℕ))
+abbrev pub clocks_at : Version → Level → ℕ → ℕ → Position → Reads (List (List ℕ))
 clocks_at version Causal transactions sessions at = do
   mark ← words version (word_line (codes "clocks")) at
   table_at version transactions (λ t. sessions) (ranges_of version).number mark.1
 clocks_at version Atomic transactions sessions at = Ok ([], at)
 
-abbrev pub order_at : Version → Level → ℕ → ℕ → Place → Reads Certificate
+abbrev pub order_at : Version → Level → ℕ → ℕ → Position → Reads Certificate
 order_at version level transactions sessions at = do
   order ← words version (numbers_line transactions (ranges_of version).number) at
   clocks ← clocks_at version level transactions sessions order.1
   end ← words version (word_line (codes "end")) clocks.1
   Ok (claim.Order (record { version = version; level = level; order = order.0; sessions = sessions; clocks = clocks.0 }), end.1)
 
-abbrev pub cycle_at : Version → Level → ℕ → ℕ → ℕ → Place → Reads Certificate
+abbrev pub cycle_at : Version → Level → ℕ → ℕ → ℕ → Position → Reads Certificate
 cycle_at version level transactions count least at = do
   links ← repeated (link_at version) count at
   near_mark ← words version (word_line (codes "near")) links.1
@@ -265,26 +265,26 @@ cycle_at version level transactions count least at = do
   end ← words version (word_line (codes "end")) far.1
   Ok (claim.Cycle (record { version = version; level = level; links = links.0; least = least; near = near.0; far = far.0 }), end.1)
 
-abbrev pub claim_at : Version → Level → Sizes → Place → Reads Certificate
+abbrev pub claim_at : Version → Level → Sizes → Position → Reads Certificate
 claim_at version level (Order transactions sessions) at = order_at version level transactions sessions at
 claim_at version level (Cycle transactions links least) at = cycle_at version level transactions links least at
 
 -- what stands behind the first line
-abbrev pub behind_header : (Version × Level) × Place → Reads Certificate
+abbrev pub behind_header : (Version × Level) × Position → Reads Certificate
 behind_header header = do
   sizes ← words header.0.0 (sizes_line header.0.0) header.1
   claim_at header.0.0 header.0.1 sizes.0 sizes.1
 
 -- nothing stands behind the last line
-abbrev pub ended : Certificate → Place → Result Certificate CertFault
+abbrev pub ended : Certificate → Position → Result Certificate CertFault
 ended certificate at = if length at.bytes == 0 then Ok certificate else Err (record { line = at.line; kind = Trailing })
 
 -- a certificate, up to the line behind its last
-abbrev pub certificate_at : Place → Reads Certificate
+abbrev pub certificate_at : Position → Reads Certificate
 certificate_at at = next MAX_HEADER_BYTES header_line at >>= behind_header
 
 -- the whole text
-abbrev pub start_of : List ℕ → Place
+abbrev pub start_of : List ℕ → Position
 start_of bytes = record { line = 1; bytes = bytes }
 
 -- the certificate whose text the bytes are, or the first fault

@@ -7,7 +7,7 @@ use Rattle.tcc_cert.specs.declared.reading.shape.TableShape.{TableShape}
 use Rattle.tcc_cert.specs.declared.reading.shape.TableShape.TheVariants as shape
 use Rattle.tcc_cert.specs.Ranges.{ranges_of}
 use Rattle.tcc_cert.specs.Tables.{lowest}
-use Rattle.tcc_cert.specs.Reading.{Place, numbers_line, word_line, words}
+use Rattle.tcc_cert.specs.Reading.{Position, numbers_line, word_line, words}
 use Rattle.tcc_cert.specs.Parts.{◌>>>◌, Parts, end_parts, far_parts, rows_then}
 
 -- the word of the line before its rows
@@ -41,19 +41,19 @@ part_of (shape.Near transactions) row = part.Near row
 part_of (shape.Far transactions) row = part.Far row
 
 -- what comes behind its last row
-abbrev pub behind_table : Version → TableShape → Place → Parts
+abbrev pub behind_table : Version → TableShape → Position → Parts
 behind_table version (shape.Clocks transactions sessions) at = end_parts version at
 behind_table version (shape.Near transactions) at = far_parts version transactions at
 behind_table version (shape.Far transactions) at = end_parts version at
 
 -- its rows from a row on, so many are left, and what comes behind them
-abbrev pub table_rows : Version → TableShape → ℕ → ℕ → Place → Parts
+abbrev pub table_rows : Version → TableShape → ℕ → ℕ → Position → Parts
 table_rows version table from left at =
     rows_then (part_of table) (λ row. words version (numbers_line (columns_in version table row) (most_in version table)))
     (behind_table version table) from left at
 
 -- the line before its rows, and these
-abbrev pub table_parts : Version → TableShape → Place → Parts
+abbrev pub table_parts : Version → TableShape → Position → Parts
 table_parts version table at = words version (word_line (word_before table)) at >>> λ mark. table_rows version table 0 (height table) mark.1
 
 -- how many rows come before the end where so many of it are left

@@ -1,10 +1,10 @@
--- Tables of numbers, and places in them.
+-- Tables of numbers, and where something stands in them.
 use Rattle.std.specs.Prelude.{ℕ, ◌<◌, ◌≤◌, ◌≡◌, ◌-◌, ◌⊎◌, List, length, All, slice_index}
 use Rattle.tcc_cert.specs.declared.version.Version.{Version}
 use Rattle.tcc_cert.specs.declared.version.Version.TheVariants.{One, Two}
 pub use Rattle.tcc_graph.specs.Tables.{row_of}
 
--- the number at a place
+-- the number in a row and a column
 abbrev pub entry : List (List ℕ) → ℕ → ℕ → ℕ
 entry table a b = slice_index (row_of table a) b
 
@@ -39,7 +39,7 @@ IsCapped most table = All (λ row. All (λ number. number ≤ most) row) table
 abbrev pub IsEarlier : ℕ × ℕ → ℕ × ℕ → Type 0
 IsEarlier p q = (p.0 < q.0) ⊎ ((p.0 ≡ q.0) × (p.1 < q.1))
 
--- the first place at which something is broken
-pub record IsFirstPlace (broken : ℕ × ℕ → Type 0) (at : ℕ × ℕ) : Type 0 where
+-- where something is broken first
+pub record IsFirstAt (broken : ℕ × ℕ → Type 0) (at : ℕ × ℕ) : Type 0 where
   pub here : broken at
   pub first : (earlier : ℕ × ℕ) → IsEarlier earlier at → broken earlier → ⊥

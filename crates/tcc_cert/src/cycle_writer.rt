@@ -5,8 +5,8 @@ ghost use Rattle.tcc_cert.specs.declared.certificate.Certificate.TheVariants.{Cy
 ghost use Rattle.tcc_cert.specs.declared.certificate.CycleClaim.{CycleClaim};
 ghost use Rattle.tcc_cert.specs.declared.fault.CertWriteFault.TheVariants.{Device};
 ghost use Rattle.tcc_cert.specs.Texts.{line_text, lines_text, numbers_words, certificate_text};
-ghost use Rattle.tcc_cert.specs.Begun.{begun_lines, given_lines, with_near, with_far};
-ghost use Rattle.tcc_cert.specs.private.Writing.{far_mark, IsSent};
+ghost use Rattle.tcc_cert.specs.Begun.{MayTake, begun_lines, given_lines, with_rows};
+ghost use Rattle.tcc_cert.specs.private.Writing.{IsSent, far_mark, mark_before, stage_behind};
 ghost use Rattle.tcc_cert.specs.Given.{Sends};
 
 use crate::lines::{line, number_line};
@@ -15,6 +15,15 @@ use crate::writing::{cycle_sizes, header_line, link_lines};
 use crate::{CertWriteFault, CycleClaim, Links, Table, Version};
 use std::io::{self, Write};
 use tcc_graph::Level;
+
+/// One of the two tables of a cycle.
+#[derive(Clone, Copy)]
+pub enum CycleTable {
+    /// The least lengths of walks.
+    Near,
+    /// The least costs of routes upward.
+    Far,
+}
 
 /// How far the writing has come: which row may come next.
 #[derive(Clone, Copy)]
@@ -156,56 +165,40 @@ impl<'w, W: Write> CycleWriter<'w, W> {
         }
     }
 
-    /// The next row of `near`: as many numbers as there are transactions.
-    pub fn near_row(&mut self, row: &[u32]) -> Result<(), CertWriteFault>
-        ensures same_reference { self.new.out.ghost_name ≡ self.old.out.ghost_name }
-        ensures whole { (before : Option (List ℕ)) (count : ℕ) (k : CycleClaim) → HasTaken W.contents before count k self.old → k.far ≡ []
-            → OnOk result (HasTaken W.contents before count (with_near k row.now) self.new) }
-        ensures part { (before : Option (List ℕ)) (count : ℕ) (k : CycleClaim) → HasTaken W.contents before count k self.old → k.far ≡ []
-            → OnErr result ((n : ℕ) × Appends before (W.contents self.new.out.now) (take n (lines_text (given_lines count (with_near k row.now))))) }
-        ensures fails { OnErr result (HasFailed self.new) }
-        ensures stays_failed { HasFailed self.old → (result ≡ Err Device) × Keeps (W.contents self.old.out.now) (W.contents self.new.out.now) }
-    {
-        if let Stage::Failed = self.stage {
-            return Err(CertWriteFault::Device);
-        }
-        let sent = number_line(&mut self.outgoing, self.out, row);
-        self.note(sent)
-    }
-
-    /// The line before the rows of `far`, if it did not go out yet.
-    fn mark_far(&mut self) -> Result<(), CertWriteFault>
+    /// The line before the rows of the table, if it did not go out yet; that of `near` is among the first lines.
+    fn mark(&mut self, table: CycleTable) -> Result<(), CertWriteFault>
         ensures same_reference { self.new.out.ghost_name ≡ self.old.out.ghost_name }
         ensures sent { self.old.stage ≢ Stage.Failed
-            → IsSent result (W.contents self.old.out.now) self.old.outgoing (W.contents self.new.out.now) self.new.outgoing (far_mark self.old.stage) }
-        ensures stage { OnOk result (self.new.stage ≡ Stage.Far) }
+            → IsSent result (W.contents self.old.out.now) self.old.outgoing (W.contents self.new.out.now) self.new.outgoing (mark_before table self.old.stage) }
+        ensures stage { OnOk result (self.new.stage ≡ stage_behind table self.old.stage) }
         ensures fails { OnErr result (self.new.stage ≡ Stage.Failed) }
         ensures stays_failed { self.old.stage ≡ Stage.Failed → (result ≡ Err Device) × Keeps (W.contents self.old.out.now) (W.contents self.new.out.now) }
     {
-        match self.stage {
-            Stage::Near => {
+        match (self.stage, table) {
+            (Stage::Failed, _) => Err(CertWriteFault::Device),
+            (Stage::Near, CycleTable::Far) => {
                 let sent = line(&mut self.outgoing, self.out, b"far", &[]);
                 self.note(sent)?;
                 self.stage = Stage::Far;
                 Ok(())
             }
-            Stage::Far => Ok(()),
-            Stage::Failed => Err(CertWriteFault::Device),
+            (Stage::Near, CycleTable::Near) | (Stage::Far, _) => Ok(()),
         }
     }
 
-    /// The next row of `far`: in version 1 as many numbers as there are transactions, in version 2 as many as from the
-    /// row's own on.
-    pub fn far_row(&mut self, row: &[u32]) -> Result<(), CertWriteFault>
+    /// The next row of a table. One of `near` has as many numbers as there are transactions; one of `far` too in version 1, in
+    /// version 2 as many as from the row's own on.
+    pub fn row(&mut self, table: CycleTable, row: &[u32]) -> Result<(), CertWriteFault>
         ensures same_reference { self.new.out.ghost_name ≡ self.old.out.ghost_name }
-        ensures whole { (before : Option (List ℕ)) (count : ℕ) (k : CycleClaim) → HasTaken W.contents before count k self.old
-            → OnOk result (HasTaken W.contents before count (with_far k row.now) self.new) }
-        ensures part { (before : Option (List ℕ)) (count : ℕ) (k : CycleClaim) → HasTaken W.contents before count k self.old
-            → OnErr result ((n : ℕ) × Appends before (W.contents self.new.out.now) (take n (lines_text (given_lines count (with_far k row.now))))) }
+        ensures whole { (before : Option (List ℕ)) (count : ℕ) (k : CycleClaim) → HasTaken W.contents before count k self.old → MayTake table k
+            → OnOk result (HasTaken W.contents before count (with_rows table k (row.now ∷ [])) self.new) }
+        ensures part { (before : Option (List ℕ)) (count : ℕ) (k : CycleClaim) → HasTaken W.contents before count k self.old → MayTake table k
+            → OnErr result ((n : ℕ) × Appends before (W.contents self.new.out.now)
+            (take n (lines_text (given_lines count (with_rows table k (row.now ∷ [])))))) }
         ensures fails { OnErr result (HasFailed self.new) }
         ensures stays_failed { HasFailed self.old → (result ≡ Err Device) × Keeps (W.contents self.old.out.now) (W.contents self.new.out.now) }
     {
-        match self.mark_far() {
+        match self.mark(table) {
             Ok(()) => {
                 let sent = number_line(&mut self.outgoing, self.out, row);
                 self.note(sent)
@@ -235,30 +228,16 @@ impl<'w, W: Write> CycleWriter<'w, W> {
         Ok(())
     }
 
-    /// All rows of `near`.
-    fn near_table(&mut self, table: &Table) -> Result<(), CertWriteFault>
+    /// All rows of a table.
+    fn table(&mut self, table: CycleTable, rows: &Table) -> Result<(), CertWriteFault>
         ensures same_reference { self.new.out.ghost_name ≡ self.old.out.ghost_name }
-        ensures whole { (before : Option (List ℕ)) (count : ℕ) (k : CycleClaim) → HasTaken W.contents before count k self.old → k.near ≡ [] → k.far ≡ []
-            → OnOk result (HasTaken W.contents before count (record k { near = table.now }) self.new) }
-        ensures part { (before : Option (List ℕ)) (count : ℕ) (k : CycleClaim) → HasTaken W.contents before count k self.old → k.near ≡ [] → k.far ≡ []
-            → OnErr result ((n : ℕ) × Appends before (W.contents self.new.out.now) (take n (lines_text (given_lines count (record k { near = table.now }))))) }
+        ensures whole { (before : Option (List ℕ)) (count : ℕ) (k : CycleClaim) → HasTaken W.contents before count k self.old → MayTake table k
+            → OnOk result (HasTaken W.contents before count (with_rows table k rows.now) self.new) }
+        ensures part { (before : Option (List ℕ)) (count : ℕ) (k : CycleClaim) → HasTaken W.contents before count k self.old → MayTake table k
+            → OnErr result ((n : ℕ) × Appends before (W.contents self.new.out.now) (take n (lines_text (given_lines count (with_rows table k rows.now))))) }
     {
-        for row in table.as_slice() {
-            self.near_row(row.as_slice())?;
-        }
-        Ok(())
-    }
-
-    /// All rows of `far`.
-    fn far_table(&mut self, table: &Table) -> Result<(), CertWriteFault>
-        ensures same_reference { self.new.out.ghost_name ≡ self.old.out.ghost_name }
-        ensures whole { (before : Option (List ℕ)) (count : ℕ) (k : CycleClaim) → HasTaken W.contents before count k self.old → k.far ≡ []
-            → OnOk result (HasTaken W.contents before count (record k { far = table.now }) self.new) }
-        ensures part { (before : Option (List ℕ)) (count : ℕ) (k : CycleClaim) → HasTaken W.contents before count k self.old → k.far ≡ []
-            → OnErr result ((n : ℕ) × Appends before (W.contents self.new.out.now) (take n (lines_text (given_lines count (record k { far = table.now }))))) }
-    {
-        for row in table.as_slice() {
-            self.far_row(row.as_slice())?;
+        for row in rows.as_slice() {
+            self.row(table, row.as_slice())?;
         }
         Ok(())
     }
@@ -279,7 +258,7 @@ pub(crate) fn write_cycle<W: Write>(out: &mut W, claim: &CycleClaim) -> Result<(
         claim.least,
     )?;
     let mut writer = CycleWriter::behind(out, begun);
-    writer.near_table(&claim.near)?;
-    writer.far_table(&claim.far)?;
+    writer.table(CycleTable::Near, &claim.near)?;
+    writer.table(CycleTable::Far, &claim.far)?;
     writer.end()
 }

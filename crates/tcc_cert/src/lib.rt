@@ -18,7 +18,7 @@ pub mod version_2;
 mod writing;
 
 pub use certificate::{Certificate, CycleClaim, OrderClaim};
-pub use cycle_writer::{CycleWriter, write_first_lines};
+pub use cycle_writer::{CycleTable, CycleWriter, write_first_lines};
 pub use fault::{CertFault, CertFaultKind, CertWriteFault};
 pub use lists::{Links, Numbers, Table};
 pub use outgoing::Outgoing;

@@ -8,7 +8,7 @@ ghost use Rattle.tcc_cert.specs.declared.ranges.TheConstants.{MAX_HEADER_BYTES};
 ghost use Rattle.tcc_cert.specs.Outcomes.{IsReading};
 ghost use Rattle.tcc_cert.specs.private.Showing.{Shows};
 ghost use Rattle.tcc_cert.specs.Parts.{Parts, parts_read};
-ghost use Rattle.tcc_cert.specs.Reading.{Place, header_line, next, word_line, words, words_of};
+ghost use Rattle.tcc_cert.specs.Reading.{Position, header_line, next, word_line, words, words_of};
 
 mod decimals;
 mod forms;
@@ -56,7 +56,7 @@ fn mark<R: Read>(
     wanted: &[u8],
 ) -> Result<(), CertFault>
     ensures works { OnOk result (AsBefore input.old input.new) }
-    ensures gives { (at : Place) → IsAt R.remaining input.old at → Gives R.remaining at (words version (word_line wanted.now) at) result input.new }
+    ensures gives { (at : Position) → IsAt R.remaining input.old at → Gives R.remaining at (words version (word_line wanted.now) at) result input.new }
 {
     let line = input.next_of(version)?;
     at_line(line, word_line(alloc, input.line(), wanted))
@@ -82,7 +82,7 @@ fn header_line(line: &[u8]) -> Result<(Version, Level), CertFaultKind>
 /// The first line.
 fn header<R: Read>(input: &mut Input<R>) -> Result<(Version, Level), CertFault>
     ensures works { OnOk result (AsBefore input.old input.new) }
-    ensures gives { (at : Place) → IsAt R.remaining input.old at → Gives R.remaining at (next MAX_HEADER_BYTES header_line at) result input.new }
+    ensures gives { (at : Position) → IsAt R.remaining input.old at → Gives R.remaining at (next MAX_HEADER_BYTES header_line at) result input.new }
 {
     let line = input.next(MAX_HEADER_BYTES)?;
     at_line(line, header_line(input.line()))

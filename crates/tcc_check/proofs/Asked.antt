@@ -4,7 +4,7 @@ use Rattle.std.specs.Prelude.{IfOk}
 use Rattle.tcc_check.specs.declared.verdict.Rule.{Rule}
 use Rattle.tcc_check.specs.declared.verdict.Verdict.{Verdict}
 use Rattle.tcc_check.specs.declared.verdict.Verdict.TheVariants as verdict
-use Rattle.tcc_check.specs.Verdicts.{Asked, by_places, AllHold, IsFirstBroken}
+use Rattle.tcc_check.specs.Verdicts.{Asked, at_each, AllHold, IsFirstBroken}
 use Rattle.tcc_check.specs.private.Searches.{IsAnswer}
 use Rattle.tcc_check.specs.private.Coming.{first_rejected}
 use Rattle.tcc_check.proofs.First.{first_as, nowhere_as}
@@ -34,16 +34,16 @@ pub all_hold : (rules : List Asked) (answer : Verdict) → answer ≡ verdict.Ac
 all_hold rules verdict.Accepted accepted said = said
 all_hold rules (verdict.Rejected rule at) accepted said = absurd cc
 
--- the same places of a rule by other words, before one that is broken nowhere
+-- the same positions of a rule by other words, before one that is broken nowhere
 pub one_as : (a b : Rule) (P P' Q : ℕ × ℕ → Type 0) → ((at : ℕ × ℕ) → P at ↔ P' at) → ((at : ℕ × ℕ) → Q at → ⊥) → (answer : Verdict)
-    → IsAnswer (by_places a P ∷ []) answer → IsAnswer (by_places a P' ∷ by_places b Q ∷ []) answer
+    → IsAnswer (at_each a P ∷ []) answer → IsAnswer (at_each a P' ∷ at_each b Q ∷ []) answer
 one_as a b P P' Q p none verdict.Accepted said = (nowhere_as P P' (λ at. (p at).1) said.0, (none, tt))
 one_as a b P P' Q p none (verdict.Rejected rule at) (inl here) = inl (here.0, first_as P P' (λ at. (p at).0) (λ at. (p at).1) at here.1)
 one_as a b P P' Q p none (verdict.Rejected rule at) (inr behind) = absurd behind.1
 
--- the same places of two rules by other words
+-- the same positions of two rules by other words
 module _ (a b : Rule) (P Q P' Q' : ℕ × ℕ → Type 0) (p : (at : ℕ × ℕ) → P at ↔ P' at) (q : (at : ℕ × ℕ) → Q at ↔ Q' at) where
-  pub two_as : (answer : Verdict) → IsAnswer (by_places a P ∷ by_places b Q ∷ []) answer → IsAnswer (by_places a P' ∷ by_places b Q' ∷ []) answer
+  pub two_as : (answer : Verdict) → IsAnswer (at_each a P ∷ at_each b Q ∷ []) answer → IsAnswer (at_each a P' ∷ at_each b Q' ∷ []) answer
   two_as verdict.Accepted said = (nowhere_as P P' (λ at. (p at).1) said.0, (nowhere_as Q Q' (λ at. (q at).1) said.1.0, tt))
   two_as (verdict.Rejected rule at) (inl here) = inl (here.0, first_as P P' (λ at. (p at).0) (λ at. (p at).1) at here.1)
   two_as (verdict.Rejected rule at) (inr (holds, inl here)) =

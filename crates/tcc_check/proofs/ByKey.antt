@@ -9,14 +9,14 @@ use Rattle.tcc_reads.specs.History.{History, count, entry_at}
 use Rattle.tcc_graph.specs.Keys.{has_name, key_at}
 use Rattle.tcc_graph.specs.Relations.{IsReadsPair}
 use Rattle.tcc_graph.proofs.NameLemmas.{has_name-contains, contains-has_name}
-use Rattle.tcc_check.specs.private.Groups.{AreGroupsOf, links_by, total}
-use Rattle.tcc_check.specs.private.Readings.{AreReadingsAt, AreReadingsTo, KeyWeighs, PairWeighs, PlaceWeighs, ReadingWeighs, readings_at}
+use Rattle.tcc_check.specs.private.Groups.{AreGroupsOf, links_by}
+use Rattle.tcc_check.specs.private.Readings.{AreReadingsAt, AreReadingsTo, KeyWeighs, PairWeighs, KeysWeigh, ReadingWeighs, readings_at}
 use Rattle.tcc_check.specs.private.Weights.{IsLowered, unlinked}
 use Rattle.tcc_check.specs.private.WeightsFrom.{ContradictsBy, SourceWeighs}
 use Rattle.tcc_check.proofs.LinksFrom.{seconds-by, zip-at, zip-from}
 use Rattle.tcc_check.proofs.LinksFrom.{one-lowered}
 use Rattle.tcc_check.proofs.Lowering.{lowered_none, lowered_as, lowered_then, lowered_one}
-use Rattle.tcc_check.proofs.Overshot.{at_run, group_begins, group_weight, run_long}
+use Rattle.tcc_check.proofs.Grouped.{at_run, begin, group, group_begins, group_weight, in_run, run_long}
 use Rattle.tcc_txn.proofs.Lists.{from_map, in_map}
 
 -- ---- the readings of a key
@@ -46,13 +46,13 @@ module _ (sources readers : List ℕ) where
           get_or_append_left readings ((get_or readers i 0, get_or sources i 0) ∷ []) (0, 0) k (omega (arith, l, apart, before.long))
           ∙ before.at k (omega (arith, l, apart))
 
-  module _ (h : History) (place i : ℕ) (readings : List (ℕ × ℕ)) (all : i ≡ length readers) (long : length sources ≡ length readers)
-      (to : (a c : ℕ) → Contains (zip sources readers) (a, c) → IsReadsPair h a c (key_at h place))
-      (back : (a c : ℕ) → IsReadsPair h a c (key_at h place) → Contains (zip sources readers) (a, c)) (are : ArePaired i sources readers readings) where
-    pub readings-paired : AreReadingsAt h place readings
+  module _ (h : History) (key_index i : ℕ) (readings : List (ℕ × ℕ)) (all : i ≡ length readers) (long : length sources ≡ length readers)
+      (to : (a c : ℕ) → Contains (zip sources readers) (a, c) → IsReadsPair h a c (key_at h key_index))
+      (back : (a c : ℕ) → IsReadsPair h a c (key_at h key_index) → Contains (zip sources readers) (a, c)) (are : ArePaired i sources readers readings) where
+    pub readings-paired : AreReadingsAt h key_index readings
     readings-paired = record { each = λ a c w. each a c w; all = λ a c p. found a c (zip-from sources readers long a c (back a c p)) }
       where
-        each : (a c : ℕ) → Contains readings (c, a) → IsReadsPair h a c (key_at h place)
+        each : (a c : ℕ) → Contains readings (c, a) → IsReadsPair h a c (key_at h key_index)
         each a c (k, l, e) =
             let inside : k < length sources = omega (arith, l, are.long, all, long) in
             let here : (get_or readers k 0, get_or sources k 0) ≡ (c, a) =
@@ -85,21 +85,21 @@ module _ (sources readers : List ℕ) where
 -- ---- those of all keys
 
 pub no-readings : (h : History) → AreReadingsTo 0 h []
-no-readings h = record { long = refl; rows = λ place l. absurd (omega (arith, l)) }
+no-readings h = record { long = refl; rows = λ key_index l. absurd (omega (arith, l)) }
 
 pub more-readings : (i : ℕ) (h : History) (readings : List (Option (List (ℕ × ℕ)))) (more : Option (List (ℕ × ℕ))) → IfSome more (AreReadingsAt h i)
     → AreReadingsTo i h readings → AreReadingsTo (i + 1) h (readings ++ more ∷ [])
 more-readings i h readings more here before = record {
   long = length_push readings more ∙ ap (λ k. k + 1) before.long;
-  rows = λ place l. rows place l (cases_eq place i);
+  rows = λ key_index l. rows key_index l (cases_eq key_index i);
 }
   where
-    rows : (place : ℕ) → place < i + 1 → (place ≡ i) ⊎ (place ≡ i → ⊥) → IfSome (readings_at (readings ++ more ∷ []) place) (AreReadingsAt h place)
-    rows place l (inl same) =
-        rw (get_or_push readings more None place (before.long ∙ sym same)) (subst (λ (z : ℕ). IfSome more (AreReadingsAt h z)) (sym same) here)
-    rows place l (inr apart) =
-        let inside : place < length readings = omega (arith, l, apart, before.long) in
-        rw (get_or_append_left readings (more ∷ []) None place inside) (before.rows place (omega (arith, l, apart)))
+    rows : (key_index : ℕ) → key_index < i + 1 → (key_index ≡ i) ⊎ (key_index ≡ i → ⊥) → IfSome (readings_at (readings ++ more ∷ []) key_index) (AreReadingsAt h key_index)
+    rows key_index l (inl same) =
+        rw (get_or_push readings more None key_index (before.long ∙ sym same)) (subst (λ (z : ℕ). IfSome more (AreReadingsAt h z)) (sym same) here)
+    rows key_index l (inr apart) =
+        let inside : key_index < length readings = omega (arith, l, apart, before.long) in
+        rw (get_or_append_left readings (more ∷ []) None key_index inside) (before.rows key_index (omega (arith, l, apart)))
 
 -- ---- the least for readers
 
@@ -149,7 +149,7 @@ module _ (readers row : List ℕ) where
       )
 
   -- or one that is as low as any
-  pub enough-for : (i least floor : ℕ) → i ≤ length readers → least ≤ floor → All (λ number. floor ≤ number) row
+  pub enough-for : (i least floor : ℕ) → i ≤ length readers → least ≤ floor → All (λ value. floor ≤ value) row
       → All (λ reader. reader < length row) readers → IsLeastFor i readers row least → Low least × From least
   enough-for i least floor upto enough bottom below are = (low, some-for i least upto are.from)
     where
@@ -229,94 +229,84 @@ module _ (readings : List (ℕ × ℕ)) (row : List ℕ) (u : ℕ) (old new : Li
 
 -- one group more
 module _ (groups : List (ℕ × ℕ)) (members : List ℕ) (are : AreGroupsOf groups members) (row : List ℕ) (u i : ℕ) (run : List ℕ)
-    (inside : i < length groups) (is : run ≡ take (get_or groups i (0, 0)).1 (drop (total (take i groups)) members)) (old now : List ℕ)
-    (before : IsLowered (SeenReading (total (take i groups)) (links_by groups members) row u) old now) where
-  abbrev first : ℕ
-  first = total (take i groups)
-
-  abbrev group : ℕ × ℕ
-  group = get_or groups i (0, 0)
-
+    (inside : i < length groups) (is : run ≡ take (group groups i).1 (drop (begin groups i) members)) (old now : List ℕ)
+    (before : IsLowered (SeenReading (begin groups i) (links_by groups members) row u) old now) where
   abbrev links : List (ℕ × ℕ)
   links = links_by groups members
 
-  here : (k : ℕ) → k < group.1 → get_or links (first + k) (0, 0) ≡ (get_or run k 0, group.0)
-  here k l = at_run groups members are [] 0 0 i run inside is k l
+  -- what the readings before this group lower, those of it, and both
+  abbrev Earlier : ℕ → ℕ → Type 0
+  Earlier = SeenReading (begin groups i) links row u
 
-  long : length run ≡ group.1
-  long = run_long groups members are [] 0 0 i run inside is
+  abbrev Here : ℕ → ℕ → Type 0
+  Here = SourceWeighs (group groups i).0 run row
 
-  in-group : (v w : ℕ) → (v ≢ u) × (k : ℕ) × (first ≤ k) × (k < first + group.1) × ((get_or links k (0, 0)).1 ≡ v) × (w ≡ get_or row (get_or links k (0, 0)).0 0)
-      → (v ≢ u) × SourceWeighs group.0 run row v w
-  in-group v w (apart, k, from, l, source, has) =
-      let same : first + (k - first) ≡ k = omega (arith, from) in
-      let short : k - first < group.1 = omega (arith, l, from) in
-      let at : get_or links k (0, 0) ≡ (get_or run (k - first) 0, group.0) =
-      ap (λ (z : ℕ). get_or links z (0, 0)) (sym same) ∙ here (k - first) short in (
-        apart,
-        (
-          sym source ∙ ap (λ (z : ℕ × ℕ). z.1) at,
-          get_or run (k - first) 0,
-          (
-            k - first,
-            omega (arith, short, long),
-            get_or_default run (k - first) _ 0 (omega (arith, short, long)),
-          ),
-          has ∙ ap (λ (z : ℕ × ℕ). get_or row z.0 0) at,
-        ),
-      )
+  abbrev Later : ℕ → ℕ → Type 0
+  Later = SeenReading (begin groups i + (group groups i).1) links row u
 
-  split : (v w : ℕ) → SeenReading (first + group.1) links row u v w → SeenReading first links row u v w ⊎ ((v ≢ u) × SourceWeighs group.0 run row v w)
-  split v w (apart, k, l, source, has) = go (cases_lt k first)
+  long : length run ≡ (group groups i).1
+  long = run_long groups members are i run inside is
+
+  split : (v w : ℕ) → Later v w → Earlier v w ⊎ ((v ≢ u) × Here v w)
+  split v w (apart, k, l, source, has) = go (cases_lt k (begin groups i))
     where
-      go : (k < first) ⊎ (first ≤ k) → SeenReading first links row u v w ⊎ ((v ≢ u) × SourceWeighs group.0 run row v w)
+      go : (k < begin groups i) ⊎ (begin groups i ≤ k) → Earlier v w ⊎ ((v ≢ u) × Here v w)
       go (inl less) = inl (apart, k, less, source, has)
-      go (inr from) = inr (in-group v w (apart, k, from, l, source, has))
+      go (inr from) =
+          let at = in_run groups members are i run inside is k from l in
+          let short : k - begin groups i < length run = omega (arith, l, from, long) in
+          inr (
+            apart,
+            (
+              sym source ∙ ap (λ (z : ℕ × ℕ). z.1) at,
+              get_or run (k - begin groups i) 0,
+              (k - begin groups i, short, get_or_default run (k - begin groups i) _ 0 short),
+              has ∙ ap (λ (z : ℕ × ℕ). get_or row z.0 0) at,
+            ),
+          )
 
-  older : (v w : ℕ) → SeenReading first links row u v w → SeenReading (first + group.1) links row u v w
+  older : (v w : ℕ) → Earlier v w → Later v w
   older v w (apart, k, l, source, has) = (apart, k, omega (arith, l), source, has)
 
-  pub group-passed : group.0 ≡ u → IsLowered (SeenReading (first + group.1) links row u) old now
+  pub group-passed : (group groups i).0 ≡ u → IsLowered Later old now
   group-passed same = lowered_as _ _ old now older (λ v w s. back v w (split v w s)) before
     where
-      back : (v w : ℕ) → SeenReading first links row u v w ⊎ ((v ≢ u) × SourceWeighs group.0 run row v w) → SeenReading first links row u v w
+      back : (v w : ℕ) → Earlier v w ⊎ ((v ≢ u) × Here v w) → Earlier v w
       back v w (inl s) = s
       back v w (inr (apart, more)) = absurd (apart (more.0 ∙ same))
 
-  pub group-lowered : (newer : List ℕ) → group.0 ≢ u → IsLowered (SourceWeighs group.0 run row) now newer
-      → IsLowered (SeenReading (first + group.1) links row u) old newer
+  pub group-lowered : (newer : List ℕ) → (group groups i).0 ≢ u → IsLowered Here now newer → IsLowered Later old newer
   group-lowered newer other more = lowered_as _ _ old newer to (λ v w s. back v w (split v w s)) (lowered_then _ _ old now newer before more)
     where
-      to : (v w : ℕ) → SeenReading first links row u v w ⊎ SourceWeighs group.0 run row v w → SeenReading (first + group.1) links row u v w
+      to : (v w : ℕ) → Earlier v w ⊎ Here v w → Later v w
       to v w (inl s) = older v w s
       to v w (inr (source, c, (k, l, e), has)) =
-          let short : k < group.1 = omega (arith, l, long) in
-          let at = here k short in
+          let short : k < (group groups i).1 = omega (arith, l, long) in
+          let at = at_run groups members are i run inside is k short in
           let reader : get_or run k 0 ≡ c = get_or_default run k 0 c l ∙ e in (
             (λ same. other (sym source ∙ same)),
-            first + k,
+            begin groups i + k,
             omega (arith, short),
             ap (λ (z : ℕ × ℕ). z.1) at ∙ sym source,
             has ∙ ap (λ z. get_or row z 0) (sym reader) ∙ ap (λ (z : ℕ × ℕ). get_or row z.0 0) (sym at),
           )
 
-      back : (v w : ℕ) → SeenReading first links row u v w ⊎ ((v ≢ u) × SourceWeighs group.0 run row v w)
-          → SeenReading first links row u v w ⊎ SourceWeighs group.0 run row v w
+      back : (v w : ℕ) → Earlier v w ⊎ ((v ≢ u) × Here v w) → Earlier v w ⊎ Here v w
       back v w (inl s) = inl s
       back v w (inr (apart, more)) = inr more
 
 -- each group is of some reader, and of a source
 module _ (groups : List (ℕ × ℕ)) (members : List ℕ) (are : AreGroupsOf groups members) (i : ℕ) (run : List ℕ) (inside : i < length groups)
-    (is : run ≡ take (get_or groups i (0, 0)).1 (drop (total (take i groups)) members)) where
+    (is : run ≡ take (group groups i).1 (drop (begin groups i) members)) where
   pub group-some : 0 < length run
-  group-some = omega (arith, run_long groups members are [] 0 0 i run inside is, are.some i (0, 0) inside)
+  group-some = omega (arith, run_long groups members are i run inside is, are.some i (0, 0) inside)
 
 pub group-source : (groups : List (ℕ × ℕ)) (members : List ℕ) → AreGroupsOf groups members → (i n : ℕ) → i < length groups
-    → All (λ (reading : ℕ × ℕ). reading.1 < n) (links_by groups members) → (get_or groups i (0, 0)).0 < n
+    → All (λ (reading : ℕ × ℕ). reading.1 < n) (links_by groups members) → (group groups i).0 < n
 group-source groups members are i n inside below =
     omega (
       arith,
-      below (total (take i groups)) (0, 0) (group_begins groups members are i inside),
+      below (begin groups i) (0, 0) (group_begins groups members are i inside),
       group_weight groups members are i inside,
     )
 
@@ -366,7 +356,7 @@ module _ (sources readers row : List ℕ) (u : ℕ) (old new : List ℕ) where
       → IsLowered (PairWeighs sources readers row u) old new
   all-pairs i all lowered = subst (λ (z : ℕ). IsLowered (SeenPair z sources readers row u) old new) all lowered
 
--- ---- places of keys
+-- ---- written of keys
 
 -- the readings of a key are those of the list
 pub pairs-there : (h : History) (row : List ℕ) (u k : ℕ) (sources readers old new : List ℕ) → length sources ≡ length readers
@@ -396,50 +386,50 @@ pairs-there h row u k sources readers old new long to back = lowered_as _ _ old 
               ∙ ap (λ z. get_or row z 0) (sym (get_or_default readers at.0 0 c (omega (arith, at.1, long)) ∙ at.3)),
         )
 
-abbrev pub SeenPlace : ℕ → History → List ℕ → List ℕ → ℕ → ℕ → ℕ → Type 0
-SeenPlace i h places row u v w = (j : ℕ) × (j < i) × KeyWeighs h row u (get_or places j 0) v w
+abbrev pub SeenKey : ℕ → History → List ℕ → List ℕ → ℕ → ℕ → ℕ → Type 0
+SeenKey i h written row u v w = (j : ℕ) × (j < i) × KeyWeighs h row u (get_or written j 0) v w
 
-module _ (h : History) (places row : List ℕ) (u : ℕ) (old new : List ℕ) where
-  pub no-place : IsLowered (SeenPlace 0 h places row u) old old
-  no-place = lowered_none _ old (λ v w s. absurd (omega (arith, s.1)))
+module _ (h : History) (written row : List ℕ) (u : ℕ) (old new : List ℕ) where
+  pub no-key_index : IsLowered (SeenKey 0 h written row u) old old
+  no-key_index = lowered_none _ old (λ v w s. absurd (omega (arith, s.1)))
 
-  pub one-place : (i k : ℕ) (newer : List ℕ) → get_or places i 0 ≡ k → IsLowered (SeenPlace i h places row u) old new
-      → IsLowered (KeyWeighs h row u k) new newer → IsLowered (SeenPlace (i + 1) h places row u) old newer
-  one-place i k newer is before more = lowered_as _ _ old newer to (λ v w s. back v w s (cases_eq s.0 i)) (lowered_then _ _ old new newer before more)
+  pub one-key_index : (i k : ℕ) (newer : List ℕ) → get_or written i 0 ≡ k → IsLowered (SeenKey i h written row u) old new
+      → IsLowered (KeyWeighs h row u k) new newer → IsLowered (SeenKey (i + 1) h written row u) old newer
+  one-key_index i k newer is before more = lowered_as _ _ old newer to (λ v w s. back v w s (cases_eq s.0 i)) (lowered_then _ _ old new newer before more)
     where
-      to : (v w : ℕ) → SeenPlace i h places row u v w ⊎ KeyWeighs h row u k v w → SeenPlace (i + 1) h places row u v w
+      to : (v w : ℕ) → SeenKey i h written row u v w ⊎ KeyWeighs h row u k v w → SeenKey (i + 1) h written row u v w
       to v w (inl s) = (s.0, omega (arith, s.1), s.2)
       to v w (inr s) = (i, omega arith, subst (λ (z : ℕ). KeyWeighs h row u z v w) (sym is) s)
 
-      back : (v w : ℕ) (s : SeenPlace (i + 1) h places row u v w) → (s.0 ≡ i) ⊎ (s.0 ≡ i → ⊥) → SeenPlace i h places row u v w ⊎ KeyWeighs h row u k v w
-      back v w s (inl same) = inr (subst (λ (z : ℕ). KeyWeighs h row u z v w) (ap (λ z. get_or places z 0) same ∙ is) s.2)
+      back : (v w : ℕ) (s : SeenKey (i + 1) h written row u v w) → (s.0 ≡ i) ⊎ (s.0 ≡ i → ⊥) → SeenKey i h written row u v w ⊎ KeyWeighs h row u k v w
+      back v w s (inl same) = inr (subst (λ (z : ℕ). KeyWeighs h row u z v w) (ap (λ z. get_or written z 0) same ∙ is) s.2)
       back v w s (inr apart) = inl (s.0, omega (arith, s.1, apart), s.2)
 
-  pub all-places : (i : ℕ) → i ≡ length places → IsLowered (SeenPlace i h places row u) old new → IsLowered (PlaceWeighs h places row u) old new
-  all-places i all lowered = lowered_as _ _ old new
-      (λ v w s. (get_or places s.0 0, (s.0, omega (arith, s.1, all), get_or_default places s.0 _ 0 (omega (arith, s.1, all))), s.2))
+  pub all-written : (i : ℕ) → i ≡ length written → IsLowered (SeenKey i h written row u) old new → IsLowered (KeysWeigh h written row u) old new
+  all-written i all lowered = lowered_as _ _ old new
+      (λ v w s. (get_or written s.0 0, (s.0, omega (arith, s.1, all), get_or_default written s.0 _ 0 (omega (arith, s.1, all))), s.2))
       (λ v w s. (
         s.1.0,
         omega (arith, s.1.1, all),
-        subst (λ (z : ℕ). KeyWeighs h row u z v w) (sym (get_or_default places s.1.0 0 s.0 s.1.1 ∙ s.1.2)) s.2,
+        subst (λ (z : ℕ). KeyWeighs h row u z v w) (sym (get_or_default written s.1.0 0 s.0 s.1.1 ∙ s.1.2)) s.2,
       ))
       lowered
 
-  -- the places of the keys that u writes
-  pub places-written : (u ≡ 0 → ⊥) → u < count h → map (key_at h) places ≡ (entry_at h u).writes → IsLowered (PlaceWeighs h places row u) old new
+  -- the written of the keys that u writes
+  pub written-written : (u ≡ 0 → ⊥) → u < count h → map (key_at h) written ≡ (entry_at h u).writes → IsLowered (KeysWeigh h written row u) old new
       → IsLowered (ContradictsBy h row u) old new
-  places-written other below are lowered = lowered_as _ _ old new to back lowered
+  written-written other below are lowered = lowered_as _ _ old new to back lowered
     where
-      to : (v w : ℕ) → PlaceWeighs h places row u v w → ContradictsBy h row u v w
+      to : (v w : ℕ) → KeysWeigh h written row u v w → ContradictsBy h row u v w
       to v w (k, there, weighs) =
           let named : Contains (entry_at h u).writes (key_at h k) =
-          subst (λ (names : List (List ℕ)). Contains names (key_at h k)) are (in_map (key_at h) places k there) in
+          subst (λ (names : List (List ℕ)). Contains names (key_at h k)) are (in_map (key_at h) written k there) in
           let writer = or_right _ _ (contains-has_name (entry_at h u).writes (key_at h k) named) in
           (key_at h k, weighs.0, ((λ e. weighs.2 (sym e)), weighs.1, (below, writer)), weighs.3)
 
-      back : (v w : ℕ) → ContradictsBy h row u v w → PlaceWeighs h places row u v w
+      back : (v w : ℕ) → ContradictsBy h row u v w → KeysWeigh h written row u v w
       back v w (x, c, (apart, reads, (inside, writer)), has) =
-          let at = from_map (key_at h) places x (subst (λ (names : List (List ℕ)). Contains names x) (sym are) (named (or_cases _ _ writer))) in
+          let at = from_map (key_at h) written x (subst (λ (names : List (List ℕ)). Contains names x) (sym are) (named (or_cases _ _ writer))) in
           (at.0, at.1, (c, subst (λ (z : List ℕ). IsReadsPair h v c z) (sym at.2) reads, (λ e. apart (sym e)), has))
         where
           named : (eqb u 0 ≡ true) ⊎ (has_name (entry_at h u).writes x ≡ true) → Contains (entry_at h u).writes x
@@ -454,8 +444,8 @@ groups-there h row u k readings old new are = lowered_as (ReadingWeighs readings
     (λ v w s. (s.2, s.0, are.all v s.0 s.1, s.3))
 
 -- the ends of readings are transactions
-module _ (h : History) (place : ℕ) (readings : List (ℕ × ℕ)) (are : AreReadingsAt h place readings) where
-  pair-at : (j : ℕ) (e : ℕ × ℕ) → j < length readings → IsReadsPair h (get_or readings j e).1 (get_or readings j e).0 (key_at h place)
+module _ (h : History) (key_index : ℕ) (readings : List (ℕ × ℕ)) (are : AreReadingsAt h key_index readings) where
+  pair-at : (j : ℕ) (e : ℕ × ℕ) → j < length readings → IsReadsPair h (get_or readings j e).1 (get_or readings j e).0 (key_at h key_index)
   pair-at j e m = are.each _ _ (j, m, get_or_default readings j _ e m)
 
   pub sources-below : (n : ℕ) → n ≡ count h → All (λ (reading : ℕ × ℕ). reading.1 < n) readings

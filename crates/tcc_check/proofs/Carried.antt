@@ -258,8 +258,8 @@ module _ (begins row : List ℕ) (low e : ℕ) (runs : HasRuns begins) (long : l
     lower = λ l goes u run low_u. lower u run l (runs.onward e (omega (arith, long))) goes low_u (cases_eq u e);
   }
     where
-      first_place : e ≡ 0 → low ≡ 0 → get_or row (e - low) 0 ≡ get_or row 0 0
-      first_place first bottom = ap (λ k. get_or row k 0) (omega arith)
+      first_number : e ≡ 0 → low ≡ 0 → get_or row (e - low) 0 ≡ get_or row 0 0
+      first_number first bottom = ap (λ k. get_or row k 0) (omega arith)
 
       opened : (e ≡ 0) ⊎ (e ≡ 0 → ⊥) → (next ≡ unlinked) ⊎ ((low ≡ 0) × (0 < e + 1) × (next ≡ get_or row 0 0))
       opened (inl first) = let bottom : low ≡ 0 = omega arith in inr (bottom, omega arith, at_first first ∙ ap (λ k. get_or row k 0) (omega arith))
@@ -270,7 +270,7 @@ module _ (begins row : List ℕ) (low e : ℕ) (runs : HasRuns begins) (long : l
           keep (inr w) = inr (w.0, omega arith, w.2)
 
       opens : low ≡ 0 → (e ≡ 0) ⊎ (e ≡ 0 → ⊥) → next ≤ get_or row 0 0
-      opens bottom (inl first) = omega (arith, at_first first, first_place first bottom)
+      opens bottom (inl first) = omega (arith, at_first first, first_number first bottom)
       opens bottom (inr other) = omega (arith, later other, was.opens bottom (omega (arith, other)))
 
       Found : Type 0
@@ -310,38 +310,38 @@ module _ (begins row : List ℕ) (low e : ℕ) (runs : HasRuns begins) (long : l
       → IsLongRun (get_or begins e 0) row low e → ⊥
   run_short least number is here not (u, run, low_u, more) = not (omega (arith, here.lower u run low_u))
 
--- ---- one place of a row more
+-- ---- one index of a row more
 
-module _ (begins row : List ℕ) (low place : ℕ) (runs : HasRuns begins) (long : length begins ≡ low + length row) (inside : place < length row)
-    (opening least carried : ℕ) (was : IsCarried begins row low (low + place) opening least)
-    (anew : get_or begins (low + place) 0 ≡ low + place → carried ≡ opening) (on : (get_or begins (low + place) 0 ≡ low + place → ⊥) → carried ≡ least) where
+module _ (begins row : List ℕ) (low index : ℕ) (runs : HasRuns begins) (long : length begins ≡ low + length row) (inside : index < length row)
+    (opening least carried : ℕ) (was : IsCarried begins row low (low + index) opening least)
+    (anew : get_or begins (low + index) 0 ≡ low + index → carried ≡ opening) (on : (get_or begins (low + index) 0 ≡ low + index → ⊥) → carried ≡ least) where
   abbrev end : ℕ
-  end = low + place
+  end = low + index
 
-  number : get_or row place 0 ≡ get_or row (end - low) 0
+  number : get_or row index 0 ≡ get_or row (end - low) 0
   number = ap (λ k. get_or row k 0) (omega arith)
 
   least_here : IsRunLeast begins row low end carried
   least_here = run_here begins row low end runs long (omega (arith, inside)) (omega arith) opening least carried was anew on
 
   -- the number here is too great, and none before it is
-  pub first_long : get_or row place 0 ≤ unlinked → carried + 1 < get_or row place 0 → HoldsBelow end (IsLongRunTo begins row low)
+  pub first_long : get_or row index 0 ≤ unlinked → carried + 1 < get_or row index 0 → HoldsBelow end (IsLongRunTo begins row low)
       → IsFirstBelow (low + length row) (IsLongRunTo begins row low) end
   first_long fits more before = record {
     below = omega (arith, inside);
     here =
-        (omega arith, run_long begins row low end runs long (omega (arith, inside)) (omega arith) carried (get_or row place 0) number fits least_here more);
+        (omega arith, run_long begins row low end runs long (omega (arith, inside)) (omega arith) carried (get_or row index 0) number fits least_here more);
     first = before;
   }
 
   -- it isn't
-  pub none_long : (carried + 1 < get_or row place 0 → ⊥) → HoldsBelow end (IsLongRunTo begins row low)
-      → HoldsBelow (low + (place + 1)) (IsLongRunTo begins row low)
-  none_long not before = holds_below_more end (low + (place + 1)) (IsLongRunTo begins row low) (omega arith) before
-      (λ p. run_short begins row low end runs long (omega (arith, inside)) (omega arith) carried (get_or row place 0) number least_here not p.1)
+  pub none_long : (carried + 1 < get_or row index 0 → ⊥) → HoldsBelow end (IsLongRunTo begins row low)
+      → HoldsBelow (low + (index + 1)) (IsLongRunTo begins row low)
+  none_long not before = holds_below_more end (low + (index + 1)) (IsLongRunTo begins row low) (omega arith) before
+      (λ p. run_short begins row low end runs long (omega (arith, inside)) (omega arith) carried (get_or row index 0) number least_here not p.1)
 
-  pub carried_more : (next new : ℕ) → new ≡ min carried (get_or row place 0) → (end ≡ 0 → next ≡ get_or row place 0)
-      → ((end ≡ 0 → ⊥) → next ≡ opening) → IsCarried begins row low (low + (place + 1)) next new
+  pub carried_more : (next new : ℕ) → new ≡ min carried (get_or row index 0) → (end ≡ 0 → next ≡ get_or row index 0)
+      → ((end ≡ 0 → ⊥) → next ≡ opening) → IsCarried begins row low (low + (index + 1)) next new
   carried_more next new is at_first later =
       subst (λ (e : ℕ). IsCarried begins row low e next new) (omega arith)
       (carried_on begins row low end runs long (omega (arith, inside)) (omega arith) least opening carried new was least_here

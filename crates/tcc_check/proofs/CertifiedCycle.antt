@@ -133,7 +133,7 @@ module _ (h : History) (k : CycleClaim) (good : CertifiesCycle h k) where
         link = l;
         after = links;
         split = split;
-        place = refl;
+        at = refl;
         wrong = subst (λ (z : ℕ). IsLinkRight (judged h k.level) z l → ⊥) here wrong;
       })) in (
         right.0,

@@ -1,4 +1,4 @@
--- Places in tables.
+-- Positions in tables.
 use Rattle.std.proofs.Common.{◌≡◌, ◌<◌, ◌≤◌, ℕ, ◌⊎◌, inl, inr, List, [], length, get_or, arith, refl, ap}
 use Rattle.std.specs.Prelude.{All}
 use Rattle.std.proofs.lemmas.Bool.{cases_lt}
@@ -18,7 +18,7 @@ pub entry_read : (table : List (List ℕ)) (a b : ℕ) (row : List ℕ) → a < 
 entry_read table a b row inside is = ap (λ r. get_or r b 0) (get_or_read table a row inside is [])
 
 -- no number of a capped row is above the cap, nor what stands past its end
-pub capped_at : (row : List ℕ) (most : ℕ) → All (λ number. number ≤ most) row → (k : ℕ) → get_or row k 0 ≤ most
+pub capped_at : (row : List ℕ) (most : ℕ) → All (λ value. value ≤ most) row → (k : ℕ) → get_or row k 0 ≤ most
 capped_at row most capped k = go (cases_lt k (length row))
   where
     go : (k < length row) ⊎ (length row ≤ k) → get_or row k 0 ≤ most

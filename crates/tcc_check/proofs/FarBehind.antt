@@ -22,7 +22,7 @@ pub record AreFarRows (version : Version) (least : ℕ) (n : ℕ) (P : List (Lis
   pub long : length rows ≡ i
   pub left : rest.parts ≡ map part.Far todo
   pub wide : (s : ℕ) → s < i → length (row_of far s) ≡ n - lowest version s
-  pub cap : (s : ℕ) → s < i → All (λ number. number ≤ least) (row_of far s)
+  pub cap : (s : ℕ) → s < i → All (λ value. value ≤ least) (row_of far s)
   pub found : P far i faults
 
 pub record AreFarBehind (version : Version) (least : ℕ) (n : ℕ) (P : List (List ℕ) → ℕ → FarFaults → Type 0) (i : ℕ) (faults : FarFaults)
@@ -84,10 +84,10 @@ module _ (version : Version) (least : ℕ) (n : ℕ) (P : List (List ℕ) → �
     far-here = ap (λ k. get_or far k []) (sym old.long) ∙ ap (λ t. get_or t (length old.rows) []) split ∙ get_or-append_seam old.rows row next.0 []
 
     -- a row is one of the table
-    pub far-row : IsFarRight version n least far → (length row ≡ n - lowest version i) × All (λ number. number ≤ least) row
+    pub far-row : IsFarRight version n least far → (length row ≡ n - lowest version i) × All (λ value. value ≤ least) row
     far-row right = (
       sym (ap length far-here) ∙ right.0.wide i (omega (arith, inside, right.0.long)),
-      subst (λ r. All (λ number. number ≤ least) r) far-here (right.1 i [] inside),
+      subst (λ r. All (λ value. value ≤ least) r) far-here (right.1 i [] inside),
     )
 
     up-to : (P : ℕ → Type 0) → ((s : ℕ) → s < i → P s) → P i → (s : ℕ) → s < i + 1 → P s
@@ -98,7 +98,7 @@ module _ (version : Version) (least : ℕ) (n : ℕ) (P : List (List ℕ) → �
         go (inr apart) = below s (omega (arith, l, apart))
 
     -- one row more, of the right size and capped
-    pub far-rows-more : (more : FarFaults) → length row ≡ n - lowest version i → All (λ number. number ≤ least) row → P far (i + 1) more
+    pub far-rows-more : (more : FarFaults) → length row ≡ n - lowest version i → All (λ value. value ≤ least) row → P far (i + 1) more
         → AreFarRows version least n P far (i + 1) more rest
     far-rows-more more long capped found = record {
       rows = old.rows ++ row ∷ [];
@@ -107,7 +107,7 @@ module _ (version : Version) (least : ℕ) (n : ℕ) (P : List (List ℕ) → �
       long = length-append old.rows (row ∷ []) ∙ omega (arith, old.long);
       left = next.2;
       wide = up-to (λ s. length (row_of far s) ≡ n - lowest version s) old.wide (ap length far-here ∙ long);
-      cap = up-to (λ s. All (λ number. number ≤ least) (row_of far s)) old.cap (subst (λ r. All (λ number. number ≤ least) r) (sym far-here) capped);
+      cap = up-to (λ s. All (λ value. value ≤ least) (row_of far s)) old.cap (subst (λ r. All (λ value. value ≤ least) r) (sym far-here) capped);
       found = found;
     }
 
@@ -115,7 +115,7 @@ module _ (version : Version) (least : ℕ) (n : ℕ) (P : List (List ℕ) → �
     far-found = old.found
 
   pub far-more : (i : ℕ) (faults more : FarFaults) (row : List ℕ) (ahead now rest : Parts) (behind : AreFarBehind version least n P i faults ahead now)
-      (first : IsFirst (part.Far row) now rest) → length row ≡ n - lowest version i → All (λ number. number ≤ least) row
+      (first : IsFirst (part.Far row) now rest) → length row ≡ n - lowest version i → All (λ value. value ≤ least) row
       → ((far : List (List ℕ)) → row_of far i ≡ row → P far i faults → P far (i + 1) more)
       → AreFarBehind version least n P (i + 1) more ahead rest
   far-more i faults more row ahead now rest behind first long capped found = record {
@@ -141,7 +141,7 @@ module _ (version : Version) (least : ℕ) (n : ℕ) (P : List (List ℕ) → �
           let whole = long (no-rows part.Far exact old.todo (sym end ∙ old.left)) in (
             (
               record { long = whole; wide = old.wide },
-              λ k d l. subst (λ r. All (λ number. number ≤ least) r) (same k d l)
+              λ k d l. subst (λ r. All (λ value. value ≤ least) r) (same k d l)
                   (old.cap k (omega (arith, l, whole))),
             ),
             old.found,

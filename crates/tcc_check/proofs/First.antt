@@ -1,7 +1,7 @@
--- First places, row by row.
+-- First positions, row by row.
 use Rattle.std.proofs.Common.{◌≡◌, ◌<◌, ◌+◌, ℕ, ◌⊎◌, inl, inr, arith, subst}
 use Rattle.std.proofs.lemmas.Bool.{cases_eq}
-use Rattle.tcc_cert.specs.Tables.{IsEarlier, IsFirstPlace}
+use Rattle.tcc_cert.specs.Tables.{IsEarlier, IsFirstAt}
 use Rattle.tcc_cert.specs.Rules.{HoldsEverywhere}
 use Rattle.tcc_check.specs.private.Searches.{HoldsBelow}
 
@@ -26,7 +26,7 @@ holds_more i broken before row a b l p = go (cases_eq a i)
     go (inr apart) = before a b (omega arith) p
 
 pub first_in_row : (broken : ℕ × ℕ → Type 0) (a b : ℕ) → HoldsAbove a broken → broken (a, b) → ((c : ℕ) → c < b → broken (a, c) → ⊥)
-    → IsFirstPlace broken (a, b)
+    → IsFirstAt broken (a, b)
 first_in_row broken a b before here first = record {
   here = here;
   first = λ earlier l p. go earlier p l;
@@ -39,8 +39,8 @@ first_in_row broken a b before here first = record {
 pub nowhere : (n : ℕ) (broken : ℕ × ℕ → Type 0) → ((a b : ℕ) → broken (a, b) → a < n) → HoldsAbove n broken → HoldsEverywhere broken
 nowhere n broken bound all at p = all at.0 at.1 (bound at.0 at.1 p) p
 
--- the same places by other words
-pub first_as : (P Q : ℕ × ℕ → Type 0) → ((at : ℕ × ℕ) → P at → Q at) → ((at : ℕ × ℕ) → Q at → P at) → (at : ℕ × ℕ) → IsFirstPlace P at → IsFirstPlace Q at
+-- the same positions by other words
+pub first_as : (P Q : ℕ × ℕ → Type 0) → ((at : ℕ × ℕ) → P at → Q at) → ((at : ℕ × ℕ) → Q at → P at) → (at : ℕ × ℕ) → IsFirstAt P at → IsFirstAt Q at
 first_as P Q to back at h = record { here = to at h.here; first = λ earlier l q. h.first earlier l (back earlier q) }
 
 pub nowhere_as : (P Q : ℕ × ℕ → Type 0) → ((at : ℕ × ℕ) → Q at → P at) → HoldsEverywhere P → HoldsEverywhere Q

@@ -1,6 +1,6 @@
 -- Groups of links, as they are made and as they are gone through.
-use Rattle.std.proofs.Common.{◌≡◌, ◌<◌, ◌≤◌, ◌+◌, ℕ, zero, suc, ◌⊎◌, inl, inr, List, [], ◌∷◌, ◌++◌}
-use Rattle.std.proofs.Common.{length, get_or, take, drop, append_assoc, append-nil, arith, refl}
+use Rattle.std.proofs.Common.{◌≡◌, ◌<◌, ◌≤◌, ◌+◌, ◌-◌, ℕ, zero, suc, ◌⊎◌, inl, inr, List, [], ◌∷◌, ◌++◌}
+use Rattle.std.proofs.Common.{length, get_or, take, drop, drop-drop, append_assoc, append-nil, arith, refl}
 use Rattle.std.proofs.Common.{sym, ap, subst, ◌∙◌}
 use Rattle.std.specs.Prelude.{All}
 use Rattle.std.proofs.lemmas.Bool.{cases_eq}
@@ -166,3 +166,68 @@ part-long ends first n inside = length-take-le n (drop first ends) (omega (arith
 pub part-at : (ends : List ℕ) (first n k d : ℕ) → first + n ≤ length ends → k < n → get_or (take n (drop first ends)) k d ≡ get_or ends (first + k) 0
 part-at ends first n k d inside l =
     get_or-take n (drop first ends) k d l ∙ get_or-drop first ends k d ∙ get_or_default ends (first + k) d 0 (omega (arith, inside, l))
+
+-- ---- one group of them
+
+-- where its ends begin, and how it is
+abbrev pub begin : List (ℕ × ℕ) → ℕ → ℕ
+begin groups i = total (take i groups)
+
+abbrev pub group : List (ℕ × ℕ) → ℕ → ℕ × ℕ
+group groups i = get_or groups i (0, 0)
+
+module _ (groups : List (ℕ × ℕ)) (ends : List ℕ) (are : AreGroupsOf groups ends) where
+  -- a group ends inside
+  pub group_inside : (i : ℕ) → i < length groups → begin groups i + (group groups i).1 ≤ length ends
+  group_inside i inside = omega (arith, total-more groups i inside, total-within groups (i + 1), are.all)
+
+  -- and begins inside, since none is empty
+  pub group_begins : (i : ℕ) → i < length groups → begin groups i < length (links_by groups ends)
+  group_begins i inside = omega (arith, group_inside i inside, are.some i (0, 0) inside, length-links groups ends are.all)
+
+  -- its first link has its weight
+  pub group_weight : (i : ℕ) → i < length groups → (get_or (links_by groups ends) (begin groups i) (0, 0)).1 ≡ (group groups i).0
+  group_weight i inside =
+      ap (λ k. (get_or (links_by groups ends) k (0, 0)).1) (omega arith)
+      ∙ ap (λ (z : ℕ × ℕ). z.1) (in-group groups ends i 0 are.all inside (are.some i (0, 0) inside))
+
+  -- behind the last group all links were gone through
+  pub groups_end : (i : ℕ) → length groups ≤ i → begin groups i ≡ length (links_by groups ends)
+  groups_end i all = ap total (take_all i groups all) ∙ are.all ∙ sym (length-links groups ends are.all)
+
+  module _ (i : ℕ) (inside : i < length groups) (left : List ℕ) (is : left ≡ drop (begin groups i) ends) where
+    -- what is left before a group has its ends
+    pub group_fits : (group groups i).1 ≤ length left
+    group_fits = omega (arith, group_inside i inside, ap length is, length-drop (begin groups i) ends)
+
+    -- and what is left behind it those of the next
+    pub group_left : (rest : List ℕ) → rest ≡ drop (group groups i).1 left → rest ≡ drop (begin groups (i + 1)) ends
+    group_left rest behind =
+        behind ∙ ap (drop (group groups i).1) is ∙ drop-drop (group groups i).1 (begin groups i) ends
+        ∙ ap (λ n. drop n ends) (sym (total-more groups i inside))
+
+  module _ (i : ℕ) (run : List ℕ) (inside : i < length groups) (is : run ≡ take (group groups i).1 (drop (begin groups i) ends)) where
+    pub run_long : length run ≡ (group groups i).1
+    run_long = ap length is ∙ part-long ends (begin groups i) (group groups i).1 (group_inside i inside)
+
+    are_run : (k d : ℕ) → k < length run → get_or run k d ≡ get_or ends (begin groups i + k) 0
+    are_run k d l =
+        ap (λ r. get_or r k d) is ∙ part-at ends (begin groups i) (group groups i).1 k d (group_inside i inside) (omega (arith, l, run_long))
+
+    -- its ends are below the number that all links' ends are below
+    pub group_below : (m : ℕ) → All (λ (link : ℕ × ℕ). link.0 < m) (links_by groups ends) → All (λ end. end < m) run
+    group_below m all k d l =
+        let at = in-group groups ends i k are.all inside (omega (arith, l, run_long)) in
+        let link = all (begin groups i + k) (0, 0) (omega (arith, l, run_long, group_inside i inside, length-links groups ends are.all)) in
+        omega (arith, are_run k d l, ap (λ (z : ℕ × ℕ). z.0) at, link)
+
+    -- its links, by their index in it and by that among all
+    pub at_run : (k : ℕ) → k < (group groups i).1 → get_or (links_by groups ends) (begin groups i + k) (0, 0) ≡ (get_or run k 0, (group groups i).0)
+    at_run k l =
+        in-group groups ends i k are.all inside l ∙ ap (λ (z : ℕ). (z, (group groups i).0)) (sym (are_run k 0 (omega (arith, l, run_long))))
+
+    pub in_run : (k : ℕ) → begin groups i ≤ k → k < begin groups i + (group groups i).1
+        → get_or (links_by groups ends) k (0, 0) ≡ (get_or run (k - begin groups i) 0, (group groups i).0)
+    in_run k from l =
+        let same : begin groups i + (k - begin groups i) ≡ k = omega (arith, from) in
+        ap (λ (z : ℕ). get_or (links_by groups ends) z (0, 0)) (sym same) ∙ at_run (k - begin groups i) (omega (arith, l, from))

@@ -40,7 +40,7 @@ fault-behind bytes given rest fault is fails =
     stream-fault bytes fault (fails-back (parts_read bytes) rest fault (sym (ap (λ p. p.line) is)) (sym (ap (λ p. p.fault) is)) fails)
 
 -- what is said of a claim and the parts behind it is said of the certificate
-pub judged-behind : (h : History) (bytes : List ℕ) (given : Part) (rest : Parts) (said : Judgement → Type 0) (o : Result Judgement StreamFault)
+judged-behind : (h : History) (bytes : List ℕ) (given : Part) (rest : Parts) (said : Judgement → Type 0) (o : Result Judgement StreamFault)
     → parts_read bytes ≡ after_part given rest
     → ((c : Certificate) (judgement : Judgement) → given ∷ rest.parts ≡ parts_of c → said judgement
     → (judgement.claim ≡ claim_of c) × IsVerdict h c judgement.verdict)
@@ -61,7 +61,7 @@ sized-answer h k rest (Some answer) false judged end = inl (refl, (refl, λ righ
 sized-answer h k rest None at_once wrong end = inl (refl, (refl, wrong))
 
 -- the verdict on the parts of a certificate is that on the certificate
-pub order-judged : (h : History) (c : Certificate) (head : OrderHead) (rest : Parts) (judgement : Judgement)
+order-judged : (h : History) (c : Certificate) (head : OrderHead) (rest : Parts) (judgement : Judgement)
     → part.Order head ∷ rest.parts ≡ parts_of c → IsOrderJudged h head rest judgement
     → (judgement.claim ≡ claim_of c) × IsVerdict h c judgement.verdict
 order-judged h (certificate.Order k) head rest judgement is said =
@@ -73,7 +73,7 @@ order-judged h (certificate.Order k) head rest judgement is said =
     )
 order-judged h (certificate.Cycle k) head rest judgement is said = absurd cc
 
-pub cycle-judged : (h : History) (c : Certificate) (head : CycleHead) (rest : Parts) (judgement : Judgement)
+cycle-judged : (h : History) (c : Certificate) (head : CycleHead) (rest : Parts) (judgement : Judgement)
     → part.Cycle head ∷ rest.parts ≡ parts_of c → IsCycleJudged h head rest judgement
     → (judgement.claim ≡ claim_of c) × IsVerdict h c judgement.verdict
 cycle-judged h (certificate.Order k) head rest judgement is said = absurd cc
@@ -86,3 +86,12 @@ cycle-judged h (certificate.Cycle k) head rest judgement is said =
       verdict_of h (certificate.Cycle k) judgement.verdict
           (subst (λ (o : CycleHead). IsAnswer (cycle_rules h (with_tables o k.links k.near k.far)) judgement.verdict) same answer),
     )
+
+-- what is said of a claim and the parts behind it is said of the text
+pub order-behind : (h : History) (bytes : List ℕ) (head : OrderHead) (rest : Parts) (o : Result Judgement StreamFault)
+    → parts_read bytes ≡ after_part (part.Order head) rest → Finishes rest (IsOrderJudged h head rest) o → IsJudged h bytes o
+order-behind h bytes head rest o is = judged-behind h bytes (part.Order head) rest (IsOrderJudged h head rest) o is (λ k. order-judged h k head rest)
+
+pub cycle-behind : (h : History) (bytes : List ℕ) (head : CycleHead) (rest : Parts) (o : Result Judgement StreamFault)
+    → parts_read bytes ≡ after_part (part.Cycle head) rest → Finishes rest (IsCycleJudged h head rest) o → IsJudged h bytes o
+cycle-behind h bytes head rest o is = judged-behind h bytes (part.Cycle head) rest (IsCycleJudged h head rest) o is (λ k. cycle-judged h k head rest)

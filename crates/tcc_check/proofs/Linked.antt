@@ -10,12 +10,12 @@ use Rattle.tcc_graph.specs.Levels.{Judged, judged}
 use Rattle.tcc_graph.specs.Links.{cost, link_cost, link_from, link_to}
 use Rattle.tcc_graph.specs.declared.link.Link.{Link}
 use Rattle.tcc_graph.proofs.Linking.{cost_append, one_cost}
-use Rattle.tcc_cert.specs.CycleRules.{IsLinkRight, IsLinkWrong, ends_at}
+use Rattle.tcc_cert.specs.CycleRules.{IsLinkRight, IsLinkWrong, IsWrongFrom, ends_at}
 use Rattle.tcc_cert.specs.Rules.{IsRightCycle}
 use Rattle.tcc_cert.specs.declared.certificate.CycleClaim.{CycleClaim}
 use Rattle.tcc_cert.proofs.Ends.{ends_at-push, ends_at_some}
 use Rattle.tcc_check.specs.declared.links.LinksSeen.{LinksSeen}
-use Rattle.tcc_check.specs.private.Links.{AreSeenTo, IsFirstWrongFrom, IsWrongFrom, begins_at, ends_or, first_wrong, left_behind}
+use Rattle.tcc_check.specs.private.Links.{AreSeenTo, IsFirstWrongFrom, begins_at, ends_or, first_wrong, left_behind}
 use Rattle.tcc_check.specs.Verdicts.{IsCycleFault}
 
 -- ---- the next link
@@ -26,7 +26,7 @@ module _ (j : Judged) (links : List Link) (i : ℕ) (l : Link) (inside : i < len
 
   wrong_here : IsWrongFrom j from links (i + 1) → IsLinkRight j (ends_at from (take i links)) l → ⊥
   wrong_here w right =
-      let long : length w.before ≡ i = omega (arith, w.place) in
+      let long : length w.before ≡ i = omega (arith, w.at) in
       let same : l ≡ w.link = is ∙ ap (λ z. get_or z i l) w.split ∙ get_or_at w.before w.link w.after l i long in
       let front : take i links ≡ w.before = ap (take i) w.split ∙ take_at w.before (w.link ∷ w.after) i long in
       w.wrong (subst (λ (z : Link). IsLinkRight j (ends_at from w.before) z) same
@@ -48,7 +48,7 @@ module _ (j : Judged) (links : List Link) (i : ℕ) (l : Link) (inside : i < len
       link = l;
       after = drop (i + 1) links;
       split = sym (take-append-drop i links) ∙ ap (λ z. take i links ++ z) (drop_more links i l inside ∙ ap (λ z. z ∷ drop (i + 1) links) (sym is));
-      place = omega (arith, length-take-le i links (omega (arith, inside)));
+      at = omega (arith, length-take-le i links (omega (arith, inside)));
       wrong = wrong;
     };
     first = λ n lt other. so_far n (omega (arith, lt)) other;
@@ -108,7 +108,7 @@ module _ (j : Judged) (links : List Link) (i : ℕ) (l : Link) (inside : i < len
       }
 
 pub seen_none : (j : Judged) (least : ℕ) (links : List Link) → AreSeenTo j least links 0 (record { ends = None; wrong = None; left = Some least })
-seen_none j least links = record { ends = refl; wrong = λ n le wrong. absurd (omega (arith, le, wrong.place)); left = omega arith }
+seen_none j least links = record { ends = refl; wrong = λ n le wrong. absurd (omega (arith, le, wrong.at)); left = omega arith }
 
 -- nothing is left where all was to be spent
 pub used_up : (least spent : ℕ) (left : Option ℕ) → MatchOption left (least < spent) (λ left. spent + left ≡ least) → spent ≡ least → left ≡ Some 0
@@ -126,29 +126,15 @@ module _ (h : History) (k : CycleClaim) where
   j = judged h k.level
 
   as_wrong : begins_at k.links ≡ ends_at 0 k.links → (n : ℕ) → IsWrongFrom j (begins_at k.links) k.links n → IsLinkWrong j k.links n
-  as_wrong closed n w = record {
-    before = w.before;
-    link = w.link;
-    after = w.after;
-    split = w.split;
-    place = w.place;
-    wrong = subst (λ (at : ℕ). IsLinkRight j (ends_at at w.before) w.link → ⊥) closed w.wrong;
-  }
+  as_wrong closed n w = subst (λ (from : ℕ). IsWrongFrom j from k.links n) closed w
 
   wrong_as : begins_at k.links ≡ ends_at 0 k.links → (n : ℕ) → IsLinkWrong j k.links n → IsWrongFrom j (begins_at k.links) k.links n
-  wrong_as closed n w = record {
-    before = w.before;
-    link = w.link;
-    after = w.after;
-    split = w.split;
-    place = w.place;
-    wrong = subst (λ (at : ℕ). IsLinkRight j (ends_at at w.before) w.link → ⊥) (sym closed) w.wrong;
-  }
+  wrong_as closed n w = subst (λ (from : ℕ). IsWrongFrom j from k.links n) (sym closed) w
 
   none_wrong : ((n : ℕ) → n ≤ length k.links → IsWrongFrom j (begins_at k.links) k.links n → ⊥) → begins_at k.links ≡ ends_at 0 k.links
       → (n : ℕ) → IsLinkWrong j k.links n → ⊥
   none_wrong right closed n w =
-      right n (omega (arith, w.place, ap length w.split, length-append w.before (w.link ∷ w.after))) (wrong_as closed n w)
+      right n (omega (arith, w.at, ap length w.split, length-append w.before (w.link ∷ w.after))) (wrong_as closed n w)
 
   -- there is no link
   pub fault_empty : length k.links ≡ 0 → IsCycleFault h k (0, 0)
@@ -157,7 +143,7 @@ module _ (h : History) (k : CycleClaim) where
 
   -- the first does not begin where the last ends
   pub fault_open : 0 < length k.links → (begins_at k.links ≡ ends_at 0 k.links → ⊥) → IsCycleFault h k (1, 0)
-  fault_open some apart = inl (go k.links refl some, (refl, λ n lt w. omega (arith, lt, w.place)))
+  fault_open some apart = inl (go k.links refl some, (refl, λ n lt w. omega (arith, lt, w.at)))
     where
       go : (links : List Link) → k.links ≡ links → 0 < length links → IsLinkWrong j k.links 1
       go [] same some = absurd (omega (arith, some))
@@ -166,7 +152,7 @@ module _ (h : History) (k : CycleClaim) where
         link = l;
         after = links;
         split = same;
-        place = refl;
+        at = refl;
         wrong = λ right. apart (ap begins_at same ∙ right.0);
       }
 

@@ -81,10 +81,10 @@ near-here rows n row ahead now rest behind first near far long is =
 -- so it is right, where the table is
 pub near-row : (rows : List (List ℕ)) (n least : ℕ) (row : List ℕ) (ahead now rest : Parts) → IsNearBehind rows n ahead now → IsFirst (part.Near row) now rest
     → (near far : List (List ℕ)) → length near ≡ n → ahead.parts ≡ map part.Near near ++ map part.Far far → IsNearRight n least near
-    → (length row ≡ n) × All (λ number. number ≤ least) row
+    → (length row ≡ n) × All (λ value. value ≤ least) row
 near-row rows n least row ahead now rest behind first near far long is right = (
   subst (λ r. length r ≡ n) here (right.0.wide (length rows) [] inside),
-  subst (λ r. All (λ number. number ≤ least) r) here (right.1 (length rows) [] inside),
+  subst (λ r. All (λ value. value ≤ least) r) here (right.1 (length rows) [] inside),
 )
   where
     old : (todo : List (List ℕ)) × (near ≡ rows ++ todo) × (now.parts ≡ map part.Near todo ++ map part.Far far)
@@ -134,13 +134,13 @@ module _ (n least : ℕ) (P : List (List ℕ) → ℕ → NearRows → Type 0) w
   }
 
   pub near-goes-on : (i : ℕ) (state new : NearRows) (rows : List (List ℕ)) (row : List ℕ) (ahead now rest : Parts)
-      → AreNearBehind n least P i state rows ahead now → IsFirst (part.Near row) now rest → length row ≡ n → All (λ number. number ≤ least) row
+      → AreNearBehind n least P i state rows ahead now → IsFirst (part.Near row) now rest → length row ≡ n → All (λ value. value ≤ least) row
       → ((near : List (List ℕ)) → row_of near i ≡ row → P near i state → P near (i + 1) new) → AreNearBehind n least P (i + 1) new (rows ++ row ∷ []) ahead rest
   near-goes-on i state new rows row ahead now rest old first long capped more = record {
     behind = near-more rows n row ahead now rest old.behind first;
     long = length-append rows (row ∷ []) ∙ omega (arith, old.long);
     wide = All-push (λ row. length row ≡ n) rows row old.wide long;
-    cap = All-push (λ row. All (λ number. number ≤ least) row) rows row old.cap capped;
+    cap = All-push (λ row. All (λ value. value ≤ least) row) rows row old.cap capped;
     found =
         λ near far whole is. more near (ap (λ k. get_or near k []) (sym old.long) ∙ near-here rows n row ahead now rest old.behind first near far whole is)
         (old.found near far whole is);

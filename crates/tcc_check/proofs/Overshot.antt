@@ -4,12 +4,12 @@ use Rattle.std.specs.Prelude.{All}
 use Rattle.std.proofs.lemmas.Bool.{cases_eq, cases_lt}
 use Rattle.std.proofs.lemmas.List.{get_or_default}
 use Rattle.tcc_check.specs.private.Weights.{AreByWeight}
-use Rattle.tcc_check.specs.private.Groups.{AreGroupsOf, links_by, total}
+use Rattle.tcc_check.specs.private.Groups.{AreGroupsOf, links_by}
 use Rattle.tcc_check.specs.private.Searches.{IsFoundBelow, IsOvershot, IsOvershotAt, IsLongOther, lesser}
 use Rattle.tcc_check.specs.private.WeightsFrom.{ends_of}
 use Rattle.tcc_check.proofs.Entries.{capped_at}
 use Rattle.tcc_check.proofs.Found.{found_as, found_either, found_here}
-use Rattle.tcc_check.proofs.Grouped.{in-group, length-links, part-at, part-long, total-more, total-within}
+use Rattle.tcc_check.proofs.Grouped.{at_run, begin, group, in_run, run_long}
 
 -- one of the first i links takes less
 abbrev pub SeenOver : ℕ → List (ℕ × ℕ) → List ℕ → ℕ → ℕ → ℕ → Type 0
@@ -46,7 +46,7 @@ module _ (ends : List (ℕ × ℕ)) (row : List ℕ) (low before : ℕ) where
       (λ v p. subst (λ (z : ℕ). SeenOver z ends row low before v) (sym all) (from_over v p)) found
 
   -- behind a link that takes as much as anything the row has, none takes less
-  pub rest_over : (i most : ℕ) (found : Option ℕ) → i < length ends → AreByWeight ends → All (λ number. number ≤ most) row
+  pub rest_over : (i most : ℕ) (found : Option ℕ) → i < length ends → AreByWeight ends → All (λ value. value ≤ most) row
       → most ≤ before + 1 + (get_or ends i (0, 0)).1 → IsFoundBelow n (SeenOver i ends row low before) found
       → IsFoundBelow n (IsOvershot ends row low before) found
   rest_over i most found inside sorted capped enough =
@@ -174,89 +174,48 @@ module _ (ends row : List ℕ) (low cost : ℕ) where
 
 -- ---- one group more
 
-module _ (groups : List (ℕ × ℕ)) (ends : List ℕ) (are : AreGroupsOf groups ends) where
-  -- a group ends inside
-  pub group_inside : (i : ℕ) → i < length groups → total (take i groups) + (get_or groups i (0, 0)).1 ≤ length ends
-  group_inside i inside = omega (arith, total-more groups i inside, total-within groups (i + 1), are.all)
+module _ (groups : List (ℕ × ℕ)) (ends : List ℕ) (are : AreGroupsOf groups ends) (row : List ℕ) (low before i : ℕ) (run : List ℕ)
+    (inside : i < length groups) (is : run ≡ take (group groups i).1 (drop (begin groups i) ends)) where
+  abbrev q : ℕ
+  q = low + length row
 
-  -- and begins inside, since none is empty
-  pub group_begins : (i : ℕ) → i < length groups → total (take i groups) < length (links_by groups ends)
-  group_begins i inside = omega (arith, group_inside i inside, are.some i (0, 0) inside, length-links groups ends are.all)
+  abbrev Earlier : ℕ → Type 0
+  Earlier v = SeenOver (begin groups i) (links_by groups ends) row low before v
 
-  -- its first link has its weight
-  pub group_weight : (i : ℕ) → i < length groups → (get_or (links_by groups ends) (total (take i groups)) (0, 0)).1 ≡ (get_or groups i (0, 0)).0
-  group_weight i inside =
-      ap (λ k. (get_or (links_by groups ends) k (0, 0)).1) (omega arith)
-      ∙ ap (λ (z : ℕ × ℕ). z.1) (in-group groups ends i 0 are.all inside (are.some i (0, 0) inside))
+  abbrev Here : ℕ → Type 0
+  Here v = IsOvershotAt run row low (before + 1 + (group groups i).0) v
 
-  module _ (row : List ℕ) (low before i : ℕ) (run : List ℕ) (inside : i < length groups)
-      (is : run ≡ take (get_or groups i (0, 0)).1 (drop (total (take i groups)) ends)) where
-    abbrev q : ℕ
-    q = low + length row
+  abbrev Later : ℕ → Type 0
+  Later v = SeenOver (begin groups i + (group groups i).1) (links_by groups ends) row low before v
 
-    abbrev from : ℕ
-    from = total (take i groups)
+  long : length run ≡ (group groups i).1
+  long = run_long groups ends are i run inside is
 
-    abbrev group : ℕ × ℕ
-    group = get_or groups i (0, 0)
+  to_group : (v : ℕ) → Earlier v ⊎ Here v → Later v
+  to_group v (inl (low_v, k, l, same, more)) = (low_v, k, omega (arith, l), same, more)
+  to_group v (inr (low_v, (k, l, same), more)) =
+      let here = at_run groups ends are i run inside is k (omega (arith, l, long)) in (
+        low_v,
+        begin groups i + k,
+        omega (arith, l, long),
+        ap (λ (z : ℕ × ℕ). z.0) here ∙ get_or_default run k 0 v l ∙ same,
+        omega (arith, ap (λ (z : ℕ × ℕ). z.1) here, more),
+      )
 
-    abbrev links : List (ℕ × ℕ)
-    links = links_by groups ends
+  from_group : (v : ℕ) → Later v → Earlier v ⊎ Here v
+  from_group v (low_v, k, l, same, more) = go (cases_lt k (begin groups i))
+    where
+      go : (k < begin groups i) ⊎ (begin groups i ≤ k) → Earlier v ⊎ Here v
+      go (inl less) = inl (low_v, k, less, same, more)
+      go (inr later) =
+          let short : k - begin groups i < length run = omega (arith, l, later, long) in
+          let here = in_run groups ends are i run inside is k later l in
+          inr (
+            low_v,
+            (k - begin groups i, short, get_or_default run (k - begin groups i) v 0 short ∙ sym (ap (λ (z : ℕ × ℕ). z.0) here) ∙ same),
+            omega (arith, ap (λ (z : ℕ × ℕ). z.1) here, more),
+          )
 
-    pub run_long : length run ≡ group.1
-    run_long = ap length is ∙ part-long ends from group.1 (group_inside i inside)
-
-    are_run : (k d : ℕ) → k < length run → get_or run k d ≡ get_or ends (from + k) 0
-    are_run k d l = ap (λ r. get_or r k d) is ∙ part-at ends from group.1 k d (group_inside i inside) (omega (arith, l, run_long))
-
-    -- its ends are below the number that all links' ends are below
-    pub group_below : (m : ℕ) → All (λ (link : ℕ × ℕ). link.0 < m) links → All (λ end. end < m) run
-    group_below m all k d l =
-        let at = in-group groups ends i k are.all inside (omega (arith, l, run_long)) in
-        let link = all (from + k) (0, 0) (omega (arith, l, run_long, group_inside i inside, length-links groups ends are.all)) in
-        omega (arith, are_run k d l, ap (λ (z : ℕ × ℕ). z.0) at, link)
-
-    pub at_run : (k : ℕ) → k < group.1 → get_or links (from + k) (0, 0) ≡ (get_or run k 0, group.0)
-    at_run k l = in-group groups ends i k are.all inside l ∙ ap (λ (z : ℕ). (z, group.0)) (sym (are_run k 0 (omega (arith, l, run_long))))
-
-    to_group : (v : ℕ) → SeenOver from links row low before v ⊎ IsOvershotAt run row low (before + 1 + group.0) v
-        → SeenOver (from + group.1) links row low before v
-    to_group v (inl (low_v, k, l, is, more)) = (low_v, k, omega (arith, l), is, more)
-    to_group v (inr (low_v, (k, l, is), more)) =
-        let here = at_run k (omega (arith, l, run_long)) in (
-          low_v,
-          from + k,
-          omega (arith, l, run_long),
-          ap (λ (z : ℕ × ℕ). z.0) here ∙ get_or_default run k 0 v l ∙ is,
-          omega (arith, ap (λ (z : ℕ × ℕ). z.1) here, more),
-        )
-
-    from_group : (v : ℕ) → SeenOver (from + group.1) links row low before v
-        → SeenOver from links row low before v ⊎ IsOvershotAt run row low (before + 1 + group.0) v
-    from_group v (low_v, k, l, is, more) = go (cases_lt k from)
-      where
-        go : (k < from) ⊎ (from ≤ k) → SeenOver from links row low before v ⊎ IsOvershotAt run row low (before + 1 + group.0) v
-        go (inl less) = inl (low_v, k, less, is, more)
-        go (inr later) =
-            let same : from + (k - from) ≡ k = omega (arith, later) in
-            let short : k - from < group.1 = omega (arith, l, later) in
-            let here : get_or links k (0, 0) ≡ (get_or run (k - from) 0, group.0) =
-            ap (λ (z : ℕ). get_or links z (0, 0)) (sym same) ∙ at_run (k - from) short in
-            inr (
-              low_v,
-              (
-                k - from,
-                omega (arith, short, run_long),
-                get_or_default run (k - from) v 0 (omega (arith, short, run_long))
-                    ∙ sym (ap (λ (z : ℕ × ℕ). z.0) here) ∙ is,
-              ),
-              omega (arith, ap (λ (z : ℕ × ℕ). z.1) here, more),
-            )
-
-    pub more_group : (found end : Option ℕ) → IsFoundBelow q (SeenOver from links row low before) found
-        → IsFoundBelow q (IsOvershotAt run row low (before + 1 + group.0)) end
-        → IsFoundBelow q (SeenOver (from + group.1) links row low before) (lesser found end)
-    more_group found end old new =
-        found_as q (λ v. SeenOver from links row low before v ⊎ IsOvershotAt run row low (before + 1 + group.0) v)
-        (SeenOver (from + group.1) links row low before) to_group from_group (lesser found end)
-        (found_either q (SeenOver from links row low before) (IsOvershotAt run row low (before + 1 + group.0)) found end old new)
+  pub more_group : (found end : Option ℕ) → IsFoundBelow q Earlier found → IsFoundBelow q Here end → IsFoundBelow q Later (lesser found end)
+  more_group found end old new =
+      found_as q (λ v. Earlier v ⊎ Here v) Later to_group from_group (lesser found end) (found_either q Earlier Here found end old new)

@@ -16,7 +16,7 @@ use Rattle.tcc_check.specs.private.Coming.{IsFoundBefore, first_of}
 use Rattle.tcc_check.proofs.Entries.{capped_at}
 use Rattle.tcc_check.proofs.First.{first_in_row, holds_more}
 
--- the first place in a row, in the words of the table
+-- the first in a row, in the words of the table
 abbrev pub InRow : (ℕ × ℕ → Type 0) → ℕ → Option ℕ → Type 0
 InRow broken s end = MatchOption end ((b : ℕ) → broken (s, b) → ⊥) (λ b. broken (s, b) × ((c : ℕ) → c < b → broken (s, c) → ⊥))
 
@@ -26,7 +26,7 @@ found-more n broken (Some at) end before row = (omega (arith, before.0), before.
 found-more n broken None None before row = holds_more n broken before row
 found-more n broken None (Some b) before row = (omega arith, first_in_row broken n b before row.0 row.1)
 
--- where a place was found before, none is looked for in the row
+-- where something was found before, nothing is looked for in the row
 pub found-next : (n : ℕ) (broken : ℕ × ℕ → Type 0) (begins : List ℕ) (others : List (List (ℕ × ℕ))) (row : List ℕ) (low : ℕ) (found result : Option (ℕ × ℕ))
     → ((end : Option ℕ) → IsFoundBelow (low + length row) (IsLongStep begins others row low) end → InRow broken n end)
     → IsFirstLong found n begins others row low result → IsFoundBefore n broken found → IsFoundBefore (n + 1) broken result
@@ -41,7 +41,7 @@ row-by n s P broken (Some b) to back first = (back b first.below first.here, λ 
 
 -- ---- what links and steps take, whatever the weights
 
-module _ (h : History) (weighs : ℕ → ℕ → ℕ → Type 0) (low least : ℕ) (row : List ℕ) (capped : All (λ number. number ≤ least) row) where
+module _ (h : History) (weighs : ℕ → ℕ → ℕ → Type 0) (low least : ℕ) (row : List ℕ) (capped : All (λ value. value ≤ least) row) where
   abbrev Single : ℕ → ℕ → Type 0
   Single s v = IsLongPair h row low s v ⊎ ((low ≤ v) × (w : ℕ) × weighs s v w × (1 + w < get_or row (v - low) 0))
 
@@ -77,7 +77,7 @@ module _ (h : History) (weighs : ℕ → ℕ → ℕ → Type 0) (low least : �
 -- ---- rows of lengths
 
 module _ (h : History) (least : ℕ) (near : List (List ℕ)) (s : ℕ) (row : List ℕ) (is : row_of near s ≡ row) (start : s < count h)
-    (long : length row ≡ count h) (capped : All (λ number. number ≤ least) row) (reads : List (List (ℕ × ℕ)))
+    (long : length row ≡ count h) (capped : All (λ value. value ≤ least) row) (reads : List (List (ℕ × ℕ)))
     (are : AreAllEnds (ReadWeighs h) (count h) least reads) where
   number : (v : ℕ) → entry near s v ≡ get_or row (v - 0) 0
   number v = ap (λ r. get_or r v 0) is ∙ ap (λ k. get_or row k 0) (omega arith)
@@ -141,7 +141,7 @@ at-level h near s asked known end is row = subst (λ (l : Level). InRow (BreaksN
 -- ---- rows of costs
 
 module _ (h : History) (version : Version) (least : ℕ) (near far : List (List ℕ)) (s : ℕ) (row : List ℕ) (is : row_of far s ≡ row) (start : s < count h)
-    (long : lowest version s + length row ≡ count h) (capped : All (λ number. number ≤ least) row) (links : List (List (ℕ × ℕ)))
+    (long : lowest version s + length row ≡ count h) (capped : All (λ value. value ≤ least) row) (links : List (List (ℕ × ℕ)))
     (are : AreAllEnds (λ u. WeighsFrom h (row_of near u) u) (count h) least links) where
   abbrev low : ℕ
   low = lowest version s

@@ -176,34 +176,34 @@ module _ (h : History) (session number : ℕ) where
 
 -- ---- the last alone is asked
 
-module _ (h : History) (ordered : IsBySession h.entries) (places writers : List ℕ) (session number source : ℕ) (all : All (λ b. b < count h) writers) where
+module _ (h : History) (ordered : IsBySession h.entries) (positions writers : List ℕ) (session number source : ℕ) (all : All (λ b. b < count h) writers) where
   reached : (b : ℕ) → b < count h → 0 < b → owner h b ≡ session → place h b ≤ number → is_within h session number b ≡ true
   reached b below some same upto = within_from h session number b some below (inr (same, upto))
 
   listed : (b : ℕ) → Contains writers b → b < count h
   listed b (k, l, e) = rw (← e) (all k b l)
 
-  pub before_none : IsLastWithin h writers session number None → StandBefore h places writers session number source
+  pub before_none : IsLastWithin h writers session number None → StandBefore h positions writers session number source
   before_none none b w some same upto = absurd (none b w (reached b (listed b w) some same upto))
 
   pub before_earlier : (last : ℕ) → owner h last < session → IsLastWithin h writers session number (Some last)
-      → StandBefore h places writers session number source
+      → StandBefore h positions writers session number source
   before_earlier last earlier is b w some same upto =
       let rise = is.2 b w (reached b (listed b w) some same upto) in
       go (cases_lt b last) rise
     where
-      go : (b < last) ⊎ (last ≤ b) → b ≤ last → get_or places b 0 ≤ get_or places source 0
+      go : (b < last) ⊎ (last ≤ b) → b ≤ last → get_or positions b 0 ≤ get_or positions source 0
       go (inl less) rise = let one = (ordered b last less (listed last is.0)).0 in absurd (omega (arith, one, same, earlier))
       go (inr more) rise = let equal : b ≡ last = omega (arith, more, rise) in let one : owner h b ≡ owner h last =
           ap (λ n. owner h n) equal in absurd (omega (arith, one, same, earlier))
 
-  pub before_last : (last : ℕ) → owner h last ≡ session → get_or places last 0 ≤ get_or places source 0 → AreSessionsKept h places
-      → IsLastWithin h writers session number (Some last) → StandBefore h places writers session number source
+  pub before_last : (last : ℕ) → owner h last ≡ session → get_or positions last 0 ≤ get_or positions source 0 → AreSessionsKept h positions
+      → IsLastWithin h writers session number (Some last) → StandBefore h positions writers session number source
   before_last last here stands kept is b w some same upto =
       let rise = is.2 b w (reached b (listed b w) some same upto) in
       go (cases_lt b last) rise
     where
-      go : (b < last) ⊎ (last ≤ b) → b ≤ last → get_or places b 0 ≤ get_or places source 0
+      go : (b < last) ⊎ (last ≤ b) → b ≤ last → get_or positions b 0 ≤ get_or positions source 0
       go (inl less) rise =
           let below = listed last is.0 in
           let one : owner h b ≡ owner h last = same ∙ sym here in
@@ -213,39 +213,39 @@ module _ (h : History) (ordered : IsBySession h.entries) (places writers : List 
 
 -- ---- what the last writers of all sessions say of a read
 
-module _ (h : History) (places : List ℕ) (a b : ℕ) where
-  -- no two stand at one place
-  pub strictly_before : AreApart places → length places ≡ count h → b ≢ a → b < count h → a < count h → get_or places b 0 ≤ get_or places a 0
-      → get_or places b 0 < get_or places a 0
-  strictly_before apart long other below source upto = go (cases_lt (get_or places b 0) (get_or places a 0))
+module _ (h : History) (positions : List ℕ) (a b : ℕ) where
+  -- no two stand at one position
+  pub strictly_before : AreApart positions → length positions ≡ count h → b ≢ a → b < count h → a < count h → get_or positions b 0 ≤ get_or positions a 0
+      → get_or positions b 0 < get_or positions a 0
+  strictly_before apart long other below source upto = go (cases_lt (get_or positions b 0) (get_or positions a 0))
     where
-      go : (get_or places b 0 < get_or places a 0) ⊎ (get_or places a 0 ≤ get_or places b 0) → get_or places b 0 < get_or places a 0
+      go : (get_or positions b 0 < get_or positions a 0) ⊎ (get_or positions a 0 ≤ get_or positions b 0) → get_or positions b 0 < get_or positions a 0
       go (inl less) = less
       go (inr more) = absurd (other (apart b a (omega (arith, below, long)) (omega (arith, source, long)) (omega (arith, upto, more))))
 
   -- `init` stands before all others
-  pub initial_before : KeepsSessions h places → b ≡ 0 → b ≢ a → b < count h → a < count h → get_or places b 0 < get_or places a 0
+  pub initial_before : KeepsSessions h positions → b ≡ 0 → b ≢ a → b < count h → a < count h → get_or positions b 0 < get_or positions a 0
   initial_before kept zeroth other below source = kept.kept b a (initial_pair h b a zeroth below (some_source (cases_lt 0 a)) source)
     where
       some_source : (0 < a) ⊎ (a ≤ 0) → 0 < a
       some_source (inl some) = some
       some_source (inr less) = absurd (other (omega (arith, zeroth, less)))
 
-module _ (h : History) (places : List ℕ) (clocks : List (List ℕ)) (x : List ℕ) (a c : ℕ) where
-  pub kept_by_last : KeepsPairsBy h Causal places clocks → AreOwned h → length (row_of clocks c) ≡ length h.sessions
-      → StandAllBefore h places (row_of clocks c) (writers h x) a → IsReadKept h Causal places clocks x a c
+module _ (h : History) (positions : List ℕ) (clocks : List (List ℕ)) (x : List ℕ) (a c : ℕ) where
+  pub kept_by_last : KeepsPairsBy h Causal positions clocks → AreOwned h → length (row_of clocks c) ≡ length h.sessions
+      → StandAllBefore h positions (row_of clocks c) (writers h x) a → IsReadKept h Causal positions clocks x a c
   kept_by_last by owned wide stand b (other, reads, writer) reach = go (cases_lt 0 b) reach
     where
-      go : (0 < b) ⊎ (b ≤ 0) → (b ≡ 0) ⊎ (place h b ≤ entry clocks c (owner h b)) → get_or places b 0 < get_or places a 0
+      go : (0 < b) ⊎ (b ≤ 0) → (b ≡ 0) ⊎ (place h b ≤ entry clocks c (owner h b)) → get_or positions b 0 < get_or positions a 0
       go (inl some) (inl none) = absurd (omega (arith, some, none))
       go (inl some) (inr upto) =
           let inside = owned b some writer.0 in
-          strictly_before h places a b by.apart by.sessions.long other writer.0 reads.0
+          strictly_before h positions a b by.apart by.sessions.long other writer.0 reads.0
           (stand (owner h b) (omega (arith, inside, wide)) b (writer_listed h x a c b reads writer) some refl upto)
-      go (inr none) r = initial_before h places a b by.sessions (omega (arith, none)) other writer.0 reads.0
+      go (inr none) r = initial_before h positions a b by.sessions (omega (arith, none)) other writer.0 reads.0
 
   pub kept_by_reached : (level : Level) → ((b : ℕ) → Contains (writers h x) b → b ≢ a → MayReach h level clocks b c
-      → get_or places b 0 < get_or places a 0) → IsReadKept h level places clocks x a c
+      → get_or positions b 0 < get_or positions a 0) → IsReadKept h level positions clocks x a c
   kept_by_reached level each b (other, reads, writer) reach = each b (writer_listed h x a c b reads writer) other reach
 
 pub writers_rise : (h : History) (x : List ℕ) → IsNonDecreasing (writers h x)
@@ -297,6 +297,11 @@ first_more P xs i x inside is before here k d below = go (cases_eq k i)
     go (inl same) = subst (λ m. P (get_or xs m d)) (sym same) (subst P (is ∙ get_or_default xs i x d inside) here)
     go (inr apart) = before k d (omega arith)
 
+-- the same of the next by its number
+pub next_more : {X : Type 0} (P : X → Type 0) (xs : List X) (i : ℕ) (e : X) → i < length xs
+    → ((k : ℕ) (d : X) → k < i → P (get_or xs k d)) → P (get_or xs i e) → (k : ℕ) (d : X) → k < i + 1 → P (get_or xs k d)
+next_more P xs i e inside = first_more P xs i (get_or xs i e) inside (get_or_default xs i e (get_or xs i e) inside)
+
 -- so for all of them
 pub by_reads : (h : History) (c : ℕ) (P : List ℕ → ℕ → Type 0) (reads : List (List ℕ × ℕ)) → reads ≡ (entry_at h c).reads
     → ((k : ℕ) (d : List ℕ × ℕ) → k < length reads → P (get_or reads k d).0 (get_or reads k d).1) → (x : List ℕ) (a : ℕ) → IsReadsPair h a c x → P x a
@@ -305,7 +310,7 @@ by_reads h c P reads is all x a p =
     let here : P (get_or reads w.0 (x, a)).0 (get_or reads w.0 (x, a)).1 = all w.0 (x, a) w.1 in
     subst (λ (r : List ℕ × ℕ). P r.0 r.1) w.2 here
 
--- so for all of them, by the places of their keys
+-- so for all of them, by the positions of their keys
 pub by_keys : (h : History) (c : ℕ) (P : List ℕ → ℕ → Type 0) (reads : List (ℕ × ℕ))
     → map (λ (read : ℕ × ℕ). (key_at h read.0, read.1)) reads ≡ (entry_at h c).reads
     → ((k : ℕ) (d : ℕ × ℕ) → k < length reads → P (key_at h (get_or reads k d).0) (get_or reads k d).1) → (x : List ℕ) (a : ℕ) → IsReadsPair h a c x → P x a

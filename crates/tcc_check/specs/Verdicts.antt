@@ -1,7 +1,7 @@
--- What is answered of a certificate: it is accepted, or the first rule that is broken and the first place where it is.
+-- What is answered of a certificate: it is accepted, or the first rule that is broken and where it is first.
 use Rattle.std.specs.Prelude.{ℕ, ◌<◌, ◌≡◌, ◌⊎◌, List, [], ◌∷◌}
 use Rattle.tcc_reads.specs.History.{History}
-use Rattle.tcc_cert.specs.Tables.{IsFirstPlace}
+use Rattle.tcc_cert.specs.Tables.{IsFirstAt}
 use Rattle.tcc_cert.specs.CycleRules.{HasRightSizes, IsLinkWrong}
 use Rattle.tcc_cert.specs.CycleRules.{BreaksNearPair, BreaksNearStep, BreaksFarLink, BreaksFarStep}
 use Rattle.tcc_cert.specs.CycleRules.{BreaksReturn}
@@ -31,19 +31,19 @@ rule_number Returns = 7
 rule_number Pairs = 8
 rule_number Axiom = 9
 
--- a rule asked of a claim: that it holds, and the place that is named where it does not
+-- a rule asked of a claim: that it holds, and what is named where it does not
 pub record Asked : Type 1 where
   pub rule : Rule
   pub holds : Type 0
   pub broken : ℕ × ℕ → Type 0
 
--- a rule that holds or not as a whole; then no place is named
+-- a rule that holds or not as a whole; then nothing is named
 abbrev pub as_whole : Rule → Type 0 → Asked
 as_whole rule holds = record { rule = rule; holds = holds; broken = λ at. (at ≡ (0, 0)) × (holds → ⊥) }
 
--- a rule that is broken at places: the first of them is named
-abbrev pub by_places : Rule → (ℕ × ℕ → Type 0) → Asked
-by_places rule broken = record { rule = rule; holds = HoldsEverywhere broken; broken = IsFirstPlace broken }
+-- a rule that is broken at some pairs of numbers: the first of them is named
+abbrev pub at_each : Rule → (ℕ × ℕ → Type 0) → Asked
+at_each rule broken = record { rule = rule; holds = HoldsEverywhere broken; broken = IsFirstAt broken }
 
 -- where the rule on links is broken: at the first link that is not right, from 1, or, where all are, at 0
 abbrev pub IsCycleFault : History → CycleClaim → ℕ × ℕ → Type 0
@@ -54,11 +54,11 @@ IsCycleFault h k at =
 -- the rules on the tables of a claim that a cycle is least, in order
 abbrev pub bounds_rules : History → CycleClaim → List Asked
 bounds_rules h k =
-    by_places NearPairs (BreaksNearPair h k.near)
-    ∷ by_places NearSteps (BreaksNearStep h k.level k.near)
-    ∷ by_places FarLinks (BreaksFarLink h k.version k.near k.far)
-    ∷ by_places FarSteps (BreaksFarStep h k.version k.near k.far)
-    ∷ by_places Returns (BreaksReturn h k.version k.least k.far)
+    at_each NearPairs (BreaksNearPair h k.near)
+    ∷ at_each NearSteps (BreaksNearStep h k.level k.near)
+    ∷ at_each FarLinks (BreaksFarLink h k.version k.near k.far)
+    ∷ at_each FarSteps (BreaksFarStep h k.version k.near k.far)
+    ∷ at_each Returns (BreaksReturn h k.version k.least k.far)
     ∷ []
 
 -- all rules for a claim that a cycle is least, in order
@@ -73,7 +73,7 @@ abbrev pub order_rules : History → OrderClaim → List Asked
 order_rules h k =
     as_whole Sizes (HasOrderSizes h k)
     ∷ as_whole Pairs (KeepsPairs h k)
-    ∷ by_places Axiom (BreaksAxiom h k)
+    ∷ at_each Axiom (BreaksAxiom h k)
     ∷ []
 
 -- those for the claim of a certificate, at its level
@@ -86,7 +86,7 @@ abbrev pub AllHold : List Asked → Type 0
 AllHold [] = Unit {0}
 AllHold (asked ∷ later) = asked.holds × AllHold later
 
--- the first broken one of them is this rule, at this place
+-- the first broken one of them is this rule, there
 abbrev pub IsFirstBroken : List Asked → Rule → ℕ × ℕ → Type 0
 IsFirstBroken [] rule at = ⊥
 IsFirstBroken (asked ∷ later) rule at = ((rule ≡ asked.rule) × asked.broken at) ⊎ (asked.holds × IsFirstBroken later rule at)
@@ -96,7 +96,7 @@ abbrev pub IsVerdict : History → Certificate → Verdict → Type 0
 IsVerdict h k verdict.Accepted = Certifies h k
 IsVerdict h k (verdict.Rejected rule at) = IsFirstBroken (rules_of h k) rule at
 
--- the certificate is rejected by this rule, at this place
+-- the certificate is rejected by this rule, there
 abbrev pub IsRejected : History → Certificate → Rule → ℕ × ℕ → Type 0
 IsRejected h k rule at = IsVerdict h k (verdict.Rejected rule at)
 

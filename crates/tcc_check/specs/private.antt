@@ -7,7 +7,7 @@ pub mod WeightsFrom
 pub mod Pairs
 pub mod Searches
 pub mod Links
-pub mod Places
+pub mod Positions
 pub mod Coming
 pub mod Judged
 pub mod Latest

@@ -21,7 +21,7 @@ use std::io::Read;
 use tcc_cert::{CertReader, Numbers, Part, Version};
 use tcc_graph::Graph;
 
-/// For each rule on costs the first place at which it is broken, in the rows that came.
+/// For each rule on costs where it is broken first, in the rows that came.
 #[derive(Clone, Copy)]
 pub(crate) struct FarFaults {
     pub(crate) link: Option<(u32, u32)>,
@@ -63,7 +63,7 @@ fn with_row(
     requires orderly { IsOrderly graph.now near.now }
     requires long { lowest version start + length row.now ≡ count graph.now }
     requires start { start < count graph.now }
-    requires capped { All (λ number. number ≤ least) row.now }
+    requires capped { All (λ value. value ≤ least) row.now }
     ensures { (table far : List (List ℕ)) → AreLinksOf graph.now least table near.now → row_of far start ≡ row.now
         → AreFoundBefore graph.now version least table far start faults → AreFoundBefore graph.now version least table far (start + 1) result }
 {

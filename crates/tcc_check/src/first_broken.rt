@@ -1,4 +1,4 @@
-//! The first place of a row at which it has more than a link takes.
+//! Where a row first has more than a link takes.
 ghost use Rattle.std.specs.Prelude.{◌≡◌, ◌<◌, ◌≤◌, ◌+◌, ◌^◌, length, All};
 ghost use Rattle.tcc_reads.specs.History.{count};
 ghost use Rattle.tcc_check.specs.private.Runs.{HasRuns};
@@ -11,13 +11,13 @@ use crate::links_from::UNLINKED;
 use crate::verdict::first_of;
 use tcc_graph::Graph;
 
-/// The greatest number of a row.
+/// The greatest value of a row.
 fn greatest_of(row: &[u32]) -> u32
-    ensures { All (λ number. number ≤ result) row.now }
+    ensures { All (λ value. value ≤ result) row.now }
 {
     let mut greatest = 0;
-    for number in row {
-        greatest = greatest.max(*number);
+    for value in row {
+        greatest = greatest.max(*value);
     }
     greatest
 }
@@ -53,7 +53,7 @@ fn overshot_at(ends: &[u16], row: &[u32], low: u32, cost: u64) -> Option<u32>
 fn overshot(links: &Groups, row: &[u32], low: u32, before: u32, most: u32) -> Option<u32>
     requires inside { All (λ link. link.0 < low + length row.now) links.now }
     requires sorted { AreByWeight links.now }
-    requires capped { All (λ number. number ≤ most) row.now }
+    requires capped { All (λ value. value ≤ most) row.now }
     ensures { IsFoundBelow (low + length row.now) (IsOvershot links.now row.now low before) result }
 {
     let (mut left, groups) = links.parts();
@@ -92,15 +92,15 @@ fn long_run(begins: &[u32], row: &[u32], low: u32) -> Option<u32>
 {
     let mut opening = UNLINKED;
     let mut least = UNLINKED;
-    for (place, number) in row.iter().enumerate() {
-        let end = low as usize + place;
+    for (index, value) in row.iter().enumerate() {
+        let end = low as usize + index;
         least = run_least(begins[end], end, opening, least);
-        if u64::from(least) + 1 < u64::from(*number) {
+        if u64::from(least) + 1 < u64::from(*value) {
             return Some(end as u32);
         }
-        least = least.min(*number);
+        least = least.min(*value);
         if end == 0 {
-            opening = *number;
+            opening = *value;
         }
     }
     None
@@ -114,21 +114,21 @@ fn long_step(begins: &[u32], others: &[Groups], row: &[u32], low: u32, most: u32
     requires inside { All (λ ends. All (λ link. link.0 < low + length row.now) ends) others.now }
     requires sorted { All (λ ends. AreByWeight ends) others.now }
     requires runs { HasRuns begins.now }
-    requires capped { All (λ number. number ≤ most) row.now }
+    requires capped { All (λ value. value ≤ most) row.now }
     requires few { low + length row.now < 2 ^ 32 }
     ensures { IsFoundBelow (low + length row.now) (IsLongStep begins.now others.now row.now low) result }
 {
     let mut found = long_run(begins, row, low);
-    for (place, before) in row.iter().enumerate() {
-        let start = low as usize + place;
+    for (index, before) in row.iter().enumerate() {
+        let start = low as usize + index;
         let end = overshot(&others[start], row, low, *before, most);
         found = lesser(found, end);
     }
     found
 }
 
-/// The place that was found in an earlier row, or else the first one in the row of `start` to which some link takes less
-/// than the row has. Behind a broken place none is looked for.
+/// What was found in an earlier row, or else the first in the row of `start` to which some link takes less
+/// than the row has. Behind what is broken nothing is looked for.
 pub(crate) fn first_long_step(
     found: Option<(u32, u32)>,
     start: u32,
@@ -184,7 +184,7 @@ pub(crate) fn long_link(
     requires start { start < count graph.now }
     requires inside { All (λ link. link.0 < count graph.now) others.now }
     requires sorted { AreByWeight others.now }
-    requires capped { All (λ number. number ≤ most) row.now }
+    requires capped { All (λ value. value ≤ most) row.now }
     ensures { IsFoundBelow (count graph.now) (IsLongSingle graph.now others.now row.now low start) result }
 {
     let pair = long_pair(graph, row, low, start);

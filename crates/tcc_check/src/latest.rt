@@ -54,16 +54,16 @@ fn last_within(graph: &Graph, writers: &[u32], session: u32, place: u32) -> Opti
 /// behind the source.
 pub(crate) fn stands_before(
     graph: &Graph,
-    places: &[u32],
+    positions: &[u32],
     writers: &[u32],
     session: u32,
     place: u32,
     source: u32,
 ) -> bool
-    requires places { KeepsSessions graph.now places.now }
+    requires positions { KeepsSessions graph.now positions.now }
     requires writers { AreRising graph.now writers.now }
     requires source { source < count graph.now }
-    ensures { IsTrue result → StandBefore graph.now places.now writers.now session place source }
+    ensures { IsTrue result → StandBefore graph.now positions.now writers.now session place source }
 {
     let Some(last) = last_within(graph, writers, session, place) else {
         return true;
@@ -72,21 +72,27 @@ pub(crate) fn stands_before(
         None => true,
         Some((owner, _)) => {
             owner < session
-                || (owner == session && places[last as usize] <= places[source as usize])
+                || (owner == session && positions[last as usize] <= positions[source as usize])
         }
     }
 }
 
 /// Whether none of these that the clock reaches stands behind the source.
-fn stand_before(graph: &Graph, places: &[u32], clock: &[u32], writers: &[u32], source: u32) -> bool
-    requires places { KeepsSessions graph.now places.now }
+fn stand_before(
+    graph: &Graph,
+    positions: &[u32],
+    clock: &[u32],
+    writers: &[u32],
+    source: u32,
+) -> bool
+    requires positions { KeepsSessions graph.now positions.now }
     requires writers { AreRising graph.now writers.now }
     requires source { source < count graph.now }
     requires few { length clock.now < 2 ^ 32 }
-    ensures { IsTrue result → StandAllBefore graph.now places.now clock.now writers.now source }
+    ensures { IsTrue result → StandAllBefore graph.now positions.now clock.now writers.now source }
 {
     for (session, place) in clock.iter().enumerate() {
-        if !stands_before(graph, places, writers, session as u32, *place, source) {
+        if !stands_before(graph, positions, writers, session as u32, *place, source) {
             return false;
         }
     }
@@ -106,23 +112,23 @@ fn may_reach(graph: &Graph, clocks: &[Numbers], b: u32, c: u32) -> bool
 /// Whether none of these that may reach the source's reader stands behind the source. Each of them is asked.
 fn reached_before(
     graph: &Graph,
-    places: &[u32],
+    positions: &[u32],
     clocks: &[Numbers],
     writers: &[u32],
     source: u32,
     c: u32,
 ) -> bool
-    requires long { length places.now ≡ count graph.now }
+    requires long { length positions.now ≡ count graph.now }
     requires clocks { HasClocks Causal (count graph.now) (length graph.now.sessions) clocks.now }
     requires below { All (λ b. b < count graph.now) writers.now }
     requires source { source < count graph.now }
     requires reader { c < count graph.now }
     ensures { IsTrue result → ((b : ℕ) → Contains writers.now b → b ≢ source → MayReach graph.now Causal clocks.now b c
-        → slice_index places.now b < slice_index places.now source) }
+        → slice_index positions.now b < slice_index positions.now source) }
 {
     for writer in writers {
         if *writer != source
-            && places[source as usize] <= places[*writer as usize]
+            && positions[source as usize] <= positions[*writer as usize]
             && may_reach(graph, clocks, *writer, c)
         {
             return false;
@@ -131,41 +137,41 @@ fn reached_before(
     true
 }
 
-/// Whether the axiom is kept by a read of `c` at the key at a place: no other writer of the key that the clock of `c`
+/// Whether the axiom is kept by a read of `c` at a key: no other writer of the key that the clock of `c`
 /// reaches stands behind the source. Each is asked, or, where they are many, the last of each session.
 fn is_read_kept(
     graph: &Graph,
-    places: &[u32],
+    positions: &[u32],
     clocks: &[Numbers],
     key: u32,
     source: u32,
     c: u32,
 ) -> bool
-    requires order { KeepsPairsBy graph.now Causal places.now clocks.now }
+    requires order { KeepsPairsBy graph.now Causal positions.now clocks.now }
     requires owners { AreOwned graph.now }
     requires key { key < length (keys graph.now) }
     requires source { source < count graph.now }
     requires reader { c < count graph.now }
-    ensures { IsTrue result → IsReadKept graph.now Causal places.now clocks.now (key_at graph.now key) source c }
+    ensures { IsTrue result → IsReadKept graph.now Causal positions.now clocks.now (key_at graph.now key) source c }
 {
     let writers = graph.writers_at(key);
     let clock = clocks[c as usize].as_slice();
     if writers.len() / WRITERS_ASKED <= clock.len() {
-        reached_before(graph, places, clocks, writers, source, c)
+        reached_before(graph, positions, clocks, writers, source, c)
     } else {
-        stand_before(graph, places, clock, writers, source)
+        stand_before(graph, positions, clock, writers, source)
     }
 }
 
 /// Whether the axiom is kept by all reads of `c`, as its clock tells.
-fn are_reads_kept(graph: &Graph, places: &[u32], clocks: &[Numbers], c: u32) -> bool
-    requires order { KeepsPairsBy graph.now Causal places.now clocks.now }
+fn are_reads_kept(graph: &Graph, positions: &[u32], clocks: &[Numbers], c: u32) -> bool
+    requires order { KeepsPairsBy graph.now Causal positions.now clocks.now }
     requires owners { AreOwned graph.now }
     requires reader { c < count graph.now }
-    ensures { IsTrue result → AreReadsKept graph.now Causal places.now clocks.now c }
+    ensures { IsTrue result → AreReadsKept graph.now Causal positions.now clocks.now c }
 {
     for (key, source) in graph.reads_at(c) {
-        if !is_read_kept(graph, places, clocks, *key, *source, c) {
+        if !is_read_kept(graph, positions, clocks, *key, *source, c) {
             return false;
         }
     }
@@ -199,18 +205,18 @@ fn is_reader_right(
     alloc: Global,
     graph: &Graph,
     level: Level,
-    places: &[u32],
+    positions: &[u32],
     clocks: &[Numbers],
     c: u32,
 ) -> Result<bool, NoMemory>
-    requires order { KeepsPairsBy graph.now level places.now clocks.now }
+    requires order { KeepsPairsBy graph.now level positions.now clocks.now }
     requires owners { AreOwned graph.now }
     requires reader { c < count graph.now }
-    ensures { IfOk result (λ kept. IsTrue kept → AreReadsKept graph.now level places.now clocks.now c) }
+    ensures { IfOk result (λ kept. IsTrue kept → AreReadsKept graph.now level positions.now clocks.now c) }
 {
     match level {
-        Level::Causal => Ok(are_reads_kept(graph, places, clocks, c)),
-        Level::Atomic => are_reads_kept_by_pairs(alloc, graph, places, c),
+        Level::Causal => Ok(are_reads_kept(graph, positions, clocks, c)),
+        Level::Atomic => are_reads_kept_by_pairs(alloc, graph, positions, c),
     }
 }
 
@@ -219,17 +225,17 @@ pub(crate) fn keeps_axiom(
     alloc: Global,
     graph: &Graph,
     level: Level,
-    places: &[u32],
+    positions: &[u32],
     clocks: &[Numbers],
 ) -> Result<bool, NoMemory>
-    requires { KeepsPairsBy graph.now level places.now clocks.now }
-    ensures { IfOk result (λ kept. IsTrue kept → (c : ℕ) → c < count graph.now → AreReadsKept graph.now level places.now clocks.now c) }
+    requires { KeepsPairsBy graph.now level positions.now clocks.now }
+    ensures { IfOk result (λ kept. IsTrue kept → (c : ℕ) → c < count graph.now → AreReadsKept graph.now level positions.now clocks.now c) }
 {
     if !are_owned(graph) {
         return Ok(false);
     }
     for c in 0..graph.count() {
-        if !is_reader_right(alloc, graph, level, places, clocks, c)? {
+        if !is_reader_right(alloc, graph, level, positions, clocks, c)? {
             return Ok(false);
         }
     }

@@ -15,7 +15,7 @@ mod links_from;
 mod near_rows;
 mod order;
 mod pairs;
-mod places;
+mod positions;
 mod previous;
 mod readings;
 mod runs;

@@ -161,13 +161,13 @@ fn seen_verdict(seen: LinksSeen) -> Result<Verdict, NoMemory>
     ensures { (h : History) (k : CycleClaim) → AreSeenTo (judged h k.level) k.least k.links (length k.links) seen
         → IfOk result (IsAnswer (links_rules h k)) }
 {
-    let Some(place) = broken_at(seen) else {
+    let Some(at) = broken_at(seen) else {
         return Ok(Verdict::Accepted);
     };
-    let Ok(place) = u32::try_from(place) else {
+    let Ok(at) = u32::try_from(at) else {
         return Err(NoMemory);
     };
-    Ok(rejected(Rule::Links, place))
+    Ok(rejected(Rule::Links, at))
 }
 
 /// Judges the links of a claim.

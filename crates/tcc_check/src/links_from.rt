@@ -5,13 +5,13 @@ ghost use Rattle.tcc_txn.specs.declared.limits.TheConstants.{MAX_COUNT};
 ghost use Rattle.tcc_reads.specs.History.{count};
 ghost use Rattle.tcc_graph.specs.Keys.{keys};
 ghost use Rattle.tcc_graph.specs.Relations.{IsCausalPair};
-ghost use Rattle.tcc_check.specs.private.Readings.{AreReadings, PlaceWeighs};
+ghost use Rattle.tcc_check.specs.private.Readings.{AreReadings, KeysWeigh};
 ghost use Rattle.tcc_check.specs.private.Weights.{IsLeastRow, IsLowered, unlinked};
 ghost use Rattle.tcc_check.specs.private.WeightsFrom.{AreAllEnds, AreEnds, AreLightEnds, BetweenWeighs, ContradictsBy};
 ghost use Rattle.tcc_check.specs.private.WeightsFrom.{InitContradictsBy, MarkWeighs, ReadWeighs, SourceWeighs, WeighsFrom};
 
 use crate::groups::Groups;
-use crate::readings::{least_of, lower_place};
+use crate::readings::{least_of, lower_key};
 use std::alloc::Global;
 use tcc_graph::Graph;
 use tcc_txn::NoMemory;
@@ -71,24 +71,24 @@ pub(crate) fn pair_weights(alloc: Global, graph: &Graph, start: u32) -> Result<V
 }
 
 /// Lowers the weights of the sources of these keys, but that of `start`, to what the row has for who reads them there.
-fn lower_places(
+fn lower_keys(
     weights: &mut [u32],
     graph: &Graph,
     readings: &[Option<Groups>],
-    places: &[u32],
+    written: &[u32],
     row: &[u32],
     start: u32,
 )
     requires weights { length weights.old ≡ count graph.now }
     requires readings { AreReadings graph.now readings.now }
-    requires places { All (λ place. place < length (keys graph.now)) places.now }
+    requires written { All (λ key_index. key_index < length (keys graph.now)) written.now }
     requires row { length row.now ≡ count graph.now }
-    ensures { IsLowered (PlaceWeighs graph.now places.now row.now start) weights.old weights.new }
+    ensures { IsLowered (KeysWeigh graph.now written.now row.now start) weights.old weights.new }
 {
     let floor = least_of(row);
-    for place in places {
-        let there = &readings[*place as usize];
-        lower_place(weights, graph, there, *place, row, floor, start);
+    for key_index in written {
+        let there = &readings[*key_index as usize];
+        lower_key(weights, graph, there, *key_index, row, floor, start);
     }
 }
 
@@ -99,8 +99,8 @@ fn lower_source(weights: &mut [u32], source: u32, readers: &[u32], row: &[u32])
     ensures { IsLowered (SourceWeighs source readers.now row.now) weights.old weights.new }
 {
     for reader in readers {
-        let number = row[*reader as usize];
-        weights[source as usize] = weights[source as usize].min(number);
+        let value = row[*reader as usize];
+        weights[source as usize] = weights[source as usize].min(value);
     }
 }
 
@@ -132,8 +132,8 @@ fn lower_contradicted(
     if start == 0 {
         lower_sources(weights, graph, row);
     } else {
-        let places = graph.writes_at(start);
-        lower_places(weights, graph, readings, places, row, start);
+        let written = graph.writes_at(start);
+        lower_keys(weights, graph, readings, written, row, start);
     }
 }
 

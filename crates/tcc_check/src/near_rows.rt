@@ -25,7 +25,7 @@ use tcc_cert::{CertReader, Numbers, Part};
 use tcc_graph::{Graph, Level};
 use tcc_txn::NoMemory;
 
-/// For each rule on lengths the first place at which it is broken, in the rows that came.
+/// For each rule on lengths where it is broken first, in the rows that came.
 #[derive(Clone, Copy)]
 pub(crate) struct NearFaults {
     pub(crate) pair: Option<(u32, u32)>,
@@ -62,7 +62,7 @@ fn with_row(
     requires pairs { ArePairs graph.now least pairs.now }
     requires long { length row.now ≡ count graph.now }
     requires start { start < count graph.now }
-    requires capped { All (λ number. number ≤ least) row.now }
+    requires capped { All (λ value. value ≤ least) row.now }
     ensures { (near : List (List ℕ)) → row_of near start ≡ row.now → IsNearFoundTo graph.now level near start faults
         → IsNearFoundTo graph.now level near (start + 1) result }
 {
@@ -93,7 +93,7 @@ fn take_row(
     requires pairs { ArePairs graph.now least pairs.now }
     requires long { length row.now ≡ count graph.now }
     requires start { start < count graph.now }
-    requires capped { All (λ number. number ≤ least) row.now }
+    requires capped { All (λ value. value ≤ least) row.now }
     requires orderly { AreOrderly (count graph.now) rows.old.links.items }
     ensures taken { OnOk result ((near : List (List ℕ)) → row_of near start ≡ row.now → AreNearRowsTo graph.now level least near start rows.old
         → AreNearRowsTo graph.now level least near (start + 1) rows.new) }

@@ -4,18 +4,18 @@ ghost use Rattle.tcc_txn.specs.declared.limits.TheConstants.{MAX_COUNT, MAX_SESS
 ghost use Rattle.tcc_reads.specs.History.{IsBySession, count};
 ghost use Rattle.tcc_graph.specs.Relations.{IsCausalPair, IsReadsPair};
 ghost use Rattle.tcc_graph.specs.declared.level.Level.TheVariants.{Causal};
-ghost use Rattle.tcc_cert.specs.Tables.{entry, HasSize, IsFirstPlace};
+ghost use Rattle.tcc_cert.specs.Tables.{entry, HasSize, IsFirstAt};
 ghost use Rattle.tcc_cert.specs.OrderRules.{HasClocks, HasInClock, MayReach, HasOrderSizes, KeepsPairs, BreaksAxiom};
 ghost use Rattle.tcc_cert.specs.Rules.{HoldsEverywhere};
 ghost use Rattle.tcc_check.specs.private.Searches.{IsFoundBelow, IsAnswer};
-ghost use Rattle.tcc_check.specs.private.Places.{ArePlaces, IsKept, IsBehind};
+ghost use Rattle.tcc_check.specs.private.Positions.{ArePositions, IsKept, IsBehind};
 ghost use Rattle.tcc_check.specs.private.Readings.{AreReadings};
 ghost use Rattle.tcc_check.specs.Verdicts.{order_rules};
 
 use crate::groups::Groups;
 use crate::latest::keeps_axiom;
 use crate::links_from::{contradicted_weights, pair_weights};
-use crate::places::places_of;
+use crate::positions::positions_of;
 use crate::previous::previous;
 use crate::readings::readings_of;
 use crate::sizes::has_size;
@@ -46,13 +46,13 @@ pub(crate) fn clock_gap(graph: &Graph, clocks: &[Numbers], b: u32, c: u32) -> u3
     }
 }
 
-/// Whether no number of the one clock is above that of the other.
+/// Whether no value of the one clock is above that of the other.
 fn is_clock_below(one: &[u32], other: &[u32]) -> bool
     requires { length one.now ≡ length other.now }
     ensures { IsTrue result ↔ ((session : ℕ) → session < length one.now → slice_index one.now session ≤ slice_index other.now session) }
 {
-    for (session, number) in one.iter().enumerate() {
-        if other[session] < *number {
+    for (session, value) in one.iter().enumerate() {
+        if other[session] < *value {
             return false;
         }
     }
@@ -71,14 +71,21 @@ fn is_in_clock(graph: &Graph, clocks: &[Numbers], b: u32, c: u32) -> bool
 }
 
 /// Whether `b` stands before `c`, and the clock of `c`, where there are clocks, has that of `b` and `b` itself.
-fn is_kept(graph: &Graph, level: Level, places: &[u32], clocks: &[Numbers], b: u32, c: u32) -> bool
-    requires places { length places.now ≡ count graph.now }
+fn is_kept(
+    graph: &Graph,
+    level: Level,
+    positions: &[u32],
+    clocks: &[Numbers],
+    b: u32,
+    c: u32,
+) -> bool
+    requires positions { length positions.now ≡ count graph.now }
     requires clocks { HasClocks level (count graph.now) (length graph.now.sessions) clocks.now }
     requires b { b < count graph.now }
     requires c { c < count graph.now }
-    ensures { IsTrue result ↔ IsKept graph.now level places.now clocks.now b c }
+    ensures { IsTrue result ↔ IsKept graph.now level positions.now clocks.now b c }
 {
-    if places[c as usize] <= places[b as usize] {
+    if positions[c as usize] <= positions[b as usize] {
         return false;
     }
     match level {
@@ -88,14 +95,14 @@ fn is_kept(graph: &Graph, level: Level, places: &[u32], clocks: &[Numbers], b: u
 }
 
 /// Whether all reads-from pairs that end at `c` are kept.
-fn keeps_sources(graph: &Graph, level: Level, places: &[u32], clocks: &[Numbers], c: u32) -> bool
-    requires places { length places.now ≡ count graph.now }
+fn keeps_sources(graph: &Graph, level: Level, positions: &[u32], clocks: &[Numbers], c: u32) -> bool
+    requires positions { length positions.now ≡ count graph.now }
     requires clocks { HasClocks level (count graph.now) (length graph.now.sessions) clocks.now }
     requires c { c < count graph.now }
-    ensures { IsTrue result ↔ ((b : ℕ) (x : List ℕ) → IsReadsPair graph.now b c x → IsKept graph.now level places.now clocks.now b c) }
+    ensures { IsTrue result ↔ ((b : ℕ) (x : List ℕ) → IsReadsPair graph.now b c x → IsKept graph.now level positions.now clocks.now b c) }
 {
     for (_key, source) in graph.reads(c) {
-        if !is_kept(graph, level, places, clocks, *source, c) {
+        if !is_kept(graph, level, positions, clocks, *source, c) {
             return false;
         }
     }
@@ -104,29 +111,35 @@ fn keeps_sources(graph: &Graph, level: Level, places: &[u32], clocks: &[Numbers]
 
 /// Whether all causal pairs that end at `c` are kept, where those that end before it are: of session order it is enough
 /// to ask of the last transaction before `c`.
-fn keeps_pairs_to(graph: &Graph, level: Level, places: &[u32], clocks: &[Numbers], c: u32) -> bool
+fn keeps_pairs_to(
+    graph: &Graph,
+    level: Level,
+    positions: &[u32],
+    clocks: &[Numbers],
+    c: u32,
+) -> bool
     requires numbered { IsBySession graph.now.entries }
-    requires places { length places.now ≡ count graph.now }
+    requires positions { length positions.now ≡ count graph.now }
     requires clocks { HasClocks level (count graph.now) (length graph.now.sessions) clocks.now }
     requires c { c < count graph.now }
-    requires earlier { (b : ℕ) (end : ℕ) → end < c → IsCausalPair graph.now b end → IsKept graph.now level places.now clocks.now b end }
-    ensures { IsTrue result ↔ ((b : ℕ) → IsCausalPair graph.now b c → IsKept graph.now level places.now clocks.now b c) }
+    requires earlier { (b : ℕ) (end : ℕ) → end < c → IsCausalPair graph.now b end → IsKept graph.now level positions.now clocks.now b end }
+    ensures { IsTrue result ↔ ((b : ℕ) → IsCausalPair graph.now b c → IsKept graph.now level positions.now clocks.now b c) }
 {
-    if 0 < c && !is_kept(graph, level, places, clocks, previous(graph, c), c) {
+    if 0 < c && !is_kept(graph, level, positions, clocks, previous(graph, c), c) {
         return false;
     }
-    keeps_sources(graph, level, places, clocks, c)
+    keeps_sources(graph, level, positions, clocks, c)
 }
 
 /// Whether all causal pairs are kept.
-fn keeps_pairs(graph: &Graph, level: Level, places: &[u32], clocks: &[Numbers]) -> bool
+fn keeps_pairs(graph: &Graph, level: Level, positions: &[u32], clocks: &[Numbers]) -> bool
     requires numbered { IsBySession graph.now.entries }
-    requires places { length places.now ≡ count graph.now }
+    requires positions { length positions.now ≡ count graph.now }
     requires clocks { HasClocks level (count graph.now) (length graph.now.sessions) clocks.now }
-    ensures { IsTrue result ↔ ((b : ℕ) (c : ℕ) → IsCausalPair graph.now b c → IsKept graph.now level places.now clocks.now b c) }
+    ensures { IsTrue result ↔ ((b : ℕ) (c : ℕ) → IsCausalPair graph.now b c → IsKept graph.now level positions.now clocks.now b c) }
 {
     for c in 0..graph.count() {
-        if !keeps_pairs_to(graph, level, places, clocks, c) {
+        if !keeps_pairs_to(graph, level, positions, clocks, c) {
             return false;
         }
     }
@@ -173,14 +186,14 @@ fn gaps(
 }
 
 /// The first transaction that `b`, by these weights, contradicts, and does not stand before.
-fn first_behind(places: &[u32], weights: &[u32], b: u32) -> Option<u32>
-    requires size { length weights.now ≡ length places.now }
-    requires b { b < length places.now }
-    requires few { length places.now < 2 ^ 32 }
-    ensures { IsFoundBelow (length places.now) (IsBehind weights.now places.now b) result }
+fn first_behind(positions: &[u32], weights: &[u32], b: u32) -> Option<u32>
+    requires size { length weights.now ≡ length positions.now }
+    requires b { b < length positions.now }
+    requires few { length positions.now < 2 ^ 32 }
+    ensures { IsFoundBelow (length positions.now) (IsBehind weights.now positions.now b) result }
 {
-    for (a, place) in places.iter().enumerate() {
-        if weights[a] == 0 && *place <= places[b as usize] {
+    for (a, position) in positions.iter().enumerate() {
+        if weights[a] == 0 && *position <= positions[b as usize] {
             return Some(a as u32);
         }
     }
@@ -193,37 +206,37 @@ fn broken_by(
     graph: &Graph,
     claim: &OrderClaim,
     readings: &[Option<Groups>],
-    places: &[u32],
+    positions: &[u32],
     b: u32,
 ) -> Result<Option<u32>, NoMemory>
     requires few { count graph.now ≤ MAX_COUNT }
     requires readings { AreReadings graph.now readings.now }
     requires sizes { HasOrderSizes graph.now claim.now }
-    requires places { ArePlaces claim.now.order places.now }
+    requires positions { ArePositions claim.now.order positions.now }
     requires b { b < count graph.now }
     ensures { IfOk result (IsFoundBelow (count graph.now) (λ a. BreaksAxiom graph.now claim.now (b, a))) }
 {
     let row = gaps(alloc, graph, claim.level, claim.clocks.as_slice(), b)?;
     let weights = contradicted_weights(alloc, graph, readings, &row, b)?;
-    Ok(first_behind(places, &weights, b))
+    Ok(first_behind(positions, &weights, b))
 }
 
-/// The first place at which the axiom is broken.
+/// Where the axiom is broken first.
 fn broken_axiom(
     alloc: Global,
     graph: &Graph,
     claim: &OrderClaim,
-    places: &[u32],
+    positions: &[u32],
 ) -> Result<Option<(u32, u32)>, NoMemory>
     requires few { count graph.now ≤ MAX_COUNT }
     requires sizes { HasOrderSizes graph.now claim.now }
-    requires places { ArePlaces claim.now.order places.now }
+    requires positions { ArePositions claim.now.order positions.now }
     ensures { IfOk result (λ found. MatchOption found
-        (HoldsEverywhere (BreaksAxiom graph.now claim.now)) (IsFirstPlace (BreaksAxiom graph.now claim.now))) }
+        (HoldsEverywhere (BreaksAxiom graph.now claim.now)) (IsFirstAt (BreaksAxiom graph.now claim.now))) }
 {
     let readings = readings_of(alloc, graph)?;
     for b in 0..graph.count() {
-        if let Some(a) = broken_by(alloc, graph, claim, &readings, places, b)? {
+        if let Some(a) = broken_by(alloc, graph, claim, &readings, positions, b)? {
             return Ok(Some((b, a)));
         }
     }
@@ -254,8 +267,8 @@ fn has_order_sizes(graph: &Graph, claim: &OrderClaim) -> bool
         && has_clocks(claim.level, claim.clocks.as_slice(), count, all)
 }
 
-/// The place of each number, none where a number is there twice or a causal pair is not kept.
-fn kept_places(
+/// The position of each number, none where a number is there twice or a causal pair is not kept.
+fn kept_positions(
     alloc: Global,
     graph: &Graph,
     claim: &OrderClaim,
@@ -264,15 +277,15 @@ fn kept_places(
     requires few { count graph.now ≤ MAX_COUNT }
     requires sizes { HasOrderSizes graph.now claim.now }
     ensures { IfOk result (λ found. MatchOption found
-        (KeepsPairs graph.now claim.now → ⊥) (λ places. ArePlaces claim.now.order places.items × KeepsPairs graph.now claim.now)) }
+        (KeepsPairs graph.now claim.now → ⊥) (λ positions. ArePositions claim.now.order positions.items × KeepsPairs graph.now claim.now)) }
 {
-    let Some(places) = places_of(alloc, claim.order.as_slice())? else {
+    let Some(positions) = positions_of(alloc, claim.order.as_slice())? else {
         return Ok(None);
     };
-    if !keeps_pairs(graph, claim.level, &places, claim.clocks.as_slice()) {
+    if !keeps_pairs(graph, claim.level, &positions, claim.clocks.as_slice()) {
         return Ok(None);
     }
-    Ok(Some(places))
+    Ok(Some(positions))
 }
 
 /// Judges a claim that a list is a commit order.
@@ -286,14 +299,20 @@ pub(crate) fn order_verdict(
     if !has_order_sizes(graph, claim) {
         return Ok(rejected(Rule::Sizes, 0));
     }
-    let Some(places) = kept_places(alloc, graph, claim)? else {
+    let Some(positions) = kept_positions(alloc, graph, claim)? else {
         return Ok(rejected(Rule::Pairs, 0));
     };
-    let kept = keeps_axiom(alloc, graph, claim.level, &places, claim.clocks.as_slice())?;
+    let kept = keeps_axiom(
+        alloc,
+        graph,
+        claim.level,
+        &positions,
+        claim.clocks.as_slice(),
+    )?;
     if kept {
         return Ok(Verdict::Accepted);
     }
-    match broken_axiom(alloc, graph, claim, &places)? {
+    match broken_axiom(alloc, graph, claim, &positions)? {
         Some(at) => Ok(Verdict::Rejected {
             rule: Rule::Axiom,
             at,

@@ -16,13 +16,13 @@ use tcc_txn::NoMemory;
 /// A source that has fewer readers is looked up for each of them.
 const READERS_GROUPED: usize = 4;
 
-/// Who reads the key at a place, each with the source, where the sources have many readers.
-fn readings_at(alloc: Global, graph: &Graph, place: u32) -> Result<Option<Groups>, NoMemory>
+/// Who reads a key, each with the source, where the sources have many readers.
+fn readings_at(alloc: Global, graph: &Graph, key_index: u32) -> Result<Option<Groups>, NoMemory>
     requires few { count graph.now ≤ MAX_COUNT }
-    requires place { place < length (keys graph.now) }
-    ensures { IfOk result (λ found. IfSome found (AreReadingsAt graph.now place)) }
+    requires key_index { key_index < length (keys graph.now) }
+    ensures { IfOk result (λ found. IfSome found (AreReadingsAt graph.now key_index)) }
 {
-    let (sources, readers) = graph.readings_of(place);
+    let (sources, readers) = graph.readings_of(key_index);
     let mut readings = Vec::new(alloc);
     for (index, reader) in readers.iter().enumerate() {
         readings.push((*reader, sources[index]))?;
@@ -40,22 +40,22 @@ pub(crate) fn readings_of(alloc: Global, graph: &Graph) -> Result<Vec<Option<Gro
     ensures { IfOk result (λ readings. AreReadings graph.now readings.items) }
 {
     let mut readings = Vec::new(alloc);
-    for place in 0..graph.keys().len() {
-        let Ok(place) = u32::try_from(place) else {
+    for key_index in 0..graph.keys().len() {
+        let Ok(key_index) = u32::try_from(key_index) else {
             return Err(NoMemory);
         };
-        readings.push(readings_at(alloc, graph, place)?)?;
+        readings.push(readings_at(alloc, graph, key_index)?)?;
     }
     Ok(readings)
 }
 
-/// The least number of a row.
+/// The least value of a row.
 pub(crate) fn least_of(row: &[u32]) -> u32
-    ensures { All (λ number. result ≤ number) row.now }
+    ensures { All (λ value. result ≤ value) row.now }
 {
     let mut least = UNLINKED;
-    for number in row {
-        least = least.min(*number);
+    for value in row {
+        least = least.min(*value);
     }
     least
 }
@@ -64,7 +64,7 @@ pub(crate) fn least_of(row: &[u32]) -> u32
 /// low none is looked at.
 fn least_for(readers: &[u16], row: &[u32], floor: u32) -> u32
     requires readers { All (λ reader. reader < length row.now) readers.now }
-    requires floor { All (λ number. floor ≤ number) row.now }
+    requires floor { All (λ value. floor ≤ value) row.now }
     ensures low { (c : ℕ) → Contains readers.now c → result ≤ slice_index row.now c }
     ensures from { (result ≡ unlinked) ⊎ ((c : ℕ) × Contains readers.now c × (result ≡ slice_index row.now c)) }
 {
@@ -82,7 +82,7 @@ fn least_for(readers: &[u16], row: &[u32], floor: u32) -> u32
 fn lower_readings(weights: &mut [u32], readings: &Groups, row: &[u32], floor: u32, start: u32)
     requires sources { All (λ reading. reading.1 < length weights.old) readings.now }
     requires readers { All (λ reading. reading.0 < length row.now) readings.now }
-    requires floor { All (λ number. floor ≤ number) row.now }
+    requires floor { All (λ value. floor ≤ value) row.now }
     ensures { IsLowered (ReadingWeighs readings.now row.now start) weights.old weights.new }
 {
     let (mut left, groups) = readings.parts();
@@ -103,36 +103,36 @@ fn lower_pairs(weights: &mut [u32], sources: &[u32], readers: &[u32], row: &[u32
     requires readers { All (λ reader. reader < length row.now) readers.now }
     ensures { IsLowered (PairWeighs sources.now readers.now row.now start) weights.old weights.new }
 {
-    for (place, source) in sources.iter().enumerate() {
+    for (index, source) in sources.iter().enumerate() {
         if *source != start {
-            let number = row[readers[place] as usize];
-            weights[*source as usize] = weights[*source as usize].min(number);
+            let value = row[readers[index] as usize];
+            weights[*source as usize] = weights[*source as usize].min(value);
         }
     }
 }
 
-/// Lowers the weights of the sources of the key at a place, but that of `start`, to what the row has for who reads them
+/// Lowers the weights of the sources of a key, but that of `start`, to what the row has for who reads them
 /// there.
-pub(crate) fn lower_place(
+pub(crate) fn lower_key(
     weights: &mut [u32],
     graph: &Graph,
     readings: &Option<Groups>,
-    place: u32,
+    key_index: u32,
     row: &[u32],
     floor: u32,
     start: u32,
 )
     requires weights { length weights.old ≡ count graph.now }
-    requires readings { IfSome readings.now (AreReadingsAt graph.now place) }
-    requires place { place < length (keys graph.now) }
+    requires readings { IfSome readings.now (AreReadingsAt graph.now key_index) }
+    requires key_index { key_index < length (keys graph.now) }
     requires row { length row.now ≡ count graph.now }
-    requires floor { All (λ number. floor ≤ number) row.now }
-    ensures { IsLowered (KeyWeighs graph.now row.now start place) weights.old weights.new }
+    requires floor { All (λ value. floor ≤ value) row.now }
+    ensures { IsLowered (KeyWeighs graph.now row.now start key_index) weights.old weights.new }
 {
     match readings {
         Some(readings) => lower_readings(weights, readings, row, floor, start),
         None => {
-            let (sources, readers) = graph.readings_of(place);
+            let (sources, readers) = graph.readings_of(key_index);
             lower_pairs(weights, sources, readers, row, start);
         }
     }

@@ -5,40 +5,45 @@ ghost use Rattle.tcc_reads.specs.History.{count};
 ghost use Rattle.tcc_graph.specs.Keys.{keys};
 ghost use Rattle.tcc_graph.specs.declared.level.Level.TheVariants.{Atomic};
 ghost use Rattle.tcc_check.specs.private.Latest.{AreApart, AreReadsKept, AreRising, KeepsSessions};
-ghost use Rattle.tcc_check.specs.private.SinglePairs.{AreSourcePlaces, DoSessionsStand, DoSourcesStand, DoesSessionStand, DoesWriterStand};
+ghost use Rattle.tcc_check.specs.private.SinglePairs.{AreSourcePositions, DoSessionsStand, DoSourcesStand, DoesSessionStand, DoesWriterStand};
 
 use crate::latest::stands_before;
 use std::alloc::Global;
 use tcc_graph::Graph;
 use tcc_txn::NoMemory;
 
-/// Stands for a key that is not read. No place in an order is above it.
+/// Stands for a key that is not read. No position in an order is above it.
 const UNREAD: u32 = u32::MAX;
 
-/// For each key the place in the order of whom `c` reads it from, or `UNREAD`.
-fn source_places(alloc: Global, graph: &Graph, places: &[u32], c: u32) -> Result<Vec<u32>, NoMemory>
-    requires places { length places.now ≡ count graph.now }
+/// For each key the position in the order of whom `c` reads it from, or `UNREAD`.
+fn source_positions(
+    alloc: Global,
+    graph: &Graph,
+    positions: &[u32],
+    c: u32,
+) -> Result<Vec<u32>, NoMemory>
+    requires positions { length positions.now ≡ count graph.now }
     requires reader { c < count graph.now }
     ensures long { IfOk result (λ sources. length sources.items ≡ length (keys graph.now)) }
-    ensures low { IfOk result (λ sources. AreSourcePlaces graph.now places.now c sources.items) }
+    ensures low { IfOk result (λ sources. AreSourcePositions graph.now positions.now c sources.items) }
 {
     let mut sources = vec![in alloc; UNREAD; graph.keys().len()]?;
     for (key, source) in graph.reads_at(c) {
-        let place = places[*source as usize];
-        sources[*key as usize] = sources[*key as usize].min(place);
+        let position = positions[*source as usize];
+        sources[*key as usize] = sources[*key as usize].min(position);
     }
     Ok(sources)
 }
 
 /// Whether `b` stands behind none of these sources whose key it writes too.
-fn writer_stands(graph: &Graph, places: &[u32], sources: &[u32], b: u32) -> bool
-    requires places { length places.now ≡ count graph.now }
+fn writer_stands(graph: &Graph, positions: &[u32], sources: &[u32], b: u32) -> bool
+    requires positions { length positions.now ≡ count graph.now }
     requires sources { length sources.now ≡ length (keys graph.now) }
     requires writer { b < count graph.now }
-    ensures { IsTrue result → DoesWriterStand graph.now places.now sources.now b }
+    ensures { IsTrue result → DoesWriterStand graph.now positions.now sources.now b }
 {
     for key in graph.writes_at(b) {
-        if sources[*key as usize] < places[b as usize] {
+        if sources[*key as usize] < positions[b as usize] {
             return false;
         }
     }
@@ -46,14 +51,14 @@ fn writer_stands(graph: &Graph, places: &[u32], sources: &[u32], b: u32) -> bool
 }
 
 /// Whether no source of `c` stands behind another one whose key it writes too.
-fn sources_stand(alloc: Global, graph: &Graph, places: &[u32], c: u32) -> Result<bool, NoMemory>
-    requires places { length places.now ≡ count graph.now }
+fn sources_stand(alloc: Global, graph: &Graph, positions: &[u32], c: u32) -> Result<bool, NoMemory>
+    requires positions { length positions.now ≡ count graph.now }
     requires reader { c < count graph.now }
-    ensures { IfOk result (λ stand. IsTrue stand → DoSourcesStand graph.now places.now c) }
+    ensures { IfOk result (λ stand. IsTrue stand → DoSourcesStand graph.now positions.now c) }
 {
-    let sources = source_places(alloc, graph, places, c)?;
+    let sources = source_positions(alloc, graph, positions, c)?;
     for (_key, source) in graph.reads_at(c) {
-        if !writer_stands(graph, places, &sources, *source) {
+        if !writer_stands(graph, positions, &sources, *source) {
             return Ok(false);
         }
     }
@@ -61,11 +66,11 @@ fn sources_stand(alloc: Global, graph: &Graph, places: &[u32], c: u32) -> Result
 }
 
 /// Whether none of these writers that stands before `c` in its session stands behind the source.
-fn session_stands(graph: &Graph, places: &[u32], writers: &[u32], source: u32, c: u32) -> bool
-    requires places { KeepsSessions graph.now places.now }
+fn session_stands(graph: &Graph, positions: &[u32], writers: &[u32], source: u32, c: u32) -> bool
+    requires positions { KeepsSessions graph.now positions.now }
     requires writers { AreRising graph.now writers.now }
     requires source { source < count graph.now }
-    ensures { IsTrue result → DoesSessionStand graph.now places.now writers.now source c }
+    ensures { IsTrue result → DoesSessionStand graph.now positions.now writers.now source c }
 {
     let Some((session, place)) = graph.at(c) else {
         return true;
@@ -73,17 +78,17 @@ fn session_stands(graph: &Graph, places: &[u32], writers: &[u32], source: u32, c
     if place == 0 {
         return true;
     }
-    stands_before(graph, places, writers, session, place - 1, source)
+    stands_before(graph, positions, writers, session, place - 1, source)
 }
 
 /// Whether none of its session stands behind what `c` reads, at a key that it writes too.
-fn sessions_stand(graph: &Graph, places: &[u32], c: u32) -> bool
-    requires places { KeepsSessions graph.now places.now }
+fn sessions_stand(graph: &Graph, positions: &[u32], c: u32) -> bool
+    requires positions { KeepsSessions graph.now positions.now }
     requires reader { c < count graph.now }
-    ensures { IsTrue result → DoSessionsStand graph.now places.now c }
+    ensures { IsTrue result → DoSessionsStand graph.now positions.now c }
 {
     for (key, source) in graph.reads_at(c) {
-        if !session_stands(graph, places, graph.writers_at(*key), *source, c) {
+        if !session_stands(graph, positions, graph.writers_at(*key), *source, c) {
             return false;
         }
     }
@@ -94,17 +99,17 @@ fn sessions_stand(graph: &Graph, places: &[u32], c: u32) -> bool
 pub(crate) fn are_reads_kept_by_pairs(
     alloc: Global,
     graph: &Graph,
-    places: &[u32],
+    positions: &[u32],
     c: u32,
 ) -> Result<bool, NoMemory>
-    requires places { KeepsSessions graph.now places.now }
-    requires apart { AreApart places.now }
+    requires positions { KeepsSessions graph.now positions.now }
+    requires apart { AreApart positions.now }
     requires reader { c < count graph.now }
-    ensures { (clocks : List (List ℕ)) → IfOk result (λ kept. IsTrue kept → AreReadsKept graph.now Atomic places.now clocks c) }
+    ensures { (clocks : List (List ℕ)) → IfOk result (λ kept. IsTrue kept → AreReadsKept graph.now Atomic positions.now clocks c) }
 {
-    if !sessions_stand(graph, places, c) {
+    if !sessions_stand(graph, positions, c) {
         return Ok(false);
     }
-    let stand = sources_stand(alloc, graph, places, c)?;
+    let stand = sources_stand(alloc, graph, positions, c)?;
     Ok(stand)
 }

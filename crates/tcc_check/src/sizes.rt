@@ -42,14 +42,14 @@ pub(crate) fn has_far_size(version: Version, table: &[Numbers], count: u32) -> b
 
 /// Whether no number is above the limit.
 fn is_row_capped(row: &[u32], most: u32) -> bool
-    ensures { IsTrue result ↔ All (λ number. number ≤ most) row.now }
+    ensures { IsTrue result ↔ All (λ value. value ≤ most) row.now }
 {
-    row.iter().all(|number| *number <= most)
+    row.iter().all(|value| *value <= most)
 }
 
 /// Whether a row has so many numbers, none above the limit.
 pub(crate) fn is_row_right(row: &[u32], long: usize, most: u32) -> bool
-    ensures { IsTrue result ↔ ((length row.now ≡ long) × All (λ number. number ≤ most) row.now) }
+    ensures { IsTrue result ↔ ((length row.now ≡ long) × All (λ value. value ≤ most) row.now) }
 {
     row.len() == long && is_row_capped(row, most)
 }

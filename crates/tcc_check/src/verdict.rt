@@ -53,22 +53,19 @@ impl Rule {
 pub enum Verdict {
     /// All of them hold, and so the claim is true.
     Accepted,
-    /// This is the first broken rule, and the first place where it is broken: two transactions; of `Links` the number
-    /// of the first wrong link, from 1, and 0; and 0 and 0 where the rule has no places.
+    /// This is the first broken rule, and where it is broken first: two transactions; of `Links` the number
+    /// of the first wrong link, from 1, and 0; and 0 and 0 where the rule names nothing.
     Rejected { rule: Rule, at: (u32, u32) },
 }
 
-/// The verdict that this rule is the first broken one, of a rule that has no places or counts them from 1.
-pub(crate) fn rejected(rule: Rule, place: u32) -> Verdict
-    ensures { result ≡ verdict.Rejected rule (place, 0) }
+/// The verdict that this rule is the first broken one, of a rule that names nothing, or a number from 1.
+pub(crate) fn rejected(rule: Rule, at: u32) -> Verdict
+    ensures { result ≡ verdict.Rejected rule (at, 0) }
 {
-    Verdict::Rejected {
-        rule,
-        at: (place, 0),
-    }
+    Verdict::Rejected { rule, at: (at, 0) }
 }
 
-/// The place that was found, or else that in the row of `start`.
+/// What was found, or else what is in the row of `start`.
 pub(crate) fn first_of(
     found: Option<(u32, u32)>,
     start: u32,

@@ -76,8 +76,8 @@ capped_far n cap far size low = λ s r l. λ k e m.
     let row : row_of far s ≡ get_or far s r = get_or_default far s [] r l in
     let long : length (row_of far s) ≡ length (get_or far s r) = ap length row in
     let at : get_or (row_of far s) k 0 ≡ get_or (get_or far s r) k e = number_at far s k 0 e r l m in
-    let place : s + k - s ≡ k = omega arith in
-    let most : get_or (row_of far s) k 0 ≤ cap = subst (λ (p : ℕ). get_or (row_of far s) p 0 ≤ cap) place (low s (s + k) (omega arith) (omega arith)) in
+    let same : s + k - s ≡ k = omega arith in
+    let most : get_or (row_of far s) k 0 ≤ cap = subst (λ (p : ℕ). get_or (row_of far s) p 0 ≤ cap) same (low s (s + k) (omega arith) (omega arith)) in
     omega arith
 
 -- ---- the links

@@ -13,6 +13,7 @@ use Rattle.tcc_steal.specs.declared.found.Found.{Found}
 use Rattle.tcc_cycle.specs.Returns.{IsFirstReturn}
 use Rattle.tcc_cycle.specs.declared.returning.FirstReturn.{FirstReturn}
 use Rattle.tcc_explain.specs.private.Capping.{AreFarRows}
+use Rattle.tcc_explain.specs.private.Stages.{IsSearched}
 
 module _ (j : Judged) (workers : ℕ) (found : Found) (is : IsFound j workers found) where
   -- where there is a cycle, something is found
@@ -26,13 +27,13 @@ module _ (j : Judged) (workers : ℕ) (found : Found) (is : IsFound j workers fo
     pub some_first : found.first ≡ None → ⊥
     some_first none = subst (λ (o : Option ℕ). IsFirst j (Some b) o) none first_of
 
-    pub least_there : (s : ℕ) × (links : List Link) × IsLeastCycle j s links × (cost links ≡ b)
+    least_there : (s : ℕ) × (links : List Link) × IsLeastCycle j s links × (cost links ≡ b)
     least_there = least_cycle j is.shares b (subst (λ (o : Option ℕ). SettleAt j is.shares o) least is.settle)
 
-    pub far_rows : AreFarRows j b found.rows.items
+    far_rows : AreFarRows j b found.rows.items
     far_rows = record {
       long = is.long;
-      places = is.places;
+      wide = is.places;
       exact =
           λ s v up below. subst (λ (o : Option ℕ). IsCappedDistance j s v o (slice_index_or (row_of found.rows.items s) (v - s) None)) least
           (is.exact s v up below);
@@ -42,10 +43,10 @@ module _ (j : Judged) (workers : ℕ) (found : Found) (is : IsFound j workers fo
       first_is : IsFirst j (Some b) (Some s)
       first_is = subst (λ (o : Option ℕ). IsFirst j (Some b) o) first first_of
 
-      pub start_below : s < length found.rows.items
+      start_below : s < length found.rows.items
       start_below = omega (arith, is.long, first_is.0)
 
-      pub first_return : (back : FirstReturn) → back.start ≡ s → back.cost ≡ b → back.row.now ≡ row_of found.rows.items s → IsFirstReturn j back
+      first_return : (back : FirstReturn) → back.start ≡ s → back.cost ≡ b → back.row.now ≡ row_of found.rows.items s → IsFirstReturn j back
       first_return back start costs row = rw (start, costs, row) (record {
         least = least_there;
         back = first_is.1;
@@ -53,3 +54,6 @@ module _ (j : Judged) (workers : ℕ) (found : Found) (is : IsFound j workers fo
         long = is.places s first_is.0;
         exact = far_rows.exact s;
       })
+
+      pub searched : IsSearched j (record { cost = b; start = s; rows = found.rows })
+      searched = record { rows = far_rows; below = start_below; first = first_return }

@@ -5,7 +5,7 @@ pub mod Numbered
 pub mod CertifiedAnswer
 pub mod FirstAnswers
 pub mod ReadKeys
-pub mod FewPlaces
+pub mod FewTransactions
 pub mod RecordedKeys
 pub mod WrittenAnswer
 pub mod FoundLemmas

@@ -27,13 +27,13 @@ same_list d (x ∷ xs) [] long same = absurd (omega arith)
 same_list d (x ∷ xs) (y ∷ ys) long same =
     ap₂ (λ a rest. a ∷ rest) (same 0 (omega arith)) (same_list d xs ys (omega arith) (λ i low. same (suc i) (omega arith)))
 
--- tables with as many rows, each with as many numbers, that agree at each place
+-- tables with as many rows, each with as many numbers, that agree everywhere
 same_table : (table other : List (List ℕ)) → length table ≡ length other → ((i : ℕ) → i < length table → length (row_of table i) ≡ length (row_of other i))
     → ((i k : ℕ) → i < length table → k < length (row_of table i) → entry table i k ≡ entry other i k) → table ≡ other
 same_table table other long wide same =
     same_list [] table other long (λ i low. same_list 0 (row_of table i) (row_of other i) (wide i low) (λ k within. same i k low within))
 
--- ---- what stands at a place
+-- ---- what stands in a table
 
 -- the size n is the least that something has, where that is below the cap; else the cap
 abbrev IsCapped : {X : Type 0} → (X → Type 0) → (X → ℕ) → ℕ → ℕ → Type 0

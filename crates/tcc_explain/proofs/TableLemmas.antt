@@ -24,18 +24,18 @@ pub far_few : (j : Judged) (cap : ℕ) (costs : List (List (Option ℕ))) → Ar
     → All (λ row. length row ≤ MAX_COUNT) costs
 far_few j cap costs are few = λ i d low.
     let from : i < count j.history = omega (arith, low, are.long) in
-    omega (arith, ap length (get_or_default costs i d [] low), are.places i from, few)
+    omega (arith, ap length (get_or_default costs i d [] low), are.wide i from, few)
 
 -- the table of these rows, which are capped already
 pub far_table : (j : Judged) (cap : ℕ) (costs : List (List (Option ℕ))) → AreFarRows j cap costs → IsFarTable j cap (map (map (at_most cap)) costs)
 far_table j cap costs are = record {
   size = record {
     long = length-map costs (map (at_most cap)) ∙ are.long;
-    wide = λ s low. ap length (row s low) ∙ (length-map (row_of costs s) (at_most cap) ∙ are.places s low);
+    wide = λ s low. ap length (row s low) ∙ (length-map (row_of costs s) (at_most cap) ∙ are.wide s low);
   };
   exact = λ s v up to.
       let from : s < count j.history = omega arith in
-      let within : v - s < length (row_of costs s) = omega (arith, are.places s from) in
+      let within : v - s < length (row_of costs s) = omega (arith, are.wide s from) in
       let at : far_entry Two table s v ≡ at_most cap (get_or (row_of costs s) (v - s) None) =
       ap (λ (r : List ℕ). get_or r (v - s) 0) (row s from) ∙ get_or-map (at_most cap) (row_of costs s) (v - s) None 0 within in
       subst (λ (z : ℕ). IsCappedDistance j s v (Some cap) (Some z)) (sym at) (some_distance s v (get_or (row_of costs s) (v - s) None) (are.exact s v up to));

@@ -1,13 +1,16 @@
 //! The answer for a snapshot.
 ghost use Rattle.std.specs.Prelude.{◌≡◌, IfOk, MatchResult};
+ghost use Rattle.tcc_graph.specs.Links.{cost};
+ghost use Rattle.tcc_graph.specs.Orders.{IsFirstOrder};
 ghost use Rattle.tcc_graph.specs.Routes.{HasCycle};
+ghost use Rattle.tcc_graph.specs.Ties.{IsFirstCycle};
 ghost use Rattle.tcc_near.specs.Distances.{IsNearOf};
 ghost use Rattle.tcc_derive.specs.Prices.{IsPricesOf};
 ghost use Rattle.tcc_answer.specs.Labels.{labels_of};
 ghost use Rattle.tcc_answer.specs.declared.answer.Answer.TheVariants as answer;
 ghost use Rattle.tcc_explain.specs.Explained.{IsAnswerOfSnapshot, IsAnswerOfHistory, IsRefusal};
-ghost use Rattle.tcc_explain.specs.private.Stages.{IsLabelledHistory};
-ghost use Rattle.tcc_graph.specs.Levels.{judged};
+ghost use Rattle.tcc_explain.specs.private.Stages.{IsLabelledHistory, IsSearched};
+ghost use Rattle.tcc_graph.specs.Levels.{Judged, judged};
 
 use crate::offering::{lesser, offered};
 use crate::refusal::ExplainFault;
@@ -23,27 +26,76 @@ use tcc_graph::{Graph, Level, Link};
 use tcc_near::{Near, near};
 use tcc_order::laws::order_or_cycle;
 use tcc_order::order;
+use tcc_packed::PackedRow;
 use tcc_reads::{ResolveFault, resolve};
 use tcc_steal::{AllStart, Gate, search_with};
 use tcc_txn::{NoMemory, Snapshot};
 use tcc_workers::Workers;
 
-/// The distances of a graph at a level, which they name.
-fn distances(
-    rt: &(impl Threads + Sync),
-    alloc: Global,
-    graph: &Graph,
-    level: Level,
-) -> Result<Near, NoMemory>
-    ensures level { IfOk result (λ near. near.level ≡ level) }
-    ensures near { IfOk result (λ near. IsNearOf (judged graph.now near.level) near) }
-{
-    let distances = near(rt, alloc, graph, level)?;
-    Ok(distances)
+/// What the searches have found where there is a cycle.
+#[derive(Drop)]
+struct Searched {
+    /// What a least cycle costs.
+    cost: u32,
+    /// The lowest start from which a least cycle leads, over numbers not below it.
+    start: u32,
+    /// A row for each start, capped at the cost.
+    rows: Vec<PackedRow>,
 }
 
-/// The first of the least cycles with its tables, by so many workers; they begin with what a cycle costs that goes where
-/// the links of an earlier one go. The tables are the rows of the distances and of the searches, as they lie.
+/// Searches from all starts, by so many workers, where there is a cycle. They begin with what a cycle costs that goes where
+/// the links of an earlier one go.
+fn search_all<G: Gate>(
+    rt: &(impl Threads + Sync),
+    alloc: Global,
+    near: &Near,
+    prices: &Prices,
+    earlier: &[Link],
+    workers: Workers,
+    gate: &G,
+) -> Result<Searched, NoMemory>
+    requires cycle { (j : Judged) × IsNearOf j near.now × IsPricesOf j prices.now × HasCycle j }
+    ensures { (j : Judged) → IsPricesOf j prices.now → HasCycle j → IfOk result (IsSearched j) }
+{
+    let seed = lesser(offered(prices, earlier), seed(near, prices));
+    let found = search_with(rt, alloc, prices, seed, workers, gate, &AllStart)?;
+    let Some(cost) = found.least else {
+        unreachable!()
+    };
+    let Some(start) = found.first else {
+        unreachable!()
+    };
+    Ok(Searched {
+        cost,
+        start,
+        rows: found.rows,
+    })
+}
+
+/// The links of the first of the least cycles.
+fn first_links(
+    alloc: Global,
+    graph: &Graph,
+    near: &Near,
+    prices: &Prices,
+    searched: &Searched,
+) -> Result<Vec<Link>, NoMemory>
+    requires near { IsNearOf (judged graph.now near.now.level) near.now }
+    requires prices { IsPricesOf (judged graph.now near.now.level) prices.now }
+    requires searched { IsSearched (judged graph.now near.now.level) searched.now }
+    ensures first { IfOk result (λ links. IsFirstCycle (judged graph.now near.now.level) searched.now.start links.items) }
+    ensures cost { IfOk result (λ links. cost links.items ≡ searched.now.cost) }
+{
+    let row = searched.rows[searched.start as usize].unpacked(alloc)?;
+    let back = FirstReturn {
+        start: searched.start,
+        cost: searched.cost,
+        row: &row,
+    };
+    first_cycle(alloc, graph, near, prices, &back)
+}
+
+/// The first of the least cycles with its tables. These are the rows of the distances and of the searches, as they lie.
 fn anomaly<G: Gate>(
     rt: &(impl Threads + Sync),
     alloc: Global,
@@ -61,31 +113,33 @@ fn anomaly<G: Gate>(
     requires labels { labels ≡ labels_of graph.now }
     ensures { IfOk result (λ anomaly. IsAnswerOfHistory (judged graph.now near.level) (answer.Anomaly anomaly)) }
 {
-    let seed = lesser(offered(&prices, earlier), seed(&near, &prices));
-    let found = search_with(rt, alloc, &prices, seed, workers, gate, &AllStart)?;
-    let Some(cost) = found.least else {
-        unreachable!()
-    };
-    let Some(start) = found.first else {
-        unreachable!()
-    };
-    let row = found.rows[start as usize].unpacked(alloc)?;
-    let links = first_cycle(
-        alloc,
-        graph,
-        &near,
-        &prices,
-        &FirstReturn {
-            start,
-            cost,
-            row: &row,
-        },
-    )?;
+    let searched = search_all(rt, alloc, &near, &prices, earlier, workers, gate)?;
+    let links = first_links(alloc, graph, &near, &prices, &searched)?;
     drop(prices);
     let level = near.level();
-    let far = far_rows(graph, level, found.rows, cost);
+    let cost = searched.cost;
+    let far = far_rows(graph, level, searched.rows, cost);
     let distances = near_rows(alloc, graph, near, cost)?;
     Ok(Anomaly::new(level, Links::new(links), cost, distances, far, labels))
+}
+
+/// The answer where this is the first commit order, with its clocks.
+fn order_answer(
+    alloc: Global,
+    graph: &Graph,
+    level: Level,
+    order: Vec<u32>,
+    labels: Labels,
+) -> Result<Answer, NoMemory>
+    requires labels { labels ≡ labels_of graph.now }
+    requires order { IsFirstOrder (judged graph.now level) order.items }
+    ensures { IfOk result (IsAnswerOfHistory (judged graph.now level)) }
+{
+    order_or_cycle();
+    let sessions = graph.sessions().len() as u32;
+    let clocks = clocks_at(alloc, graph, level, &order)?;
+    let order = Numbers::new(order);
+    Ok(Answer::Commit(Commit::new(level, order, sessions, clocks, labels)))
 }
 
 /// The first answer for a history at a level: a commit order, or a cycle where there is none. It is the same whatever links
@@ -103,14 +157,10 @@ pub(crate) fn history_answer<G: Gate>(
     requires labels { labels ≡ labels_of graph.now }
     ensures { IfOk result (IsAnswerOfHistory (judged graph.now level)) }
 {
-    order_or_cycle();
     if let Some(order) = order(alloc, graph.large(), level)? {
-        let sessions = graph.sessions().len() as u32;
-        let clocks = clocks_at(alloc, graph, level, &order)?;
-        let order = Numbers::new(order);
-        return Ok(Answer::Commit(Commit::new(level, order, sessions, clocks, labels)));
+        return order_answer(alloc, graph, level, order, labels);
     }
-    let near = distances(rt, alloc, graph, level)?;
+    let near = near(rt, alloc, graph, level)?;
     let prices = derive(rt, alloc, graph, &near)?;
     let anomaly = anomaly(
         rt, alloc, graph, near, prices, labels, earlier, workers, gate,

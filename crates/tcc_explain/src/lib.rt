@@ -11,6 +11,6 @@ mod tables;
 pub use explaining::explain;
 pub use next::explain_next;
 pub use refusal::{ExplainFault, NextFault};
-pub use tcc_answer::{Anomaly, Answer, Commit, Shape, WriteFault, write_json, write_text};
+pub use tcc_answer::{Anomaly, Answer, Commit, Shape};
 pub use tcc_steal::{Gate, OpenGate};
 pub use tcc_workers::Workers;

@@ -2,7 +2,7 @@
 --   Elements   elements of lists that are mapped, or sorted without repeats
 --   Placed     where transactions stand, by name and place; a snapshot that continues another has each of them
 --   Numbered   the transaction of each number
---   Searching  a search for a label, place by place
+--   Searching  a search for a label, one after the other
 --   Labels     no two transactions have one label
 --   Meeting    the number of each transaction in a snapshot that continues its own
 --   Written    which keys a transaction writes, by the values that it writes visibly

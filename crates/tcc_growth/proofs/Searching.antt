@@ -1,4 +1,4 @@
--- A search for a label, place by place.
+-- A search for a label, one after the other.
 use Rattle.std.proofs.Common.{ℕ, zero, suc, ◌∷◌, ◌≡◌, ◌<◌, ◌≤◌, ◌+◌, ◌⊎◌, inl, inr, Bool, true, false, List, [], length, map, get_or, sym, ap, subst, ◌∙◌}
 use Rattle.std.proofs.Common.{arith}
 use Rattle.std.specs.Str.{bytes_eq}
@@ -28,14 +28,14 @@ passed labels label n here before k less = go (cases_lt k n)
     go (inl low) = before k low
     go (inr high) = let same : n ≡ k = omega arith in subst (λ (z : ℕ). bytes_eq label (get_or labels z []) ≡ false) same here
 
--- the text at a place, as a read of it answers
+-- the text at an index, as a read of it answers
 pub read_there : {X : Type 0} (text : X → List ℕ) (xs : List X) (n : ℕ) (x : X) (label now : List ℕ) (b : Bool) → n < length xs → x ≡ get_or xs n x
     → now ≡ text x → b ≡ bytes_eq label now
     → bytes_eq label (get_or (map text xs) n []) ≡ b
 read_there text xs n x label now b within is reads tests =
     ap (λ (z : List ℕ). bytes_eq label z) (get_or-map text xs n x [] within ∙ ap text (sym is) ∙ sym reads) ∙ sym tests
 
--- what a list has at a place, mapped twice
+-- what a list has at an index, mapped twice
 module _ {X Y : Type 0} (text : X → Y) (f : Y → ℕ) where
   pub looked : (xs : List X) (n : ℕ) (x : X) (d : ℕ) → n < length xs → x ≡ get_or xs n x → get_or (map f (map text xs)) n d ≡ f (text x)
   looked [] n x d within is = absurd (omega arith)

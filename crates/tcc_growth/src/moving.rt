@@ -22,9 +22,9 @@ fn moved(earlier: &[String], later: &[String], number: u32) -> u32
     requires { length later.now < 2 ^ 32 }
     ensures { result ≡ moved (map string_bytes earlier.now) (map string_bytes later.now) number }
 {
-    let place = number as usize;
-    if place < earlier.len() {
-        number_of(earlier[place].as_str(), later) as u32
+    let index = number as usize;
+    if index < earlier.len() {
+        number_of(earlier[index].as_str(), later) as u32
     } else {
         later.len() as u32
     }

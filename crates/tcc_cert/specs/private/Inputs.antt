@@ -8,7 +8,7 @@ use Rattle.tcc_cert.specs.WindowBytes.{window_bytes}
 use Rattle.tcc_cert.specs.InputBytes.{HasFailed, IsAt}
 use Rattle.tcc_cert.specs.Outcomes.{IsFailure}
 use Rattle.tcc_cert.specs.private.Showing.{Faults}
-use Rattle.tcc_cert.specs.Reading.{Place, Reads, behind, line_of}
+use Rattle.tcc_cert.specs.Reading.{Position, Reads, behind, line_of}
 
 -- the last line without its line feed
 abbrev pub line_in : {R : Type 0} → Input R → List ℕ
@@ -19,22 +19,22 @@ abbrev pub AsBefore : {R : Type 0} → Input R → Input R → Type 0
 AsBefore old new = new.source.failed ≡ old.source.failed
 
 -- what the next line, of at most so many bytes, shows, unless the reader failed
-abbrev pub FindsLine : {R : Type 0} → ℕ → Place → Result ℕ CertFaultKind → Input R → Type 0
+abbrev pub FindsLine : {R : Type 0} → ℕ → Position → Result ℕ CertFaultKind → Input R → Type 0
 FindsLine most at (Ok length) new = line_of most at.bytes ≡ Ok (take length (window_bytes new.window))
 FindsLine most at (Err kind) new = (line_of most at.bytes ≡ Err kind) ⊎ ((kind ≡ Read) × HasFailed new)
 
 -- the next line was read, or its fault was met, or the reader failed or memory was refused
-abbrev pub TakesLine : {R : Type 0} → (R → Option (List ℕ)) → ℕ → Place → Result ℕ CertFault → Input R → Type 0
+abbrev pub TakesLine : {R : Type 0} → (R → Option (List ℕ)) → ℕ → Position → Result ℕ CertFault → Input R → Type 0
 TakesLine remaining most at (Ok number) new =
     (line_of most at.bytes ≡ Ok (line_in new)) × (number ≡ at.line) × IsAt remaining new (behind at (line_in new))
 TakesLine remaining most at (Err fault) new = ((line_of most at.bytes ≡ Err fault.kind) ⊎ IsFailure (HasFailed new) fault.kind) × (fault.line ≡ at.line)
 
--- what the text shows from the place on was given, and the input is behind it
-abbrev pub Gives : {R X : Type 0} → (R → Option (List ℕ)) → Place → Reads X → Result X CertFault → Input R → Type 0
-Gives remaining at read (Ok x) new = (after : Place) × (read ≡ Ok (x, after)) × IsAt remaining new after
+-- what the text shows from the position on was given, and the input is behind it
+abbrev pub Gives : {R X : Type 0} → (R → Option (List ℕ)) → Position → Reads X → Result X CertFault → Input R → Type 0
+Gives remaining at read (Ok x) new = (after : Position) × (read ≡ Ok (x, after)) × IsAt remaining new after
 Gives remaining at read (Err fault) new = Faults (HasFailed new) at read fault
 
--- whether nothing stands from the place on, unless the reader failed
-abbrev pub Ends : {R : Type 0} → Place → Result (Unit {0}) CertFault → Input R → Type 0
+-- whether nothing stands from the position on, unless the reader failed
+abbrev pub Ends : {R : Type 0} → Position → Result (Unit {0}) CertFault → Input R → Type 0
 Ends at (Ok _) new = at.bytes ≡ []
 Ends at (Err fault) new = (fault.line ≡ at.line) × (((fault.kind ≡ Trailing) × (at.bytes ≢ [])) ⊎ ((fault.kind ≡ Read) × HasFailed new))

@@ -4,7 +4,7 @@ use Rattle.std.specs.Global.{Vec}
 use Rattle.tcc_cert.specs.declared.fault.CertFault.{CertFault}
 use Rattle.tcc_cert.specs.declared.fault.CertFaultKind.TheVariants.{NoMemory}
 use Rattle.tcc_cert.specs.declared.fault.CertFaultKind.{CertFaultKind}
-use Rattle.tcc_cert.specs.Reading.{Place, Reads}
+use Rattle.tcc_cert.specs.Reading.{Position, Reads}
 use Rattle.tcc_cert.specs.Outcomes.{IsCutShort}
 
 -- what a line shows, unless memory was refused
@@ -23,5 +23,5 @@ at_line number (Ok x) = Ok x
 at_line number (Err kind) = Err (record { line = number; kind = kind })
 
 -- the fault of the text, unless the reader failed or memory was refused
-abbrev pub Faults : {X : Type 0} → Type 0 → Place → Reads X → CertFault → Type 0
+abbrev pub Faults : {X : Type 0} → Type 0 → Position → Reads X → CertFault → Type 0
 Faults failed at read fault = (read ≡ Err fault) ⊎ IsCutShort failed at read fault

@@ -2,6 +2,8 @@
 use Rattle.std.specs.Prelude.{ℕ, List, Option, Result, MatchResult, [], ◌∷◌, codes}
 use Rattle.tcc_cert.specs.Given.{Sends}
 use Rattle.tcc_cert.specs.Texts.{line_text}
+use Rattle.tcc_cert.specs.declared.cycle_writer.CycleTable.{CycleTable}
+use Rattle.tcc_cert.specs.declared.cycle_writer.CycleTable.TheVariants as table
 use Rattle.tcc_cert.specs.declared.cycle_writer.Stage.TheVariants.{Near, Far, Failed}
 use Rattle.tcc_cert.specs.declared.cycle_writer.Stage.{Stage}
 
@@ -10,6 +12,15 @@ abbrev pub far_mark : Stage → List ℕ
 far_mark Near = line_text (codes "far" ∷ [])
 far_mark Far = []
 far_mark Failed = []
+
+-- the line that has to go out before a row of a table, and where the writing is then
+abbrev pub mark_before : CycleTable → Stage → List ℕ
+mark_before table.Near stage = []
+mark_before table.Far stage = far_mark stage
+
+abbrev pub stage_behind : CycleTable → Stage → Stage
+stage_behind table.Near stage = stage
+stage_behind table.Far stage = Far
 
 -- a part of the bytes that were held and of the text went out, from the front
 abbrev pub Stops : Option (List ℕ) → List ℕ → Option (List ℕ) → List ℕ → Type 0

@@ -55,7 +55,7 @@ fn line_length(bytes: &[u8], searched: usize) -> usize
 impl<R: Read> Input<R> {
     ghost use Rattle.tcc_cert.specs.private.Inputs.{Ends, FindsLine, AsBefore, TakesLine, line_in};
     ghost use Rattle.tcc_cert.specs.InputBytes.{HasFailed, IsAt};
-    ghost use Rattle.tcc_cert.specs.Reading.{Place};
+    ghost use Rattle.tcc_cert.specs.Reading.{Position};
     ghost use Rattle.tcc_cert.specs.Ranges.{ranges_of};
 
     pub(crate) fn new(reader: R) -> Input<R>
@@ -91,8 +91,8 @@ impl<R: Read> Input<R> {
     fn find_line(&mut self, most: usize) -> Result<usize, CertFaultKind>
         requires passed { self.old.passed ≡ 0 }
         requires room { most < WINDOW_BYTES }
-        ensures found { (at : Place) → IsAt R.remaining self.old at → FindsLine most at result self.new }
-        ensures stays { OnOk result ((at : Place) → IsAt R.remaining self.old at → IsAt R.remaining self.new at) }
+        ensures found { (at : Position) → IsAt R.remaining self.old at → FindsLine most at result self.new }
+        ensures stays { OnOk result ((at : Position) → IsAt R.remaining self.old at → IsAt R.remaining self.new at) }
         ensures passed { self.new.passed ≡ 0 }
         ensures number { self.new.number ≡ self.old.number }
         ensures works { OnOk result (AsBefore self.old self.new) }
@@ -122,7 +122,7 @@ impl<R: Read> Input<R> {
     pub(crate) fn next(&mut self, most: usize) -> Result<u64, CertFault>
         requires { most < WINDOW_BYTES }
         ensures works { OnOk result (AsBefore self.old self.new) }
-        ensures line { (at : Place) → IsAt R.remaining self.old at → TakesLine R.remaining most at result self.new }
+        ensures line { (at : Position) → IsAt R.remaining self.old at → TakesLine R.remaining most at result self.new }
     {
         self.window.pass(self.passed);
         self.passed = 0;
@@ -146,7 +146,7 @@ impl<R: Read> Input<R> {
     /// The same of a line behind the first, by the version.
     pub(crate) fn next_of(&mut self, version: Version) -> Result<u64, CertFault>
         ensures works { OnOk result (AsBefore self.old self.new) }
-        ensures line { (at : Place) → IsAt R.remaining self.old at → TakesLine R.remaining (ranges_of version).line_bytes at result self.new }
+        ensures line { (at : Position) → IsAt R.remaining self.old at → TakesLine R.remaining (ranges_of version).line_bytes at result self.new }
     {
         self.next(ranges_of(version).line_bytes)
     }
@@ -154,7 +154,7 @@ impl<R: Read> Input<R> {
     /// Nothing stands behind the last line.
     pub(crate) fn end(&mut self) -> Result<(), CertFault>
         ensures works { OnOk result (AsBefore self.old self.new) }
-        ensures ends { (at : Place) → IsAt R.remaining self.old at → Ends at result self.new }
+        ensures ends { (at : Position) → IsAt R.remaining self.old at → Ends at result self.new }
     {
         self.window.pass(self.passed);
         self.passed = 0;

@@ -2,7 +2,7 @@
 ghost use Rattle.std.specs.Prelude.{◌≡◌, OnOk};
 ghost use Rattle.tcc_cert.specs.private.Inputs.{AsBefore, Gives};
 ghost use Rattle.tcc_cert.specs.InputBytes.{IsAt};
-ghost use Rattle.tcc_cert.specs.Reading.{Place, link_at, repeated, step_line, with_walk, words};
+ghost use Rattle.tcc_cert.specs.Reading.{Position, link_at, repeated, step_line, with_walk, words};
 
 use super::forms::Head;
 use super::input::Input;
@@ -20,7 +20,7 @@ fn walk<R: Read>(
     count: u32,
 ) -> Result<Walk, CertFault>
     ensures works { OnOk result (AsBefore input.old input.new) }
-    ensures gives { (at : Place) → IsAt R.remaining input.old at → Gives R.remaining at (repeated (words version (step_line version)) count at) result input.new }
+    ensures gives { (at : Position) → IsAt R.remaining input.old at → Gives R.remaining at (repeated (words version (step_line version)) count at) result input.new }
 {
     let mut steps = Vec::new(alloc);
     'lines: for _ in 0..count {
@@ -63,7 +63,7 @@ pub(crate) fn link<R: Read>(
     version: Version,
 ) -> Result<Link, CertFault>
     ensures works { OnOk result (AsBefore input.old input.new) }
-    ensures gives { (at : Place) → IsAt R.remaining input.old at → Gives R.remaining at (link_at version at) result input.new }
+    ensures gives { (at : Position) → IsAt R.remaining input.old at → Gives R.remaining at (link_at version at) result input.new }
 {
     let head = next_line::<Head, R>(alloc, input, version)?;
     let walk = walk(alloc, input, version, head.steps)?;

@@ -3,7 +3,7 @@ ghost use Rattle.std.specs.Prelude.{◌≡◌, ◌<◌, ◌≤◌, ◌+◌, All,
 ghost use Rattle.tcc_cert.specs.private.Inputs.{AsBefore, Gives};
 ghost use Rattle.tcc_cert.specs.InputBytes.{IsAt};
 ghost use Rattle.tcc_cert.specs.private.Showing.{Shows, ShowsItems};
-ghost use Rattle.tcc_cert.specs.Reading.{Place, numbers_line, numbers_of, parted, words, words_of};
+ghost use Rattle.tcc_cert.specs.Reading.{Position, numbers_line, numbers_of, parted, words, words_of};
 ghost use Rattle.tcc_cert.specs.Texts.{numbers_words, words_text};
 
 use super::decimals::number_of;
@@ -69,9 +69,9 @@ fn digits_of(
     };
     let mut numbers = Vec::with_capacity(alloc, count)?;
     numbers.push(first)?;
-    for place in 1..count {
-        let space = line[2 * place - 1];
-        match digit(line[2 * place]) {
+    for index in 1..count {
+        let space = line[2 * index - 1];
+        match digit(line[2 * index]) {
             Some(number) if space == b' ' => numbers.push(number)?,
             _ => return Ok(None),
         }
@@ -109,7 +109,7 @@ pub(crate) fn row<R: Read>(
     most: u32,
 ) -> Result<Numbers, CertFault>
     ensures works { OnOk result (AsBefore input.old input.new) }
-    ensures gives { (at : Place) → IsAt R.remaining input.old at → Gives R.remaining at (words version (numbers_line count most) at) result input.new }
+    ensures gives { (at : Position) → IsAt R.remaining input.old at → Gives R.remaining at (words version (numbers_line count most) at) result input.new }
 {
     let line = input.next_of(version)?;
     at_line(line, numbers_line(alloc, input.line(), count, most))

@@ -3,7 +3,7 @@ ghost use Rattle.std.specs.Prelude.{◌≡◌, ◌<◌, ◌+◌, ℕ, IfOk, OnOk
 ghost use Rattle.tcc_cert.specs.private.Inputs.{AsBefore};
 ghost use Rattle.tcc_cert.specs.InputBytes.{IsAt};
 ghost use Rattle.tcc_cert.specs.Parts.{Parts, end_parts, far_parts, link_rows, order_parts, order_rest, parts_behind, whole_parts};
-ghost use Rattle.tcc_cert.specs.Reading.{Place};
+ghost use Rattle.tcc_cert.specs.Reading.{Position};
 ghost use Rattle.tcc_cert.specs.Shapes.{behind_table, height, links_from, rows_from, table_parts, table_rows};
 ghost use Rattle.tcc_cert.specs.private.Stages.{IsBegun, IsClaimStep, IsRowStep, IsStepAt, TakesStep};
 ghost use Rattle.tcc_cert.specs.Ahead.{IsBehind};
@@ -67,7 +67,7 @@ pub(crate) type NextPart = Result<(Part, Stage), CertFault>;
 /// The last line, and nothing behind it.
 fn end<R: Read>(alloc: Global, input: &mut Input<R>, version: Version) -> NextPart
     ensures works { OnOk result (AsBefore input.old input.new) }
-    ensures step { (at : Place) → IsAt R.remaining input.old at → TakesStep R.remaining at.line (end_parts version at) result input.new }
+    ensures step { (at : Position) → IsAt R.remaining input.old at → TakesStep R.remaining at.line (end_parts version at) result input.new }
     ensures row { (left : ℕ) → IfOk result (λ given. IsRowStep left given) }
 {
     mark(alloc, input, version, b"end")?;
@@ -79,7 +79,7 @@ fn end<R: Read>(alloc: Global, input: &mut Input<R>, version: Version) -> NextPa
 fn table_row<R: Read>(alloc: Global, input: &mut Input<R>, left: RowsLeft) -> NextPart
     requires { 0 < left.many }
     ensures works { OnOk result (AsBefore input.old input.new) }
-    ensures step { (at : Place) (from : ℕ) → from + left.many ≡ height left.table → IsAt R.remaining input.old at
+    ensures step { (at : Position) (from : ℕ) → from + left.many ≡ height left.table → IsAt R.remaining input.old at
         → TakesStep R.remaining at.line (table_rows left.version left.table from left.many at) result input.new }
     ensures row { IfOk result (λ given. IsRowStep (rows_from left.table left.many) given) }
 {
@@ -105,7 +105,7 @@ fn far<R: Read>(
     transactions: u32,
 ) -> NextPart
     ensures works { OnOk result (AsBefore input.old input.new) }
-    ensures step { (at : Place) → IsAt R.remaining input.old at → TakesStep R.remaining at.line (far_parts version transactions at) result input.new }
+    ensures step { (at : Position) → IsAt R.remaining input.old at → TakesStep R.remaining at.line (far_parts version transactions at) result input.new }
     ensures row { IfOk result (λ given. IsRowStep transactions given) }
 {
     let table = TableShape::Far { transactions };
@@ -130,7 +130,7 @@ fn behind_table<R: Read>(
     table: TableShape,
 ) -> NextPart
     ensures works { OnOk result (AsBefore input.old input.new) }
-    ensures step { (at : Place) → IsAt R.remaining input.old at → TakesStep R.remaining at.line (behind_table version table at) result input.new }
+    ensures step { (at : Position) → IsAt R.remaining input.old at → TakesStep R.remaining at.line (behind_table version table at) result input.new }
     ensures row { IfOk result (λ given. IsRowStep (rows_from table 0) given) }
 {
     match table {
@@ -142,7 +142,7 @@ fn behind_table<R: Read>(
 /// The next row of a table, or what comes behind it where none is left.
 fn rows<R: Read>(alloc: Global, input: &mut Input<R>, left: RowsLeft) -> NextPart
     ensures works { OnOk result (AsBefore input.old input.new) }
-    ensures step { (at : Place) (from : ℕ) → from + left.many ≡ height left.table → IsAt R.remaining input.old at
+    ensures step { (at : Position) (from : ℕ) → from + left.many ≡ height left.table → IsAt R.remaining input.old at
         → TakesStep R.remaining at.line (table_rows left.version left.table from left.many at) result input.new }
     ensures row { IfOk result (λ given. IsRowStep (rows_from left.table left.many) given) }
 {
@@ -161,7 +161,7 @@ fn marked<R: Read>(
     table: TableShape,
 ) -> NextPart
     ensures works { OnOk result (AsBefore input.old input.new) }
-    ensures step { (at : Place) → IsAt R.remaining input.old at → TakesStep R.remaining at.line (table_parts version table at) result input.new }
+    ensures step { (at : Position) → IsAt R.remaining input.old at → TakesStep R.remaining at.line (table_parts version table at) result input.new }
     ensures row { IfOk result (λ given. IsRowStep (rows_from table (height table)) given) }
 {
     mark(alloc, input, version, table.word())?;
@@ -175,7 +175,7 @@ fn marked<R: Read>(
 
 /// What stands behind the order of a claim.
 fn behind_order(version: Version, level: Level, transactions: u32, sessions: u32) -> Coming
-    ensures behind { (at : Place) → IsBehind result at (order_rest version level transactions sessions at) }
+    ensures behind { (at : Position) → IsBehind result at (order_rest version level transactions sessions at) }
     ensures begun { IsBegun (Stage.Going result) }
 {
     let table = TableShape::Clocks {
@@ -202,7 +202,7 @@ fn order<R: Read>(
     sessions: u32,
 ) -> NextPart
     ensures works { OnOk result (AsBefore input.old input.new) }
-    ensures step { (at : Place) → IsAt R.remaining input.old at
+    ensures step { (at : Position) → IsAt R.remaining input.old at
         → TakesStep R.remaining at.line (order_parts version level transactions sessions at) result input.new }
     ensures claim { IfOk result IsClaimStep }
 {
@@ -227,7 +227,7 @@ fn order<R: Read>(
 fn next_link<R: Read>(alloc: Global, input: &mut Input<R>, left: LinksLeft) -> NextPart
     requires { 0 < left.many }
     ensures works { OnOk result (AsBefore input.old input.new) }
-    ensures step { (at : Place) (from : ℕ) → IsAt R.remaining input.old at
+    ensures step { (at : Position) (from : ℕ) → IsAt R.remaining input.old at
         → TakesStep R.remaining at.line (link_rows left.version left.transactions from left.many at) result input.new }
     ensures row { IfOk result (λ given. IsRowStep (links_from left.transactions left.many) given) }
 {
@@ -242,7 +242,7 @@ fn next_link<R: Read>(alloc: Global, input: &mut Input<R>, left: LinksLeft) -> N
 /// The next link of a cycle, or what comes behind the last.
 fn links<R: Read>(alloc: Global, input: &mut Input<R>, left: LinksLeft) -> NextPart
     ensures works { OnOk result (AsBefore input.old input.new) }
-    ensures step { (at : Place) (from : ℕ) → IsAt R.remaining input.old at
+    ensures step { (at : Position) (from : ℕ) → IsAt R.remaining input.old at
         → TakesStep R.remaining at.line (link_rows left.version left.transactions from left.many at) result input.new }
     ensures row { IfOk result (λ given. IsRowStep (links_from left.transactions left.many) given) }
 {
@@ -258,7 +258,7 @@ fn links<R: Read>(alloc: Global, input: &mut Input<R>, left: LinksLeft) -> NextP
 /// What stands behind the first line, up to the links of a cycle or the clocks of an order.
 fn claim<R: Read>(alloc: Global, input: &mut Input<R>, version: Version, level: Level) -> NextPart
     ensures works { OnOk result (AsBefore input.old input.new) }
-    ensures step { (at : Place) → IsAt R.remaining input.old at → TakesStep R.remaining at.line (parts_behind ((version, level), at)) result input.new }
+    ensures step { (at : Position) → IsAt R.remaining input.old at → TakesStep R.remaining at.line (parts_behind ((version, level), at)) result input.new }
     ensures claim { IfOk result IsClaimStep }
 {
     match next_line::<Sizes, R>(alloc, input, version)? {
@@ -291,7 +291,7 @@ fn claim<R: Read>(alloc: Global, input: &mut Input<R>, version: Version, level: 
 /// The text up to its claim.
 fn whole<R: Read>(alloc: Global, input: &mut Input<R>) -> NextPart
     ensures works { OnOk result (AsBefore input.old input.new) }
-    ensures step { (at : Place) → IsAt R.remaining input.old at → TakesStep R.remaining at.line (whole_parts at) result input.new }
+    ensures step { (at : Position) → IsAt R.remaining input.old at → TakesStep R.remaining at.line (whole_parts at) result input.new }
     ensures claim { IfOk result IsClaimStep }
 {
     let (version, level) = header(input)?;
@@ -301,7 +301,7 @@ fn whole<R: Read>(alloc: Global, input: &mut Input<R>) -> NextPart
 /// The next part, and what stands behind it.
 pub(crate) fn step<R: Read>(alloc: Global, input: &mut Input<R>, coming: Coming) -> NextPart
     ensures works { OnOk result (AsBefore input.old input.new) }
-    ensures step { (at : Place) (ahead : Parts) → IsAt R.remaining input.old at → IsBehind coming at ahead
+    ensures step { (at : Position) (ahead : Parts) → IsAt R.remaining input.old at → IsBehind coming at ahead
         → TakesStep R.remaining at.line ahead result input.new }
     ensures follows { IfOk result (λ given. IsStepAt coming given) }
 {

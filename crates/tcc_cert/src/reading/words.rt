@@ -3,7 +3,7 @@ ghost use Rattle.std.specs.Prelude.{◌≡◌, map, IfOk, OnOk, Result};
 ghost use Rattle.tcc_cert.specs.private.Inputs.{AsBefore, Gives};
 ghost use Rattle.tcc_cert.specs.InputBytes.{IsAt};
 ghost use Rattle.tcc_cert.specs.private.Showing.{Shows};
-ghost use Rattle.tcc_cert.specs.Reading.{Place, words, words_of};
+ghost use Rattle.tcc_cert.specs.Reading.{Position, words, words_of};
 
 use super::input::{Input, at_line};
 use crate::{CertFault, CertFaultKind, Version};
@@ -48,7 +48,7 @@ pub(crate) fn next_line<L: WordLine, R: Read>(
     version: Version,
 ) -> Result<L, CertFault>
     ensures works { OnOk result (AsBefore input.old input.new) }
-    ensures gives { (at : Place) → IsAt R.remaining input.old at → Gives R.remaining at (words version (L.form version) at) result input.new }
+    ensures gives { (at : Position) → IsAt R.remaining input.old at → Gives R.remaining at (words version (L.form version) at) result input.new }
 {
     let line = input.next_of(version)?;
     at_line(line, line_of(alloc, version, input.line()))

@@ -6,7 +6,7 @@ use Rattle.tcc_cert.specs.Parts.{Parts, IsFirst}
 use Rattle.tcc_reads.specs.History.{History}
 use Rattle.tcc_graph.specs.declared.level.Level.{Level}
 use Rattle.tcc_cert.specs.CycleRules.{BreaksNearPair, BreaksNearStep, BreaksFarLink, BreaksFarStep, BreaksReturn}
-use Rattle.tcc_cert.specs.Tables.{HasSize, HasFarSize, IsCapped, IsFirstPlace}
+use Rattle.tcc_cert.specs.Tables.{HasSize, HasFarSize, IsCapped, IsFirstAt}
 use Rattle.tcc_cert.specs.declared.fault.CertFault.{CertFault}
 use Rattle.tcc_cert.specs.declared.fault.CertFaultKind.TheVariants as kind
 use Rattle.tcc_cert.specs.declared.fault.CertFaultKind.{CertFaultKind}
@@ -58,10 +58,10 @@ IsNearRight n least near = HasSize n n near × IsCapped least near
 abbrev pub IsFarRight : Version → ℕ → ℕ → List (List ℕ) → Type 0
 IsFarRight version n least far = HasFarSize version n far × IsCapped least far
 
--- the first place in the first n rows at which something is broken
+-- where something is broken first, in the first n rows
 abbrev pub IsFoundBefore : ℕ → (ℕ × ℕ → Type 0) → Option (ℕ × ℕ) → Type 0
 IsFoundBefore n broken None = (a b : ℕ) → a < n → broken (a, b) → ⊥
-IsFoundBefore n broken (Some at) = (at.0 < n) × IsFirstPlace broken at
+IsFoundBefore n broken (Some at) = (at.0 < n) × IsFirstAt broken at
 
 -- so for each rule on lengths
 pub record IsNearFoundTo (h : History) (level : Level) (near : List (List ℕ)) (n : ℕ) (faults : NearFaults) : Type 0 where
@@ -74,7 +74,7 @@ pub record AreFoundBefore (h : History) (version : Version) (least : ℕ) (near 
   pub steps : IsFoundBefore n (BreaksFarStep h version near far) faults.step
   pub returns : IsFoundBefore n (BreaksReturn h version least far) faults.back
 
--- the place that was found, or else that in one row more
+-- what was found, or else what is in one row more
 abbrev pub first_of : Option (ℕ × ℕ) → ℕ → Option ℕ → Option (ℕ × ℕ)
 first_of (Some at) start end = Some at
 first_of None start None = None

@@ -23,7 +23,7 @@ use Rattle.tcc_check.specs.declared.verdict.Verdict.{Verdict}
 use Rattle.tcc_check.specs.private.Coming.{IsFarRight, IsNearFoundTo, near_verdict}
 use Rattle.tcc_check.specs.private.Pairs.{AreOrderly}
 use Rattle.tcc_check.specs.private.Runs.{AreRuns}
-use Rattle.tcc_check.specs.Verdicts.{Asked, IsCycleFault, bounds_rules, by_places, cycle_rules, order_rules}
+use Rattle.tcc_check.specs.Verdicts.{Asked, IsCycleFault, bounds_rules, at_each, cycle_rules, order_rules}
 use Rattle.tcc_check.specs.private.Searches.{IsAnswer}
 use Rattle.tcc_check.specs.private.WeightsFrom.{AreAllEnds, AreEndsTo, WeighsFrom}
 
@@ -33,13 +33,13 @@ links_rules h k = record { rule = Links; holds = IsRightCycle h k; broken = IsCy
 
 -- the rules on lengths
 abbrev pub near_rules : History → Level → List (List ℕ) → List Asked
-near_rules h level near = by_places NearPairs (BreaksNearPair h near) ∷ by_places NearSteps (BreaksNearStep h level near) ∷ []
+near_rules h level near = at_each NearPairs (BreaksNearPair h near) ∷ at_each NearSteps (BreaksNearStep h level near) ∷ []
 
 -- those on costs
 abbrev pub far_rules : History → Version → ℕ → List (List ℕ) → List (List ℕ) → List Asked
 far_rules h version least near far =
-    by_places FarLinks (BreaksFarLink h version near far) ∷ by_places FarSteps (BreaksFarStep h version near far)
-    ∷ by_places Returns (BreaksReturn h version least far) ∷ []
+    at_each FarLinks (BreaksFarLink h version near far) ∷ at_each FarSteps (BreaksFarStep h version near far)
+    ∷ at_each Returns (BreaksReturn h version least far) ∷ []
 
 -- all but the rule on sizes
 abbrev pub claim_rules : History → CycleClaim → List Asked

@@ -20,7 +20,7 @@ is_within h session number n = within_at session number (at h n)
 
 -- in session order each stands before the next
 abbrev pub AreSessionsKept : History → List ℕ → Type 0
-AreSessionsKept h places = (b : ℕ) (c : ℕ) → IsSessionPair h b c → slice_index places b < slice_index places c
+AreSessionsKept h positions = (b : ℕ) (c : ℕ) → IsSessionPair h b c → slice_index positions b < slice_index positions c
 
 -- so many of these, the first ones, are within, and no others
 pub record IsCountWithin (h : History) (numbers : List ℕ) (session : ℕ) (number : ℕ) (n : ℕ) : Type 0 where
@@ -35,45 +35,45 @@ IsLastWithin h numbers session number (Some last) =
 
 -- none of these that is of the session, and no later than the place, stands behind the source
 abbrev pub StandBefore : History → List ℕ → List ℕ → ℕ → ℕ → ℕ → Type 0
-StandBefore h places writers session number source =
-    (b : ℕ) → Contains writers b → 0 < b → owner h b ≡ session → place h b ≤ number → slice_index places b ≤ slice_index places source
+StandBefore h positions writers session number source =
+    (b : ℕ) → Contains writers b → 0 < b → owner h b ≡ session → place h b ≤ number → slice_index positions b ≤ slice_index positions source
 
 -- none of these that the clock reaches does
 abbrev pub StandAllBefore : History → List ℕ → List ℕ → List ℕ → ℕ → Type 0
-StandAllBefore h places clock writers source =
-    (session : ℕ) → session < length clock → StandBefore h places writers session (slice_index clock session) source
+StandAllBefore h positions clock writers source =
+    (session : ℕ) → session < length clock → StandBefore h positions writers session (slice_index clock session) source
 
 -- who reads from a, no other writer of the key that may reach it stands behind a
 abbrev pub IsReadKept : History → Level → List ℕ → List (List ℕ) → List ℕ → ℕ → ℕ → Type 0
-IsReadKept h level places clocks x a c =
-    (b : ℕ) → MayContradict h b a x c → MayReach h level clocks b c → slice_index places b < slice_index places a
+IsReadKept h level positions clocks x a c =
+    (b : ℕ) → MayContradict h b a x c → MayReach h level clocks b c → slice_index positions b < slice_index positions a
 
 -- so for each of its reads
 abbrev pub AreReadsKept : History → Level → List ℕ → List (List ℕ) → ℕ → Type 0
-AreReadsKept h level places clocks c = (x : List ℕ) (a : ℕ) → IsReadsPair h a c x → IsReadKept h level places clocks x a c
+AreReadsKept h level positions clocks c = (x : List ℕ) (a : ℕ) → IsReadsPair h a c x → IsReadKept h level positions clocks x a c
 
 -- each transaction is of one of the sessions
 abbrev pub AreOwned : History → Type 0
 AreOwned h = (n : ℕ) → 0 < n → n < count h → owner h n < length h.sessions
 
--- no two stand at one place
+-- no two stand at one position
 abbrev pub AreApart : List ℕ → Type 0
-AreApart places = (a : ℕ) (b : ℕ) → a < length places → b < length places → slice_index places a ≡ slice_index places b → a ≡ b
+AreApart positions = (a : ℕ) (b : ℕ) → a < length positions → b < length positions → slice_index positions a ≡ slice_index positions b → a ≡ b
 
 -- these rise, and all are transactions
 pub record AreRising (h : History) (numbers : List ℕ) : Type 0 where
   pub rising : IsNonDecreasing numbers
   pub below : All (λ b. b < count h) numbers
 
--- each transaction has a place, and in session order each stands before the next
-pub record KeepsSessions (h : History) (places : List ℕ) : Type 0 where
+-- each transaction has a position, and in session order each stands before the next
+pub record KeepsSessions (h : History) (positions : List ℕ) : Type 0 where
   pub numbered : IsBySession h.entries
-  pub long : length places ≡ count h
-  pub kept : AreSessionsKept h places
+  pub long : length positions ≡ count h
+  pub kept : AreSessionsKept h positions
 
--- what is known of places and clocks that keep the rule on pairs
-pub record KeepsPairsBy (h : History) (level : Level) (places : List ℕ) (clocks : List (List ℕ)) : Type 0 where
-  pub sessions : KeepsSessions h places
-  pub apart : AreApart places
+-- what is known of positions and clocks that keep the rule on pairs
+pub record KeepsPairsBy (h : History) (level : Level) (positions : List ℕ) (clocks : List (List ℕ)) : Type 0 where
+  pub sessions : KeepsSessions h positions
+  pub apart : AreApart positions
   pub few : length h.sessions ≤ MAX_SESSIONS
   pub sized : HasClocks level (count h) (length h.sessions) clocks

@@ -5,20 +5,11 @@ use Rattle.tcc_reads.specs.History.{History}
 use Rattle.tcc_graph.specs.Levels.{Judged}
 use Rattle.tcc_graph.specs.Links.{cost, link_from}
 use Rattle.tcc_graph.specs.declared.link.Link.{Link}
-use Rattle.tcc_cert.specs.CycleRules.{IsLinkRight, ends_at}
+use Rattle.tcc_cert.specs.CycleRules.{IsWrongFrom, ends_at}
 use Rattle.tcc_cert.specs.Rules.{IsRightCycle}
 use Rattle.tcc_cert.specs.declared.certificate.CycleClaim.{CycleClaim}
 use Rattle.tcc_check.specs.declared.links.LinksSeen.{LinksSeen}
 use Rattle.tcc_check.specs.Verdicts.{IsCycleFault}
-
--- the link after those before it is not right, where the first has to begin at `from`
-pub record IsWrongFrom (j : Judged) (from : ℕ) (links : List Link) (i : ℕ) : Type 0 where
-  pub before : List Link
-  pub link : Link
-  pub after : List Link
-  pub split : links ≡ before ++ link ∷ after
-  pub place : i ≡ length before + 1
-  pub wrong : IsLinkRight j (ends_at from before) link → ⊥
 
 -- the first link that is wrong, from 1
 pub record IsFirstWrongFrom (j : Judged) (from : ℕ) (links : List Link) (i : ℕ) : Type 0 where

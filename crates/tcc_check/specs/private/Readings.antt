@@ -4,19 +4,19 @@ use Rattle.tcc_reads.specs.History.{History}
 use Rattle.tcc_graph.specs.Keys.{key_at, keys}
 use Rattle.tcc_graph.specs.Relations.{IsReadsPair}
 
--- each who reads the key at a place, with the source, and no others
-pub record AreReadingsAt (h : History) (place : ℕ) (readings : List (ℕ × ℕ)) : Type 0 where
-  pub each : (a c : ℕ) → Contains readings (c, a) → IsReadsPair h a c (key_at h place)
-  pub all : (a c : ℕ) → IsReadsPair h a c (key_at h place) → Contains readings (c, a)
+-- each who reads a key, with the source, and no others
+pub record AreReadingsAt (h : History) (key_index : ℕ) (readings : List (ℕ × ℕ)) : Type 0 where
+  pub each : (a c : ℕ) → Contains readings (c, a) → IsReadsPair h a c (key_at h key_index)
+  pub all : (a c : ℕ) → IsReadsPair h a c (key_at h key_index) → Contains readings (c, a)
 
--- those of one place, where they are noted
+-- those of one key, where they are noted
 abbrev pub readings_at : List (Option (List (ℕ × ℕ))) → ℕ → Option (List (ℕ × ℕ))
-readings_at readings place = slice_index_or readings place None
+readings_at readings key_index = slice_index_or readings key_index None
 
--- so of the first places
+-- so of the first keys
 pub record AreReadingsTo (i : ℕ) (h : History) (readings : List (Option (List (ℕ × ℕ)))) : Type 0 where
   pub long : length readings ≡ i
-  pub rows : (place : ℕ) → place < i → IfSome (readings_at readings place) (AreReadingsAt h place)
+  pub rows : (key_index : ℕ) → key_index < i → IfSome (readings_at readings key_index) (AreReadingsAt h key_index)
 
 -- of all
 abbrev pub AreReadings : History → List (Option (List (ℕ × ℕ))) → Type 0
@@ -31,10 +31,10 @@ abbrev pub PairWeighs : List ℕ → List ℕ → List ℕ → ℕ → ℕ → �
 PairWeighs sources readers row u v w =
     (k : ℕ) × (k < length sources) × (slice_index sources k ≡ v) × (v ≢ u) × (w ≡ slice_index row (slice_index readers k))
 
--- some reader reads the key at the place from v, other than u, and the row has w for the reader
+-- some reader reads the key from v, other than u, and the row has w for the reader
 abbrev pub KeyWeighs : History → List ℕ → ℕ → ℕ → ℕ → ℕ → Type 0
 KeyWeighs h row u k v w = (c : ℕ) × IsReadsPair h v c (key_at h k) × (v ≢ u) × (w ≡ slice_index row c)
 
 -- so of one of the keys
-abbrev pub PlaceWeighs : History → List ℕ → List ℕ → ℕ → ℕ → ℕ → Type 0
-PlaceWeighs h places row u v w = (k : ℕ) × Contains places k × KeyWeighs h row u k v w
+abbrev pub KeysWeigh : History → List ℕ → List ℕ → ℕ → ℕ → ℕ → Type 0
+KeysWeigh h written row u v w = (k : ℕ) × Contains written k × KeyWeighs h row u k v w

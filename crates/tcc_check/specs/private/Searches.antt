@@ -1,4 +1,4 @@
--- What is answered of the first broken place of a row.
+-- What is answered of where a row is broken first.
 use Rattle.std.specs.Prelude.{ℕ, ◌≡◌, ◌<◌, ◌≤◌, ◌+◌, ◌-◌, ◌⊎◌, List, length, slice_index, Contains, Option, None, Some, MatchOption, min}
 use Rattle.tcc_reads.specs.History.{History}
 use Rattle.tcc_graph.specs.Relations.{IsSessionPair}
@@ -58,7 +58,7 @@ IsLongOther others row low v =
 abbrev pub IsLongStep : List ℕ → List (List (ℕ × ℕ)) → List ℕ → ℕ → ℕ → Type 0
 IsLongStep begins others row low v = IsLongRunTo begins row low v ⊎ IsLongOther others row low v
 
--- the place that was found before, or that in the row of `start`
+-- what was found before, or what is in the row of `start`
 abbrev pub IsFirstLong : Option (ℕ × ℕ) → ℕ → List ℕ → List (List (ℕ × ℕ)) → List ℕ → ℕ → Option (ℕ × ℕ) → Type 0
 IsFirstLong (Some at) start begins others row low result = result ≡ Some at
 IsFirstLong None start begins others row low result =

@@ -12,5 +12,5 @@ IsAtMost found n = (c : ℕ) × (found ≡ Some c) × (c ≤ n)
 -- a row from each transaction, which has the distances of all from there upward, capped
 pub record AreFarRows (j : Judged) (cap : ℕ) (rows : List (List (Option ℕ))) : Type 0 where
   pub long : length rows ≡ count j.history
-  pub places : (s : ℕ) → s < count j.history → length (row_of rows s) ≡ count j.history - s
+  pub wide : (s : ℕ) → s < count j.history → length (row_of rows s) ≡ count j.history - s
   pub exact : (s : ℕ) (v : ℕ) → s ≤ v → v < count j.history → IsCappedDistance j s v (Some cap) (slice_index_or (row_of rows s) (v - s) None)

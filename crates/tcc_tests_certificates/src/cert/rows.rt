@@ -3,7 +3,7 @@ use super::streams::{Breaking, nothing_held};
 use std::alloc::{AllocError, Global};
 use std::process::Abort;
 use std::test::Fail;
-use tcc_cert::{CertWriteFault, CycleWriter, Links, Numbers, Table, Version};
+use tcc_cert::{CertWriteFault, CycleTable, CycleWriter, Links, Numbers, Table, Version};
 use tcc_graph::{Level, Link};
 
 fn one_link(alloc: Global) -> Result<Links, AllocError> {
@@ -15,8 +15,8 @@ fn small(alloc: Global, version: Version, level: Level) -> Result<Vec<u8>, Fail>
     let links = one_link(alloc)?;
     let mut out = Vec::new(alloc);
     let mut writer = CycleWriter::begin(&mut out, version, level, 1, &links, 3)?;
-    writer.near_row(&[1])?;
-    writer.far_row(&[2])?;
+    writer.row(CycleTable::Near, &[1])?;
+    writer.row(CycleTable::Far, &[2])?;
     writer.end()?;
     Ok(out)
 }
@@ -45,8 +45,8 @@ fn the_end_is_flushed(rt: HostRuntime) -> Result<(), Fail> {
     let links = one_link(alloc)?;
     let mut out = nothing_held(alloc);
     let mut writer = CycleWriter::begin(&mut out, Version::One, Level::Causal, 1, &links, 3)?;
-    writer.near_row(&[1])?;
-    writer.far_row(&[2])?;
+    writer.row(CycleTable::Near, &[1])?;
+    writer.row(CycleTable::Far, &[2])?;
     writer.end()?;
     let wanted = "tcc-certificate 1\ncycle 1 1 3\nS 0 1\nnear\n1\nfar\n2\nend\n";
     assert_eq!(&rt; out.taken.as_slice(), wanted.as_bytes());
@@ -76,10 +76,18 @@ fn large(rt: &impl Abort, alloc: Global, works: usize) -> Result<(Breaking, bool
     match CycleWriter::begin(&mut out, Version::Two, Level::Causal, ROWS, &links, 3) {
         Ok(mut writer) => {
             for _ in 0..ROWS {
-                note(rt, &mut has_failed, writer.near_row(row.as_slice()));
+                note(
+                    rt,
+                    &mut has_failed,
+                    writer.row(CycleTable::Near, row.as_slice()),
+                );
             }
             for _ in 0..ROWS {
-                note(rt, &mut has_failed, writer.far_row(row.as_slice()));
+                note(
+                    rt,
+                    &mut has_failed,
+                    writer.row(CycleTable::Far, row.as_slice()),
+                );
             }
             note(rt, &mut has_failed, writer.end());
         }

@@ -46,7 +46,7 @@ loop-start-preserved g c ahead is =
     let h = c.args.graph.now in
     let now = c.loop-start.invariant ahead is in
     let taken = rw c.in-Far.is at (c.in_ok-row.ensures.parts now.0 now.3) in
-    let right : (length c.in-Far.row ≡ count h - lowest c.args.version c.loop-start.start) × All (λ number. number ≤ c.args.least) c.in-Far.row =
+    let right : (length c.in-Far.row ≡ count h - lowest c.args.version c.loop-start.start) × All (λ value. value ≤ c.args.least) c.in-Far.row =
     rw (← c.as_slice-row.ensures, ← c.lowest.ensures.value, ← c.count-count.ensures.value) (c.is_row_right.ensures.0 c.if-not-is_row_right.false) in (
       taken.0,
       first-line (part.Far c.in-Far.row) now.0 taken.0 taken.1 ∙ now.1,

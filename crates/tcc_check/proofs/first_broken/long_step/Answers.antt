@@ -5,19 +5,19 @@ use Rattle.tcc_check.specs.private.Searches.{IsLongRunTo}
 use Rattle.tcc_check.proofs.Overshot.{all_other, more_other, none_other}
 use Rattle.tcc_check.proofs.first_broken.long_step.Goals as goal
 
-pub loop-place-init : goal.loop-place-init
-loop-place-init c =
+pub loop-index-init : goal.loop-index-init
+loop-index-init c =
     none_other c.args.others.now c.args.row.now c.args.low (IsLongRunTo c.args.begins.now c.args.row.now c.args.low) c.long_run-found.result
     c.long_run-found.ensures
 
-pub loop-place-preserved : goal.loop-place-preserved
-loop-place-preserved c =
-    let start = c.args.low + c.loop-place.place in
+pub loop-index-preserved : goal.loop-index-preserved
+loop-index-preserved c =
+    let start = c.args.low + c.loop-index.index in
     let same = get_or_read c.args.others.now start c.index-others-start.result (omega (arith, c.requires.long)) c.index-others-start.is [] in
     rw c.lesser-found.ensures (more_other c.args.others.now c.args.row.now c.args.low (IsLongRunTo c.args.begins.now c.args.row.now c.args.low)
-    c.loop-place.place c.loop-place.found c.overshot-end.result c.index-others-start.result _ same refl c.loop-place.invariant c.overshot-end.ensures)
+    c.loop-index.index c.loop-index.found c.overshot-end.result c.index-others-start.result _ same refl c.loop-index.invariant c.overshot-end.ensures)
 
 pub returns : goal.returns
 returns c =
-    all_other c.args.others.now c.args.row.now c.args.low (IsLongRunTo c.args.begins.now c.args.row.now c.args.low) c.loop-place.place c.loop-place.found
-    (omega arith) c.loop-place.invariant
+    all_other c.args.others.now c.args.row.now c.args.low (IsLongRunTo c.args.begins.now c.args.row.now c.args.low) c.loop-index.index c.loop-index.found
+    (omega arith) c.loop-index.invariant

@@ -1,12 +1,11 @@
 -- One group after the other, up to the first that takes too many steps.
-use Rattle.std.proofs.Common.{◌≡◌, ◌<◌, ◌+◌, ℕ, List, length, get_or, take, drop, drop-drop, arith, refl, sym, ap, subst, ◌∙◌}
+use Rattle.std.proofs.Common.{◌≡◌, ◌<◌, ◌+◌, ℕ, List, length, get_or, take, arith, refl, sym, ap, subst, ◌∙◌}
 use Rattle.std.specs.Prelude.{All}
-use Rattle.std.proofs.lemmas.List.{length-drop, take_all}
 use Rattle.tcc_check.specs.private.Groups.{links_by, total}
 use Rattle.tcc_check.specs.private.Searches.{IsFoundBelow, IsOvershot, IsOvershotAt}
 use Rattle.tcc_check.specs.private.Weights.{AreByWeight}
-use Rattle.tcc_check.proofs.Grouped.{length-links, total-more}
-use Rattle.tcc_check.proofs.Overshot.{all_over, group_begins, group_below, group_inside, group_weight, more_group, none_over, rest_over}
+use Rattle.tcc_check.proofs.Grouped.{group_begins, group_below, group_fits, group_left, group_weight, groups_end, total-more}
+use Rattle.tcc_check.proofs.Overshot.{all_over, more_group, none_over, rest_over}
 use Rattle.tcc_check.proofs.first_broken.overshot.Goals as goal
 
 pub loop-weight-init : goal.loop-weight-init
@@ -17,11 +16,8 @@ loop-weight-init c = record {
 
 pub split_at-requires : goal.split_at-requires
 split_at-requires c =
-    let groups = c.parts.result.1.now in
-    let ends = c.parts.result.0.now in
-    let i = c.loop-weight.weight-index in
-    let inside = group_inside groups ends c.parts.ensures.groups i c.loop-weight-test.true in
-    omega (arith, inside, ap length c.loop-weight.invariant.left, length-drop (total (take i groups)) ends)
+    group_fits c.parts.result.1.now c.parts.result.0.now c.parts.ensures.groups c.loop-weight.weight-index c.loop-weight-test.true c.loop-weight.left.now
+    c.loop-weight.invariant.left
 
 pub returns-then-from-cost : goal.returns-then-from-cost
 returns-then-from-cost c =
@@ -47,7 +43,7 @@ overshot_at-requires c =
     let i = c.loop-weight.weight-index in
     let all : All (λ (link : ℕ × ℕ). link.0 < low + length row) (links_by groups ends) =
     subst (λ (links : List (ℕ × ℕ)). All (λ (link : ℕ × ℕ). link.0 < low + length row) links) (sym c.parts.ensures.all) c.requires.inside in
-    group_below groups ends c.parts.ensures.groups row low c.args.before i c.split_at.result.0.now c.loop-weight-test.true
+    group_below groups ends c.parts.ensures.groups i c.split_at.result.0.now c.loop-weight-test.true
     (c.split_at.ensures.front ∙ ap (take (get_or groups i (0, 0)).1) c.loop-weight.invariant.left) (low + length row) all
 
 pub loop-weight-preserved : goal.loop-weight-preserved
@@ -66,8 +62,8 @@ loop-weight-preserved c =
     subst (λ (z : ℕ). IsFoundBelow (low + length row) (IsOvershotAt run row low z) c.overshot_at.result) cost c.overshot_at.ensures in
     record {
       left =
-          c.split_at.ensures.back ∙ ap (drop group.1) c.loop-weight.invariant.left ∙ drop-drop group.1 (total (take i groups)) ends
-          ∙ ap (λ n. drop n ends) (sym next);
+          group_left groups ends c.parts.ensures.groups i c.loop-weight-test.true c.loop-weight.left.now c.loop-weight.invariant.left
+          c.split_at.result.1.now c.split_at.ensures.back;
       seen =
           rw (c.lesser-found.ensures, next)
           (more_group groups ends c.parts.ensures.groups row low c.args.before i run c.loop-weight-test.true
@@ -82,8 +78,6 @@ returns c =
     let row = c.args.row.now in
     let low = c.args.low in
     let i = c.loop-weight.weight-index in
-    let whole : take i groups ≡ groups = take_all i groups (omega arith) in
-    let all : total (take i groups) ≡ length (links_by groups ends) =
-    ap total whole ∙ c.parts.ensures.groups.all ∙ sym (length-links groups ends c.parts.ensures.groups.all) in
+    let all = groups_end groups ends c.parts.ensures.groups i (omega arith) in
     subst (λ (links : List (ℕ × ℕ)). IsFoundBelow (low + length row) (IsOvershot links row low c.args.before) c.loop-weight.found) c.parts.ensures.all
     (all_over (links_by groups ends) row low c.args.before (total (take i groups)) c.loop-weight.found all c.loop-weight.invariant.seen)

@@ -1,10 +1,9 @@
 -- One read after the other.
-use Rattle.std.proofs.Common.{ℕ, arith, get_or}
-use Rattle.std.proofs.lemmas.List.{get_or_default}
+use Rattle.std.proofs.Common.{ℕ, arith}
 use Rattle.tcc_graph.specs.Keys.{key_at}
 use Rattle.tcc_graph.specs.declared.level.Level.TheVariants.{Causal}
 use Rattle.tcc_check.specs.private.Latest.{IsReadKept}
-use Rattle.tcc_check.proofs.Sessions.{first_more, by_keys}
+use Rattle.tcc_check.proofs.Sessions.{next_more, by_keys}
 use Rattle.tcc_check.proofs.latest.are_reads_kept.Goals as goal
 
 pub loop-key-init : goal.loop-key-init
@@ -13,13 +12,10 @@ loop-key-init c = λ k d l. absurd (omega arith)
 pub loop-key-preserved : goal.loop-key-preserved
 loop-key-preserved c =
     let h = c.args.graph.now in
-    let reads = c.reads_at-key-items.result.now in
-    let i = c.loop-key.key-index in
-    let read : ℕ × ℕ = get_or reads i (0, 0) in
-    first_more (λ (r : ℕ × ℕ). IsReadKept h Causal c.args.places.now c.args.clocks.now (key_at h r.0) r.1 c.args.c) reads i read c.loop-key-test.true
-    (get_or_default reads i (0, 0) read c.loop-key-test.true) c.loop-key.invariant (c.is_read_kept.ensures c.if-not-is_read_kept.false)
+    next_more (λ (r : ℕ × ℕ). IsReadKept h Causal c.args.positions.now c.args.clocks.now (key_at h r.0) r.1 c.args.c) c.reads_at-key-items.result.now
+    c.loop-key.key-index (0, 0) c.loop-key-test.true c.loop-key.invariant (c.is_read_kept.ensures c.if-not-is_read_kept.false)
 
 pub returns : goal.returns
 returns c = λ t.
-    by_keys c.args.graph.now c.args.c (λ x a. IsReadKept c.args.graph.now Causal c.args.places.now c.args.clocks.now x a c.args.c)
+    by_keys c.args.graph.now c.args.c (λ x a. IsReadKept c.args.graph.now Causal c.args.positions.now c.args.clocks.now x a c.args.c)
     c.reads_at-key-items.result.now c.reads_at-key-items.ensures.value (λ k d l. c.loop-key.invariant k d (omega (arith, l, c.loop-key-test.false)))

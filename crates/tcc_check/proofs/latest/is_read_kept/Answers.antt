@@ -24,19 +24,19 @@ reached_before-requires-clause-below c =
 
 pub returns-then-writers-clock : goal.returns-then-writers-clock
 returns-then-writers-clock c = λ t.
-    kept_by_reached c.args.graph.now c.args.places.now c.args.clocks.now (key_at c.args.graph.now c.args.key) c.args.source c.args.c Causal
+    kept_by_reached c.args.graph.now c.args.positions.now c.args.clocks.now (key_at c.args.graph.now c.args.key) c.args.source c.args.c Causal
     (rw (← c.writers_at-writers.ensures) (c.reached_before.ensures t))
 
 pub returns-else-writers-clock : goal.returns-else-writers-clock
 returns-else-writers-clock c = λ t.
     let h = c.args.graph.now in
-    let places = c.args.places.now in
+    let positions = c.args.positions.now in
     let clocks = c.args.clocks.now in
     let size = c.requires.order.sized in
     let inside : c.args.c < length clocks = omega (arith, size.long, c.requires.reader) in
     let row : c.as_slice-clock.result.now ≡ row_of clocks c.args.c =
     c.as_slice-clock.ensures ∙ c.index-clocks-c.is ∙ get_or_default clocks c.args.c c.index-clocks-c.result [] inside in
-    let stand : StandAllBefore h places (row_of clocks c.args.c) c.writers_at-writers.result.now c.args.source =
-    subst (λ (r : List ℕ). StandAllBefore h places r c.writers_at-writers.result.now c.args.source) row (c.stand_before.ensures t) in
-    kept_by_last h places clocks (key_at c.args.graph.now c.args.key) c.args.source c.args.c c.requires.order c.requires.owners (size.wide c.args.c [] inside)
-    (subst (λ (bs : List ℕ). StandAllBefore h places (row_of clocks c.args.c) bs c.args.source) c.writers_at-writers.ensures stand)
+    let stand : StandAllBefore h positions (row_of clocks c.args.c) c.writers_at-writers.result.now c.args.source =
+    subst (λ (r : List ℕ). StandAllBefore h positions r c.writers_at-writers.result.now c.args.source) row (c.stand_before.ensures t) in
+    kept_by_last h positions clocks (key_at c.args.graph.now c.args.key) c.args.source c.args.c c.requires.order c.requires.owners (size.wide c.args.c [] inside)
+    (subst (λ (bs : List ℕ). StandAllBefore h positions (row_of clocks c.args.c) bs c.args.source) c.writers_at-writers.ensures stand)

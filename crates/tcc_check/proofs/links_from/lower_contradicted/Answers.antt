@@ -1,6 +1,6 @@
--- `init` writes every key, and others those at their places.
+-- `init` writes every key, and others those at their written.
 use Rattle.std.proofs.Common.{arith}
-use Rattle.tcc_check.proofs.ByKey.{places-written}
+use Rattle.tcc_check.proofs.ByKey.{written-written}
 use Rattle.tcc_check.proofs.LinksFrom.{init-contradicts}
 use Rattle.tcc_check.proofs.links_from.lower_contradicted.Goals as goal
 
@@ -11,5 +11,5 @@ returns-then-start-eq0 c =
 
 pub returns-else-start-eq0 : goal.returns-else-start-eq0
 returns-else-start-eq0 c =
-    places-written c.args.graph.now c.writes_at-places.result.now c.args.row.now c.args.start c.args.weights.now c.lower_places.new.weights
-    c.if-start-eq0.false c.requires.start c.writes_at-places.ensures.value c.lower_places.ensures
+    written-written c.args.graph.now c.writes_at-written.result.now c.args.row.now c.args.start c.args.weights.now c.lower_keys.new.weights
+    c.if-start-eq0.false c.requires.start c.writes_at-written.ensures.value c.lower_keys.ensures

@@ -58,7 +58,7 @@ returns-then-not-is_row_right-clause-parts g c ahead is =
 pub loop-start-preserved : goal.loop-start-preserved
 loop-start-preserved g c =
     let h = c.args.graph.now in
-    let right : (length c.in-Near.row ≡ count h) × All (λ number. number ≤ c.args.least) c.in-Near.row =
+    let right : (length c.in-Near.row ≡ count h) × All (λ value. value ≤ c.args.least) c.in-Near.row =
     rw (← c.as_slice-row.ensures, ← c.count.ensures.value) (c.is_row_right.ensures.0 c.if-not-is_row_right.false) in
     record {
       rows = λ ahead is.

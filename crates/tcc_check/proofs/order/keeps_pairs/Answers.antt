@@ -1,7 +1,7 @@
 use Rattle.std.proofs.Common.{below_more, arith, refl}
 use Rattle.std.proofs.lemmas.Bool.{false≢true, iff_false}
 use Rattle.tcc_graph.specs.Relations.{IsCausalPair}
-use Rattle.tcc_check.specs.private.Places.{IsKept}
+use Rattle.tcc_check.specs.private.Positions.{IsKept}
 use Rattle.tcc_graph.proofs.Pairs.{pair_below}
 use Rattle.tcc_check.proofs.order.keeps_pairs.Goals as goal
 
@@ -11,7 +11,7 @@ returns-then-not-keeps_pairs_to c =
 
 pub loop-c-preserved : goal.loop-c-preserved
 loop-c-preserved c = λ b.
-    below_more (λ end. IsCausalPair c.args.graph.now b end → IsKept c.args.graph.now c.args.level c.args.places.now c.args.clocks.now b end) c.loop-c.c
+    below_more (λ end. IsCausalPair c.args.graph.now b end → IsKept c.args.graph.now c.args.level c.args.positions.now c.args.clocks.now b end) c.loop-c.c
     (c.loop-c.invariant b)
     (c.keeps_pairs_to.ensures.0 c.if-not-keeps_pairs_to.false b)
 

@@ -1,12 +1,10 @@
 -- One group after the other.
-use Rattle.std.proofs.Common.{◌≡◌, ◌<◌, ◌+◌, ℕ, List, length, get_or, set, min, take, drop, drop-drop, arith, refl, sym, ap, subst, ◌∙◌}
+use Rattle.std.proofs.Common.{◌≡◌, ◌<◌, ◌+◌, ℕ, List, length, get_or, set, min, take, arith, refl, sym, ap, subst, ◌∙◌}
 use Rattle.std.specs.Prelude.{All}
-use Rattle.std.proofs.lemmas.List.{length-drop, take_all}
 use Rattle.tcc_check.specs.private.Groups.{AreGroupsOf, links_by, total}
 use Rattle.tcc_check.specs.private.Weights.{IsLowered}
 use Rattle.tcc_check.specs.private.Readings.{ReadingWeighs}
-use Rattle.tcc_check.proofs.Grouped.{length-links, total-more}
-use Rattle.tcc_check.proofs.Overshot.{group_below, group_inside}
+use Rattle.tcc_check.proofs.Grouped.{group_below, group_fits, group_left, groups_end, total-more}
 use Rattle.tcc_check.proofs.ByKey.{SeenReading, all-readings, group-lowered, group-passed, group-some, group-source, no-reading, source-lowered}
 use Rattle.tcc_check.proofs.readings.lower_readings.Goals as goal
 use Rattle.tcc_check.proofs.readings.lower_readings.Goals.{then-source-start, else-source-start}
@@ -19,11 +17,8 @@ loop-source-init c = record {
 
 pub split_at-requires : goal.split_at-requires
 split_at-requires c =
-    let groups = c.parts.result.1.now in
-    let members = c.parts.result.0.now in
-    let i = c.loop-source.source-index in
-    let inside = group_inside groups members c.parts.ensures.groups i c.loop-source-test.true in
-    omega (arith, inside, ap length c.loop-source.invariant.left, length-drop (total (take i groups)) members)
+    group_fits c.parts.result.1.now c.parts.result.0.now c.parts.ensures.groups c.loop-source.source-index c.loop-source-test.true c.loop-source.left.now
+    c.loop-source.invariant.left
 
 pub least_for-least-requires-clause-readers : goal.least_for-least-requires-clause-readers
 least_for-least-requires-clause-readers c =
@@ -32,7 +27,7 @@ least_for-least-requires-clause-readers c =
     let i = c.loop-source.source-index in
     let all : All (λ (one : ℕ × ℕ). one.0 < length c.args.row.now) (links_by groups members) =
     subst (λ (links : List (ℕ × ℕ)). All (λ (one : ℕ × ℕ). one.0 < length c.args.row.now) links) (sym c.parts.ensures.all) c.requires.readers in
-    group_below groups members c.parts.ensures.groups c.args.row.now 0 0 i c.split_at.result.0.now c.loop-source-test.true
+    group_below groups members c.parts.ensures.groups i c.split_at.result.0.now c.loop-source-test.true
     (c.split_at.ensures.front ∙ ap (take (get_or groups i (0, 0)).1) c.loop-source.invariant.left) (length c.args.row.now) all
 
 source-inside : (groups : List (ℕ × ℕ)) (members : List ℕ) (readings : List (ℕ × ℕ)) (weights now : List ℕ) (i : ℕ) → AreGroupsOf groups members
@@ -80,8 +75,8 @@ loop-source-preserved c =
     ] in
     record {
       left =
-          c.split_at.ensures.back ∙ ap (drop group.1) c.loop-source.invariant.left ∙ drop-drop group.1 (total (take i groups)) members
-          ∙ ap (λ n. drop n members) (sym next);
+          group_left groups members c.parts.ensures.groups i c.loop-source-test.true c.loop-source.left.now c.loop-source.invariant.left
+          c.split_at.result.1.now c.split_at.ensures.back;
       lowered = rw next lowered;
     }
 
@@ -91,9 +86,7 @@ returns c =
     let members = c.parts.result.0.now in
     let row = c.args.row.now in
     let i = c.loop-source.source-index in
-    let whole : take i groups ≡ groups = take_all i groups (omega arith) in
-    let all : total (take i groups) ≡ length (links_by groups members) =
-    ap total whole ∙ c.parts.ensures.groups.all ∙ sym (length-links groups members c.parts.ensures.groups.all) in
+    let all = groups_end groups members c.parts.ensures.groups i (omega arith) in
     subst (λ (links : List (ℕ × ℕ)). IsLowered (ReadingWeighs links row c.args.start) c.args.weights.now c.loop-source.weights) c.parts.ensures.all
     (all-readings (links_by groups members) row c.args.start c.args.weights.now c.loop-source.weights (total (take i groups)) all
     c.loop-source.invariant.lowered)

@@ -17,7 +17,7 @@ loop-index-preserved c =
 pub new-requires : goal.new-requires
 new-requires c =
     rw c.deref.ensures.value (record {
-      inside = readers-fit c.readings_of.result.0.now c.readings_of.result.1.now c.args.graph.now c.args.place
+      inside = readers-fit c.readings_of.result.0.now c.readings_of.result.1.now c.args.graph.now c.args.key_index
           c.loop-index.index c.loop-index.readings.items (omega arith) c.readings_of.ensures.long (λ a b w. (c.readings_of.ensures.each a b).0 w)
           (λ a b w. (c.readings_of.ensures.each a b).1 w) c.loop-index.invariant 65536 (omega (arith, c.requires.few));
     })
@@ -25,6 +25,6 @@ new-requires c =
 pub returns : goal.returns
 returns c =
     rw (c.in_ok-groups.ensures, c.deref.ensures.value)
-    (readings-paired c.readings_of.result.0.now c.readings_of.result.1.now c.args.graph.now c.args.place c.loop-index.index c.loop-index.readings.items
+    (readings-paired c.readings_of.result.0.now c.readings_of.result.1.now c.args.graph.now c.args.key_index c.loop-index.index c.loop-index.readings.items
     (omega arith) c.readings_of.ensures.long (λ a b w. (c.readings_of.ensures.each a b).0 w) (λ a b w. (c.readings_of.ensures.each a b).1 w)
     c.loop-index.invariant)

@@ -1,9 +1,7 @@
 -- The claim, and then what comes behind it.
 use Rattle.std.proofs.lemmas.Result.{err_from_is_err_and}
 use Rattle.tcc_cert.specs.Parts.{parts_read}
-use Rattle.tcc_cert.specs.declared.part.Part.TheVariants as part
-use Rattle.tcc_check.specs.private.Judged.{IsCycleJudged, IsOrderJudged}
-use Rattle.tcc_check.proofs.JudgedFacts.{cycle-judged, judged-behind, order-judged, stream-fault}
+use Rattle.tcc_check.proofs.JudgedFacts.{cycle-behind, order-behind, stream-fault}
 use Rattle.tcc_check.proofs.streaming.judge_parts.Goals as goal
 
 pub returns-in_err-head : goal.returns-in_err-head
@@ -13,16 +11,10 @@ returns-in_err-head g c bytes is =
 
 pub returns-in-Order : goal.returns-in-Order
 returns-in-Order g c bytes is =
-    let h = c.args.graph.now in
-    let head = c.in-Order.head in
     let taken = rw c.in-Order.is at (c.in_ok-head.ensures.parts (parts_read bytes) is) in
-    judged-behind h bytes (part.Order head) taken.0 (IsOrderJudged h head taken.0) c.judge_order.result taken.1
-    (λ k judgement. order-judged h k head taken.0 judgement) (c.judge_order.ensures taken.0 taken.2)
+    order-behind c.args.graph.now bytes c.in-Order.head taken.0 c.judge_order.result taken.1 (c.judge_order.ensures taken.0 taken.2)
 
 pub returns-in-Cycle : goal.returns-in-Cycle
 returns-in-Cycle g c bytes is =
-    let h = c.args.graph.now in
-    let head = c.in-Cycle.head in
     let taken = rw c.in-Cycle.is at (c.in_ok-head.ensures.parts (parts_read bytes) is) in
-    judged-behind h bytes (part.Cycle head) taken.0 (IsCycleJudged h head taken.0) c.judge_cycle.result taken.1
-    (λ k judgement. cycle-judged h k head taken.0 judgement) (c.judge_cycle.ensures taken.0 taken.2)
+    cycle-behind c.args.graph.now bytes c.in-Cycle.head taken.0 c.judge_cycle.result taken.1 (c.judge_cycle.ensures taken.0 taken.2)

@@ -1,23 +1,20 @@
-use Rattle.std.proofs.Common.{length, ap, refl, subst}
-use Rattle.tcc_graph.specs.Levels.{Judged, judged}
-use Rattle.tcc_graph.specs.declared.level.Level.{Level}
+use Rattle.std.proofs.Common.{rules, subst}
+use Rattle.tcc_graph.specs.Levels.{judged}
 use Rattle.tcc_graph.specs.Routes.{HasCycle}
+use Rattle.tcc_graph.specs.declared.level.Level.{Level}
 use Rattle.tcc_answer.specs.declared.answer.Answer.TheVariants as answer
 use Rattle.tcc_explain.specs.Explained.{IsAnswerOfHistory}
-use Rattle.tcc_graph.specs.Orders.{IsFirstOrder}
+use Rattle.tcc_explain.proofs.TableLemmas.{own_level}
 use Rattle.tcc_explain.proofs.explaining.history_answer.Goals as goal
 
-pub returns-in-Some : goal.returns-in-Some
-returns-in-Some g c =
-    let j : Judged = judged c.args.graph.now c.args.level in
-    let first : IsFirstOrder j c.in-Some.order.items = rw (c.large.ensures.value, c.in-Some.is) at c.in_ok-order.ensures in
-    rw (c.new.ensures, c.new-order.ensures) (
-      ((c.order_or_cycle.ensures j).0 (c.in-Some.order.items, first.commit), first),
-      refl,
-      ap length c.sessions.ensures.value,
-      c.requires.labels,
-      c.in_ok-clocks.ensures,
-    )
+pub order_answer-requires-clause-order : goal.order_answer-requires-clause-order
+order_answer-requires-clause-order g c = rw (c.large.ensures.value, c.in-Some.is) at c.in_ok-order.ensures
+
+pub derive-requires : goal.derive-requires
+derive-requires g c = (search rules, own_level c.args.graph.now c.args.level c.in_ok-near.near c.in_ok-near.ensures)
+
+pub anomaly-requires-clause-near : goal.anomaly-requires-clause-near
+anomaly-requires-clause-near g c = λ κs lives. own_level c.args.graph.now c.args.level c.in_ok-near.near c.in_ok-near.ensures
 
 pub anomaly-requires-clause-cycle : goal.anomaly-requires-clause-cycle
 anomaly-requires-clause-cycle g c =

@@ -1,14 +1,5 @@
-use Rattle.tcc_growth.proofs.Keeping.{carries_links, carries_cycles, carries_anomalies, carried_cost}
+use Rattle.tcc_growth.proofs.Keeping as keep
 use Rattle.tcc_growth.proofs.laws.slices.Goals as goal
 
-pub returns-clause-links : goal.returns-clause-links
-returns-clause-links c = carries_links
-
-pub returns-clause-cycles : goal.returns-clause-cycles
-returns-clause-cycles c = carries_cycles
-
-pub returns-clause-anomalies : goal.returns-clause-anomalies
-returns-clause-anomalies c = carries_anomalies
-
-pub returns-clause-costs : goal.returns-clause-costs
-returns-clause-costs c = carried_cost
+pub returns : goal.returns
+returns c = record { links = keep.carries_links; cycles = keep.carries_cycles; anomalies = keep.carries_anomalies; costs = keep.carried_cost }

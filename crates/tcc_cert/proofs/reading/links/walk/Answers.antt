@@ -4,16 +4,16 @@ use Rattle.std.proofs.lemmas.Result.{err_from_is_err_and}
 use Rattle.tcc_graph.specs.declared.step.Step.{Step}
 use Rattle.tcc_cert.specs.declared.fault.CertFaultKind.TheVariants.{NoMemory}
 use Rattle.tcc_cert.specs.declared.version.Version.{Version}
-use Rattle.tcc_cert.specs.Reading.{Place, Reads, step_line, words}
+use Rattle.tcc_cert.specs.Reading.{Position, Reads, step_line, words}
 use Rattle.tcc_cert.proofs.OnwardFacts.{IsOnward, onward-words}
 use Rattle.tcc_cert.proofs.StepFacts.{part-none, part-more, part-all, part-faults, part-refused}
 use Rattle.tcc_cert.proofs.reading.links.walk.Goals as goal
 
 -- a step, whichever it is
-abbrev step_at : Version → ℕ → Place → Reads Step
+abbrev step_at : Version → ℕ → Position → Reads Step
 step_at version i = words version (step_line version)
 
-onward-step : (version : Version) (i : ℕ) (at : Place) → IsOnward at (step_at version i at)
+onward-step : (version : Version) (i : ℕ) (at : Position) → IsOnward at (step_at version i at)
 onward-step version i at = onward-words version (step_line version) at
 
 pub lines-init : goal.lines-init

@@ -4,8 +4,8 @@ use Rattle.std.proofs.lemmas.List.Elements.{All-push}
 use Rattle.tcc_cert.proofs.DigitLines.{digit-first, digit-more}
 use Rattle.tcc_cert.proofs.reading.rows.digits_of.Goals as goal
 
-pub loop-place-init : goal.loop-place-init
-loop-place-init c =
+pub loop-index-init : goal.loop-index-init
+loop-index-init c =
     let line = c.args.line.now in
     let d = c.in-Some.first in
     let held : c.push.new.self.items ≡ d ∷ [] = rw c.in_ok-numbers.ensures.items at c.in_ok-push.ensures.items in
@@ -19,15 +19,15 @@ loop-place-init c =
           (omega (arith, c.in-Some.ensures.one, c.if-most-lt9.false)));
     }
 
-pub loop-place-preserved : goal.loop-place-preserved
-loop-place-preserved c =
+pub loop-index-preserved : goal.loop-index-preserved
+loop-index-preserved c =
     let line = c.args.line.now in
-    let k = c.loop-place.place in
+    let k = c.loop-index.index in
     let d = c.in-Some-digit.number in
-    let front = c.loop-place.numbers.items in
-    let before = c.loop-place.invariant in
+    let front = c.loop-index.numbers.items in
+    let before = c.loop-index.invariant in
     let held : c.push-in-Some-digit.new.self.items ≡ front ++ d ∷ [] = c.in_ok-push-in-Some-digit.ensures.items in
-    let within : 2 * k < length line = omega (arith, c.loop-place-test.true, c.if-line-count.false, c.if-line-eq0.false) in
+    let within : 2 * k < length line = omega (arith, c.loop-index-test.true, c.if-line-count.false, c.if-line-eq0.false) in
     record {
       some = omega (arith, before.some);
       long = ap length held ∙ omega (arith, length-append front (d ∷ []), before.long);

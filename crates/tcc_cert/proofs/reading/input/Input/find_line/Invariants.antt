@@ -3,7 +3,7 @@ use Rattle.std.proofs.Common.{◌≡◌, ◌≤◌, ◌-◌, length, take}
 use Rattle.tcc_cert.specs.declared.reading.window.TheConstants.{WINDOW_BYTES}
 use Rattle.tcc_cert.specs.WindowBytes.{window_bytes}
 use Rattle.tcc_cert.specs.InputBytes.{IsAt}
-use Rattle.tcc_cert.specs.Reading.{Place, line_length}
+use Rattle.tcc_cert.specs.Reading.{Position, line_length}
 use Rattle.tcc_cert.proofs.reading.input.Input.find_line.Given as goal
 
 abbrev pub invariant-reads : goal.invariant-reads
@@ -14,7 +14,7 @@ invariant-reads g l =
       works : l.self.source.failed ≡ l.initial.self.source.failed;
       within : l.searched ≤ length (window_bytes l.self.window);
       none : line_length (take l.searched (window_bytes l.self.window)) ≡ l.searched;
-      stays : (at : Place) → IsAt g.R.Read.remaining l.initial.self at → IsAt g.R.Read.remaining l.self at;
+      stays : (at : Position) → IsAt g.R.Read.remaining l.initial.self at → IsAt g.R.Read.remaining l.self at;
     }
 
 abbrev pub decreases-reads : goal.decreases-reads
