@@ -13,6 +13,14 @@ use tcc_cert::{CertFaultKind, CertWriteFault, Certificate, read, write};
 use tcc_sending::send;
 use texts::{STALE_READ, STALE_READ_UPWARD, TEXTS, altered};
 
+/// The certificate that a text is.
+fn certificate_of(rt: &impl Abort, alloc: Global, text: &str) -> Certificate {
+    match read(alloc, text.as_bytes()) {
+        Ok(certificate) => certificate,
+        Err(_) => panic!(rt; "{text:?} is no certificate"),
+    }
+}
+
 /// What a writer with room for this many bytes takes of a stale read's text.
 fn assert_part(
     rt: &impl Abort,
@@ -52,9 +60,7 @@ fn assert_part(
 #[test]
 fn writer_fails(rt: HostRuntime) -> Result<(), Fail> {
     let alloc = rt.alloc();
-    let Ok(certificate) = read(alloc, STALE_READ.as_bytes()) else {
-        panic!(&rt; "a certificate is read");
-    };
+    let certificate = certificate_of(&rt, alloc, STALE_READ);
     let failed = Err(CertWriteFault::Device);
     for fault in [
         Fault::Fails(ErrorKind::Other),
@@ -71,31 +77,18 @@ fn writer_fails(rt: HostRuntime) -> Result<(), Fail> {
     Ok(())
 }
 
-// What was written is read, and written again it is the same.
+// What was written is read, and written again it is the same; its last line is flushed too.
 #[test]
 fn worked_texts_are_read(rt: HostRuntime) {
     let alloc = rt.alloc();
     for text in TEXTS {
-        let Ok(certificate) = read(alloc, text.as_bytes()) else {
-            panic!(&rt; "{text:?} is read");
-        };
+        let certificate = certificate_of(&rt, alloc, text);
         let mut out = Vec::new(alloc);
         assert_eq!(&rt; write(&certificate, &mut out), Ok(()));
         assert_eq!(&rt; out.as_slice(), text.as_bytes(), "for {text:?}");
-    }
-}
-
-// The last line of a text is flushed too.
-#[test]
-fn texts_are_flushed(rt: HostRuntime) {
-    let alloc = rt.alloc();
-    for text in TEXTS {
-        let Ok(certificate) = read(alloc, text.as_bytes()) else {
-            panic!(&rt; "{text:?} is read");
-        };
-        let mut out = nothing_held(alloc);
-        assert_eq!(&rt; write(&certificate, &mut out), Ok(()));
-        assert_eq!(&rt; out.taken.as_slice(), text.as_bytes(), "for {text:?}");
+        let mut held = nothing_held(alloc);
+        assert_eq!(&rt; write(&certificate, &mut held), Ok(()));
+        assert_eq!(&rt; held.taken.as_slice(), text.as_bytes(), "for {text:?}");
     }
 }
 

@@ -1,36 +1,24 @@
 //! Worked certificates, accepted and altered, with verdicts worked out by hand from the rules.
-use crate::worked::{ABORTED, CROSSED, DISTANT, FORKED, LONGER, RELAYED, STALE, TORN, TWO, graph};
+use crate::worked::{
+    ABORTED, CROSSED, DISTANT, FORKED, LONGER, RELAYED, STALE, TORN, TWO, graph_of,
+};
 use std::alloc::{AllocError, Global};
 use std::process::Abort;
 use std::test::Fail;
 use tcc_cert::{Certificate, CycleClaim, Links, Numbers, OrderClaim, Table, Version, read};
 use tcc_check::{Rule, Verdict, check, check_stream};
 use tcc_graph::Level;
-use tcc_txn::NoMemory;
 
 /// What the rules say of a certificate of the history of these records.
 fn verdict(rt: &impl Abort, alloc: Global, records: &str, certificate: &Certificate) -> Verdict {
-    let Some(graph) = graph(alloc, records) else {
-        panic!(rt; "no graph of {records}");
-    };
-    match check(alloc, &graph, certificate) {
-        Ok(verdict) => verdict,
-        Err(NoMemory) => panic!(rt; "no memory"),
-    }
+    check(alloc, &graph_of(rt, alloc, records), certificate).expect(rt, "a verdict")
 }
 
 /// The first broken rule and where, none where the certificate is accepted.
 type Wanted = Option<(Rule, u32, u32)>;
 
-/// What the rules say of the certificate that a text says between its first line and its last.
-fn assert_verdict(
-    rt: &impl Abort,
-    alloc: Global,
-    records: &str,
-    header: &str,
-    claim: &[&str],
-    wanted: Wanted,
-) -> Result<(), AllocError> {
+/// The certificate's text with what stands between its first line and its last.
+fn text_of(alloc: Global, header: &str, claim: &[&str]) -> Result<Vec<u8>, AllocError> {
     let mut text = Vec::new(alloc);
     text.extend_from_slice(b"tcc-certificate ")?;
     text.extend_from_slice(header.as_bytes())?;
@@ -39,6 +27,19 @@ fn assert_verdict(
         text.extend_from_slice(part.as_bytes())?;
     }
     text.extend_from_slice(b"end\n")?;
+    Ok(text)
+}
+
+/// What the rules say of the certificate with this text, read before it is judged and judged as it is read.
+fn assert_verdict(
+    rt: &impl Abort,
+    alloc: Global,
+    records: &str,
+    header: &str,
+    claim: &[&str],
+    wanted: Wanted,
+) {
+    let text = text_of(alloc, header, claim).expect(rt, "a text");
     let Ok(certificate) = read(alloc, text.as_slice()) else {
         panic!(rt; "{claim:?} is no certificate {header}");
     };
@@ -54,35 +55,25 @@ fn assert_verdict(
         wanted,
         "for {header}, {claim:?}"
     );
-    let Some(graph) = graph(alloc, records) else {
-        panic!(rt; "no graph of {records}");
-    };
     assert_eq!(rt;
-        check_stream(alloc, &graph, text.as_slice()),
+        check_stream(alloc, &graph_of(rt, alloc, records), text.as_slice()),
         Ok(wanted),
         "for {header}, {claim:?} as a stream"
     );
-    Ok(())
 }
 
 /// What stands behind the word in the first line, the links, the table of lengths, the table of costs, and the verdict.
 type Row<'a> = (&'a str, &'a str, &'a str, &'a str, Wanted);
 
-fn assert_cycles(
-    rt: &impl Abort,
-    alloc: Global,
-    records: &str,
-    rows: &[Row],
-) -> Result<(), AllocError> {
+fn assert_cycles(rt: &impl Abort, alloc: Global, records: &str, rows: &[Row]) {
     for (header, links, near, far, wanted) in rows {
         let claim = [*links, "near\n", *near, "far\n", *far];
-        assert_verdict(rt, alloc, records, header, &claim, *wanted)?;
+        assert_verdict(rt, alloc, records, header, &claim, *wanted);
     }
-    Ok(())
 }
 
 #[test]
-fn a_stale_read(rt: HostRuntime) -> Result<(), Fail> {
+fn a_stale_read(rt: HostRuntime) {
     use Rule::{FarLinks, Links, NearPairs, NearSteps, Returns, Sizes};
     let links = "cycle 3 2 3\nS 0 1\nD 1 0 x 2 1\nS 1 2\n";
     let elsewhere = "cycle 3 2 3\nS 0 2\nD 1 0 x 2 1\nS 1 2\n";
@@ -152,13 +143,12 @@ fn a_stale_read(rt: HostRuntime) -> Result<(), Fail> {
         ),
         ("2 atomic", links, near, upward, None),
     ];
-    assert_cycles(&rt, rt.alloc(), STALE, rows)?;
-    Ok(())
+    assert_cycles(&rt, rt.alloc(), STALE, rows);
 }
 
 /// The first wrong link is named, where the first begins too; numbers out of range come before it, wherever they stand.
 #[test]
-fn wrong_links(rt: HostRuntime) -> Result<(), Fail> {
+fn wrong_links(rt: HostRuntime) {
     use Rule::{Links, Sizes};
     let near = "3 1 1\n3 3 1\n3 3 3\n";
     let far = "3 1 1\n2 3 1\n3 3 3\n";
@@ -181,18 +171,17 @@ fn wrong_links(rt: HostRuntime) -> Result<(), Fail> {
     ] {
         let (rule, row, column) = wanted;
         let rows: &[Row] = &[("1", links, near, far, Some((rule, row, column)))];
-        assert_cycles(&rt, rt.alloc(), STALE, rows)?;
+        assert_cycles(&rt, rt.alloc(), STALE, rows);
     }
     let dearer = "cycle 3 2 2\nS 0 1\nD 1 0 x 2 1\nS 1 2\n";
     let table = "2 1 1\n2 2 1\n2 2 2\n";
     let rows: &[Row] = &[("1", dearer, table, table, Some((Links, 0, 0)))];
-    assert_cycles(&rt, rt.alloc(), STALE, rows)?;
-    Ok(())
+    assert_cycles(&rt, rt.alloc(), STALE, rows);
 }
 
 /// From a/3 the tables have least for a/1, which is two places before a/3 itself.
 #[test]
-fn a_session_of_three(rt: HostRuntime) -> Result<(), Fail> {
+fn a_session_of_three(rt: HostRuntime) {
     use Rule::{FarSteps, NearSteps};
     let links = "cycle 4 2 3\nS 0 1\nD 1 0 x 2 1\nS 1 2\n";
     let near = "3 1 1 1\n3 3 1 1\n3 3 3 1\n3 3 3 3\n";
@@ -205,12 +194,11 @@ fn a_session_of_three(rt: HostRuntime) -> Result<(), Fail> {
         ("1", links, skipped, far, Some((NearSteps, 3, 3))),
         ("1", links, near, leapt, Some((FarSteps, 3, 3))),
     ];
-    assert_cycles(&rt, rt.alloc(), LONGER, rows)?;
-    Ok(())
+    assert_cycles(&rt, rt.alloc(), LONGER, rows);
 }
 
 #[test]
-fn other_cycles(rt: HostRuntime) -> Result<(), Fail> {
+fn other_cycles(rt: HostRuntime) {
     use Rule::{FarSteps, Links, NearSteps, Sizes};
     let alloc = rt.alloc();
     let crossed = "cycle 3 2 2\nR 1 2 x\nR 2 1 y\n";
@@ -219,7 +207,7 @@ fn other_cycles(rt: HostRuntime) -> Result<(), Fail> {
         ("1", crossed, table, table, None),
         ("2 causal", crossed, table, "2 1 1\n2 1\n2\n", None),
     ];
-    assert_cycles(&rt, alloc, CROSSED, rows)?;
+    assert_cycles(&rt, alloc, CROSSED, rows);
     let torn = "cycle 4 2 4\nD 1 2 x 3 1\nR 1 3 x\nD 2 1 x 3 1\nR 2 3 x\n";
     let near = "4 1 1 1\n4 4 4 1\n4 4 4 1\n4 4 4 4\n";
     let far = "4 1 1 1\n4 4 2 1\n4 2 4 1\n4 4 4 4\n";
@@ -232,7 +220,7 @@ fn other_cycles(rt: HostRuntime) -> Result<(), Fail> {
         ("2 causal", torn, near, "4 1 1 1\n4 1 1\n4 1\n4\n", lowered),
         ("2 atomic", torn, near, "4 1 1 1\n4 2 1\n4 1\n4\n", None),
     ];
-    assert_cycles(&rt, alloc, TORN, rows)?;
+    assert_cycles(&rt, alloc, TORN, rows);
     let relayed = "S 0 1\nD 1 0 x 4 3\nR 1 2 x\nR 2 3 y\nS 3 4\nnear\n5 1 1 1 1\n";
     let rest = "5 5 5 1 2\n5 5 5 5 1\n5 5 5 5 5\n";
     let far = "far\n5 1 1 1 1\n4 5 1 2 3\n";
@@ -249,9 +237,8 @@ fn other_cycles(rt: HostRuntime) -> Result<(), Fail> {
         ),
     ] {
         let claim = [sizes, relayed, second, rest, far, rest];
-        assert_verdict(&rt, alloc, RELAYED, header, &claim, wanted)?;
+        assert_verdict(&rt, alloc, RELAYED, header, &claim, wanted);
     }
-    Ok(())
 }
 
 /// No text says so: no links at all, rows of costs in the form of the other version, an order at `Atomic` with clocks.
@@ -296,7 +283,7 @@ fn no_such_text(rt: HostRuntime) -> Result<(), Fail> {
 }
 
 #[test]
-fn orders(rt: HostRuntime) -> Result<(), Fail> {
+fn orders(rt: HostRuntime) {
     use Rule::{Axiom, Pairs, Sizes};
     let alloc = rt.alloc();
     let forked = "0 0 0 0\n0 0 0 0\n0 0 0 0\n1 0 0 0\n0 1 0 0\n";
@@ -327,15 +314,14 @@ fn orders(rt: HostRuntime) -> Result<(), Fail> {
     ] {
         for header in ["1", "2 causal"] {
             let claim = [sizes, "clocks\n", clocks];
-            assert_verdict(&rt, alloc, records, header, &claim, wanted)?;
+            assert_verdict(&rt, alloc, records, header, &claim, wanted);
         }
     }
-    Ok(())
 }
 
 /// The list alone, with what single pairs contradict.
 #[test]
-fn atomic_orders(rt: HostRuntime) -> Result<(), Fail> {
+fn atomic_orders(rt: HostRuntime) {
     use Rule::{Axiom, Pairs, Sizes};
     for (records, claim, wanted) in [
         ("", "order 1 0\n0\n", None),
@@ -348,10 +334,9 @@ fn atomic_orders(rt: HostRuntime) -> Result<(), Fail> {
         (FORKED, "order 5 4\n0 1 2 3 4\n", None),
     ] {
         for header in ["1 atomic", "2 atomic"] {
-            assert_verdict(&rt, rt.alloc(), records, header, &[claim], wanted)?;
+            assert_verdict(&rt, rt.alloc(), records, header, &[claim], wanted);
         }
     }
-    Ok(())
 }
 
 #[test]

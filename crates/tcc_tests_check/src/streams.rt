@@ -1,5 +1,5 @@
 //! Certificates judged as their text comes: faults of the text, a reader that fails, and rules broken before either.
-use crate::worked::{STALE, TWO, graph};
+use crate::worked::{STALE, TWO, graph_of};
 use std::alloc::Global;
 use std::io::{self, ErrorKind, Read};
 use std::process::Abort;
@@ -24,10 +24,7 @@ fn judged(
     records: &str,
     text: impl Read + Drop,
 ) -> Result<Judgement, StreamFault> {
-    let Some(graph) = graph(alloc, records) else {
-        panic!(rt; "no graph of {records}");
-    };
-    judge_stream(alloc, &graph, text)
+    judge_stream(alloc, &graph_of(rt, alloc, records), text)
 }
 
 fn fault(line: u64, kind: CertFaultKind) -> StreamFault {
@@ -71,9 +68,7 @@ fn first_rules(rt: HostRuntime) {
         ("", STALE_READ, rejected(Rule::Sizes, 0, 0)),
         ("", ONE_SESSION, rejected(Rule::Sizes, 0, 0)),
     ] {
-        let Some(graph) = graph(alloc, records) else {
-            panic!(&rt; "no graph of {records}");
-        };
+        let graph = graph_of(&rt, alloc, records);
         assert_eq!(&rt;
             check_stream(alloc, &graph, text.as_bytes()),
             Ok(wanted),

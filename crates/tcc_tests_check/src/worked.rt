@@ -1,5 +1,6 @@
 //! Worked histories, and their graphs.
 use std::alloc::Global;
+use std::process::Abort;
 use tcc_graph::Graph;
 use tcc_reads::resolve;
 use tcc_rows::snapshot_of;
@@ -37,9 +38,9 @@ pub const TWO: &str = "a,begin\na,w,x,1\na,commit\na,begin\na,w,y,1\na,commit\n"
 /// a/1 is aborted, and a/2 writes x.
 pub const ABORTED: &str = "a,begin\na,w,x,9\na,abort\na,begin\na,w,x,1\na,commit\n";
 
-/// The graph of these records.
-pub fn graph(alloc: Global, records: &str) -> Option<Graph> {
-    let snapshot = snapshot_of(alloc, records.as_bytes()).ok()?;
-    let resolved = resolve(alloc, &snapshot).ok()?;
-    Graph::build(alloc, resolved).ok()
+/// The graph of the history of these records.
+pub fn graph_of(rt: &impl Abort, alloc: Global, records: &str) -> Graph {
+    let snapshot = snapshot_of(alloc, records.as_bytes()).expect(rt, records);
+    let resolved = resolve(alloc, &snapshot).expect(rt, records);
+    Graph::build(alloc, resolved).expect(rt, records)
 }
