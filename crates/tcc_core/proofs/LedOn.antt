@@ -38,9 +38,9 @@ others_within t u v c all (k, low, at) = go (cases_lt u (length t.others))
     go (inr past) = absurd (omega (arith, low, ap length (get_or_past t.others u [] past)))
 
 module _ {j : Judged} {t : Tables} (priced : IsPricesOf j t) (u : ℕ) (from : u < count j.history) where
-  pub offered_others : (s d left floor : ℕ) (old new : List ℕ) → length old ≡ count j.history → IsOffered (IsWayBy (others_at t u) s d left) floor old new
+  pub offered_others : {s d left floor : ℕ} {old new : List ℕ} → length old ≡ count j.history → IsOffered (IsWayBy (others_at t u) s d left) floor old new
       → IsOfferedBy t s u d left floor old new
-  offered_others s d left floor old new long is = record {
+  offered_others {s} {d} {left} {floor} {old} {new} long is = record {
     lower = is.lower;
     least = λ v n within (up, c, has, low, equal) above.
         least v n c within up low equal above ((links_of j t priced u v c from (omega (arith, within, long))).0 has);
@@ -59,10 +59,10 @@ module _ {j : Judged} {t : Tables} (priced : IsPricesOf j t) (u : ℕ) (from : u
           inr (up, c, (links_of j t priced u v c from (omega (arith, within, long))).1 (inr there), low, equal)
 
   module _ {links : ByClass} (is : IsByClass t u links) where
-    pub offered_classes : (s d left floor : ℕ) (old mid new : List ℕ) → length old ≡ count j.history → AreClassed t left
+    pub offered_classes : {s d left floor : ℕ} {old mid new : List ℕ} → length old ≡ count j.history → AreClassed t left
         → IsOffered (IsClassWay links.classes.items s d left) floor old mid → IsOffered (IsWayBy links.rest s d left) floor mid new
         → IsOfferedBy t s u d left floor old new
-    offered_classes s d left floor old mid new long few first then = record {
+    offered_classes {s} {d} {left} {floor} {old} {mid} {new} long few first then = record {
       lower = lower_then floor old mid new first.lower then.lower;
       least = λ v n within (up, c, has, low, equal) above. least v n c within up has low equal above (cases_lt v (u + 1)) (cases_lt v (end_of t u));
       from = λ v within. by v (then.from v (omega (arith, within, first.lower.long))) (first.from v within);

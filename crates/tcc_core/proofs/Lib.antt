@@ -11,7 +11,7 @@ pub mod RingCalls
 pub mod Settlement
 pub mod Frontier
 pub mod Lowering
-pub mod Steps
+pub mod Joining
 pub mod Catching
 pub mod Kept
 pub mod Ending

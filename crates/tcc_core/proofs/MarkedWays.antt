@@ -70,35 +70,35 @@ word_all word left first cost floor old new none is =
 
 -- ---- what is met is passed over, and what was offered a way is met
 
-module _ (word place cost floor : ℕ) (met old new : List ℕ) (above : floor < cost) (few : slice_index met place < 2 ^ 64) (is_met : IsMet cost met old)
-    (is : IsOffered (IsWordWay (bit_and word (bit_not w64 (slice_index met place))) (place * 64) cost) floor old new) where
+module _ (word index cost floor : ℕ) (met old new : List ℕ) (above : floor < cost) (few : slice_index met index < 2 ^ 64) (is_met : IsMet cost met old)
+    (is : IsOffered (IsWordWay (bit_and word (bit_not w64 (slice_index met index))) (index * 64) cost) floor old new) where
   abbrev fresh : ℕ
-  fresh = bit_and word (bit_not w64 (slice_index met place))
+  fresh = bit_and word (bit_not w64 (slice_index met index))
 
-  -- what the row marks at the place was met before
-  known : (v i : ℕ) → i < 64 → v ≡ place * 64 + i → v < length old → bit_at (slice_index met place) i ≡ 1 → slice_index old v ≤ cost
+  -- what the row marks in this word was met before
+  known : (v i : ℕ) → i < 64 → v ≡ index * 64 + i → v < length old → bit_at (slice_index met index) i ≡ 1 → slice_index old v ≤ cost
   known v i small at within one =
-      let word_is : v / 64 ≡ place = omega (arith, small, at) in
+      let word_is : v / 64 ≡ index = omega (arith, small, at) in
       let bit_is : v % 64 ≡ i = omega (arith, small, at) in
       is_met v within (marked_from met v (rw (word_is, bit_is) one))
 
-  pub fresh_offered : IsOffered (IsWordWay word (place * 64) cost) floor old new
+  pub fresh_offered : IsOffered (IsWordWay word (index * 64) cost) floor old new
   fresh_offered =
-      offered_same (IsWordWay fresh (place * 64) cost) (IsWordWay word (place * 64) cost) floor old new
-      (λ v n within (i, small, one, at, equal). (i, small, ((fresh_bits word (slice_index met place) i few small).0 one).0, at, equal))
-      (λ v n within (i, small, one, at, equal) up. back v n i within small one at equal (cases_eq (bit_at (slice_index met place) i) 1))
+      offered_same (IsWordWay fresh (index * 64) cost) (IsWordWay word (index * 64) cost) floor old new
+      (λ v n within (i, small, one, at, equal). (i, small, ((fresh_bits word (slice_index met index) i few small).0 one).0, at, equal))
+      (λ v n within (i, small, one, at, equal) up. back v n i within small one at equal (cases_eq (bit_at (slice_index met index) i) 1))
       is
     where
-      back : (v n i : ℕ) → v < length old → i < 64 → bit_at word i ≡ 1 → v ≡ place * 64 + i → cost ≡ n
-          → (bit_at (slice_index met place) i ≡ 1) ⊎ (bit_at (slice_index met place) i ≡ 1 → ⊥)
-          → IsWordWay fresh (place * 64) cost v n ⊎ (slice_index old v ≤ n)
+      back : (v n i : ℕ) → v < length old → i < 64 → bit_at word i ≡ 1 → v ≡ index * 64 + i → cost ≡ n
+          → (bit_at (slice_index met index) i ≡ 1) ⊎ (bit_at (slice_index met index) i ≡ 1 → ⊥)
+          → IsWordWay fresh (index * 64) cost v n ⊎ (slice_index old v ≤ n)
       back v n i within small one at equal (inl seen) = inr (omega (arith, known v i small at within seen, equal))
       back v n i within small one at equal (inr unseen) =
-          let none : bit_at (slice_index met place) i ≡ 0 = omega (arith, bit_at-lt (slice_index met place) i, unseen) in
-          inl (i, small, (fresh_bits word (slice_index met place) i few small).1 (one, none), at, equal)
+          let none : bit_at (slice_index met index) i ≡ 0 = omega (arith, bit_at-lt (slice_index met index) i, unseen) in
+          inl (i, small, (fresh_bits word (slice_index met index) i few small).1 (one, none), at, equal)
 
-  pub fresh_met : place < length met → IsMet cost (set met place (bit_or (slice_index met place) fresh)) new
-  fresh_met inside v within mark = go (cases_eq (v / 64) place)
+  pub fresh_met : index < length met → IsMet cost (set met index (bit_or (slice_index met index) fresh)) new
+  fresh_met inside v within mark = go (cases_eq (v / 64) index)
     where
       here : v < length old
       here = omega (arith, within, is.lower.long)
@@ -106,36 +106,36 @@ module _ (word place cost floor : ℕ) (met old new : List ℕ) (above : floor <
       low : slice_index old v ≤ cost → slice_index new v ≤ cost
       low was = omega (arith, was, lower_least floor old new v is.lower here)
 
-      set_bit : bit_of (set met place (bit_or (slice_index met place) fresh)) v ≡ 1
-      set_bit = bit_from (set met place (bit_or (slice_index met place) fresh)) v mark
+      set_bit : bit_of (set met index (bit_or (slice_index met index) fresh)) v ≡ 1
+      set_bit = bit_from (set met index (bit_or (slice_index met index) fresh)) v mark
 
-      either : (bit_at (slice_index met place) (v % 64) ≡ 1) ⊎ (bit_at (slice_index met place) (v % 64) ≡ 1 → ⊥)
-          → bit_at (bit_or (slice_index met place) fresh) (v % 64) ≡ 1 → v ≡ place * 64 + v % 64 → slice_index new v ≤ cost
+      either : (bit_at (slice_index met index) (v % 64) ≡ 1) ⊎ (bit_at (slice_index met index) (v % 64) ≡ 1 → ⊥)
+          → bit_at (bit_or (slice_index met index) fresh) (v % 64) ≡ 1 → v ≡ index * 64 + v % 64 → slice_index new v ≤ cost
       either (inl seen) one at = low (known v (v % 64) (omega arith) at here seen)
       either (inr unseen) one at =
-          let apart = bit_at_or (slice_index met place) fresh (v % 64) in
+          let apart = bit_at_or (slice_index met index) fresh (v % 64) in
           let small : v % 64 < 64 = omega arith in
-          let bit : bit_at fresh (v % 64) ≡ 1 = omega (arith, apart, one, unseen, bit_at-lt (slice_index met place) (v % 64), bit_at-lt fresh (v % 64)) in
+          let bit : bit_at fresh (v % 64) ≡ 1 = omega (arith, apart, one, unseen, bit_at-lt (slice_index met index) (v % 64), bit_at-lt fresh (v % 64)) in
           is.least v cost here (v % 64, small, bit, at, refl) above
 
-      go : (v / 64 ≡ place) ⊎ (v / 64 ≡ place → ⊥) → slice_index new v ≤ cost
+      go : (v / 64 ≡ index) ⊎ (v / 64 ≡ index → ⊥) → slice_index new v ≤ cost
       go (inl same) =
-          let whole : slice_index (set met place (bit_or (slice_index met place) fresh)) (v / 64) ≡ bit_or (slice_index met place) fresh
+          let whole : slice_index (set met index (bit_or (slice_index met index) fresh)) (v / 64) ≡ bit_or (slice_index met index) fresh
           =
-          rw same (get_or-set_same met place (bit_or (slice_index met place) fresh) 0 inside) in
-          either (cases_eq (bit_at (slice_index met place) (v % 64)) 1) (ap (λ w. bit_at w (v % 64)) (sym whole) ∙ set_bit) (omega (arith, same))
+          rw same (get_or-set_same met index (bit_or (slice_index met index) fresh) 0 inside) in
+          either (cases_eq (bit_at (slice_index met index) (v % 64)) 1) (ap (λ w. bit_at w (v % 64)) (sym whole) ∙ set_bit) (omega (arith, same))
       go (inr other) =
-          let kept : slice_index (set met place (bit_or (slice_index met place) fresh)) (v / 64) ≡ slice_index met (v / 64)
+          let kept : slice_index (set met index (bit_or (slice_index met index) fresh)) (v / 64) ≡ slice_index met (v / 64)
           =
-          get_or-set_other met place (v / 64) (bit_or (slice_index met place) fresh) 0 other in
+          get_or-set_other met index (v / 64) (bit_or (slice_index met index) fresh) 0 other in
           low (is_met v here (marked_from met v (ap (λ w. bit_at w (v % 64)) (sym kept) ∙ set_bit)))
 
 -- where nothing is fresh, all was met
-pub fresh_none : (word place cost floor : ℕ) (met old : List ℕ) → floor < cost → slice_index met place < 2 ^ 64 → IsMet cost met old
-    → bit_and word (bit_not w64 (slice_index met place)) ≡ 0 → IsOffered (IsWordWay word (place * 64) cost) floor old old
-fresh_none word place cost floor met old above few is_met none =
-    fresh_offered word place cost floor met old old above few is_met
-    (offered_none (IsWordWay (bit_and word (bit_not w64 (slice_index met place))) (place * 64) cost) floor old
+pub fresh_none : (word index cost floor : ℕ) (met old : List ℕ) → floor < cost → slice_index met index < 2 ^ 64 → IsMet cost met old
+    → bit_and word (bit_not w64 (slice_index met index)) ≡ 0 → IsOffered (IsWordWay word (index * 64) cost) floor old old
+fresh_none word index cost floor met old above few is_met none =
+    fresh_offered word index cost floor met old old above few is_met
+    (offered_none (IsWordWay (bit_and word (bit_not w64 (slice_index met index))) (index * 64) cost) floor old
     (λ v n within (i, small, one, at, equal) up. absurd (omega (arith, one, bit_at-zero i, ap (λ w. bit_at w i) none))))
 
 -- ---- a row, word by word
@@ -185,7 +185,7 @@ module _ (marks : List ℕ) (s cost floor : ℕ) where
       (λ v n within (up, mark, equal) above. inl (up, omega (arith, marked_within marks v mark, whole), mark, equal))
       is
 
-  -- of the word in which s stands the places from there upward, and then all words behind it
+  -- of the word in which s stands the bits from there upward, and then all words behind it
   pub row_whole : (old mid new : List ℕ)
       → IsOffered (IsWordWay (bit_and (slice_index marks (s / 64)) (2 ^ 64 - 2 ^ (s % 64))) (s / 64 * 64) cost) floor old mid
       → IsOffered (IsMarkWay marks ((s / 64 + 1) * 64) cost) floor mid new → IsOffered (IsMarkWay marks s cost) floor old new

@@ -30,7 +30,7 @@ pub marked_reached : (floor : ℕ) (costs marks : List ℕ) (v : ℕ) → IsMark
     → slice_index marks v ≤ v → slice_index costs v ≢ NO_WAY
 marked_reached floor costs marks v is small within marked e = omega (arith, is.each v v within marked (omega arith))
 
--- ---- the transactions of a session from one place to before another, each at one more than the floor
+-- ---- the transactions of a session from one number to before another, each at one more than the floor
 
 abbrev pub IsLaterWay : ℕ → ℕ → ℕ → ℕ → ℕ → Type 0
 IsLaterWay floor from end v n = (from ≤ v) × (v < end) × (floor + 1 ≡ n)

@@ -27,7 +27,7 @@ two_off xs i a j b apart inside also =
 home_off : (bucket : List ℕ) (v b : ℕ) → v < length bucket → IsOneOff (home bucket) (home (set bucket v b)) v b
 home_off bucket v b below = record { here = home_set bucket v b below; kept = λ x other. home_kept bucket v b x other }
 
--- ---- one function that is raised at one place
+-- ---- one function that is raised at one index
 raised : (ℕ → ℕ) → ℕ → ℕ → ℕ → ℕ
 raised rank v top x = cond (x == v) top (rank x)
 
@@ -36,7 +36,7 @@ unfolding raised
 raised_off rank v top = record { here = rw (eq-eqb v v refl) refl; kept = λ x other. rw (ne_eqb x v other) refl }
 
 module _ {size : ℕ} {next prev bucket : List ℕ} (ring : IsRing size next prev bucket) where
-  -- the neighbours of what stands are places of the tables
+  -- the neighbours of what stands are indices of the tables
   pub next_inside : (x : ℕ) → home bucket x < size → slice_index next x < length bucket + size
   next_inside x stands = home_inside bucket size (slice_index next x) (omega (arith, ring.onward.same x stands))
 
@@ -50,7 +50,7 @@ module _ {size : ℕ} {next prev bucket : List ℕ} (ring : IsRing size next pre
   pub first_stands : (b : ℕ) → b < size → slice_index next (length bucket + b) < length bucket → slice_index bucket (slice_index next (length bucket + b)) ≡ b
   first_stands b within below = sym (home_number bucket (slice_index next (length bucket + b)) below) ∙ first_home b within
 
-  -- from what stands, the steps onward lead to the end of the bucket
+  -- from what stands, the ways onward lead to the end of the bucket
   leads_back : (b k x : ℕ) → b < size → length bucket ≤ slice_index next (length bucket + b) → ring.rank x < k → x < length bucket → home bucket x ≡ b → ⊥
   leads_back b zero x within empty low below at = absurd (omega arith)
   leads_back b (suc k) x within empty low below at =

@@ -1,4 +1,4 @@
--- The bucket in which a place of the tables stands.
+-- The bucket in which an index of the tables stands.
 use Rattle.std.proofs.Common.{◌≡◌, ◌≢◌, ◌<◌, ◌≤◌, ◌+◌, ◌-◌, ◌⊎◌, ℕ, inl, inr, List, length, set, length-set, slice_index, refl, sym, ◌∙◌, arith}
 use Rattle.std.proofs.lemmas.Bool.{cases_lt, cond_below, cond_above}
 use Rattle.std.proofs.lemmas.List.{get_or-set_same, get_or-set_other}

@@ -1,8 +1,8 @@
--- A number is linked in between two places, and taken out from between them. Each lemma on pairs serves both directions.
+-- A number is linked in between two others, and taken out from between them. Each lemma on pairs serves both directions.
 use Rattle.std.proofs.Common.{◌≡◌, ◌≢◌, ◌<◌, ◌≤◌, ◌+◌, ℕ, arith}
 use Rattle.tcc_core.specs.private.RingLinks.{IsPaired, Falls}
 
--- g is f but for what it has at one place, or at two
+-- g is f but for what it has at one index, or at two
 pub record IsOneOff (f g : ℕ → ℕ) (i a : ℕ) : Type 0 where
   pub here : g i ≡ a
   pub kept : (x : ℕ) → x ≢ i → g x ≡ f x

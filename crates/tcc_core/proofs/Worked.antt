@@ -1,4 +1,4 @@
--- Small rows, steps and shares, worked out by hand, that the definitions have to agree with.
+-- Small rows, searches and shares, worked out by hand, that the definitions have to agree with.
 use Rattle.std.proofs.Common.{ℕ, zero, suc, true, All, Contains, ◌≡◌, ◌≤◌, ◌<◌, List, [], ◌∷◌, refl, arith, None, Some, Option}
 use Rattle.std.proofs.lemmas.Bool.{false≢true}
 use Rattle.std.proofs.lemmas.List.Elements.{All-cons, All-nil, All-head, All-tail}

@@ -10,7 +10,7 @@ use Rattle.tcc_graph.specs.declared.link.Link.{Link}
 abbrev pub in_row : List (Option ℕ) → ℕ → Option ℕ
 in_row row v = slice_index_or row v None
 
--- a place for each transaction: what the row has is the distance, and nothing outside is nearer than anything inside;
+-- a value for each transaction: what the row has is the distance, and nothing outside is nearer than anything inside;
 -- what is below the start stands outside, since no upward route leads there
 pub record IsSearchRow (j : Judged) (s : ℕ) (row : List (Option ℕ)) : Type 0 where
   pub long : length row ≡ count j.history
@@ -18,7 +18,7 @@ pub record IsSearchRow (j : Judged) (s : ℕ) (row : List (Option ℕ)) : Type 0
   pub closed : (v : ℕ) (u : ℕ) (distance : ℕ) (links : List Link) → in_row row v ≡ Some distance → in_row row u ≡ None → IsUpwardRoute j s u links
       → distance ≤ cost links
 
--- a place for each of n transactions, and all of them outside
+-- a value for each of n transactions, and all of them outside
 pub record IsEmptyRow (n : ℕ) (row : List (Option ℕ)) : Type 0 where
   pub long : length row ≡ n
   pub empty : (v : ℕ) → in_row row v ≡ None

@@ -1,4 +1,4 @@
--- Searches from one start, and their steps.
+-- Searches from one start, and how transactions join them.
 use Rattle.std.specs.Prelude.{ℕ, ◌<◌, ◌≡◌, ◌≢◌, List, Option}
 use Rattle.tcc_reads.specs.History.{count}
 use Rattle.tcc_graph.specs.Levels.{Judged}
@@ -22,7 +22,7 @@ pub record IsSearchOf (j : Judged) (s : ℕ) (search : Search) : Type 0 where
   pub row : IsSearchRow j s search.row
   pub frontier : IsFrontier j s search.limit search.row search.costs
 
--- one step of a search: one of the nearest outside the row and within the cap joins it, and where it is the start itself
+-- one more is settled: one of the nearest outside the row and within the cap joins it, and where it is the start itself
 -- the search has returned with its distance; where there is none, the row stays, and the search is cut at the cap
 abbrev pub Settles : Judged → ℕ → ℕ → List (Option ℕ) → List (Option ℕ) → Settled → Type 0
 Settles j s cap old new settled.More = (v : ℕ) × (distance : ℕ) × (v ≢ s) × JoinsNearest j s (cap_of cap) old new v distance

@@ -27,7 +27,7 @@ const UNMARKED: u32 = u32::MAX;
 #[derive(Drop)]
 pub(crate) struct Frontier {
     queue: Queue,
-    /// For each session, at the place of its last transaction: from which transaction on all were reached by a session pair.
+    /// For each session, at the index of its last transaction: from which transaction on all were reached by a session pair.
     marks: Vec<u32>,
     /// What is met at some costs, those of links that stand in rows of marks.
     levels: Vec<Level>,

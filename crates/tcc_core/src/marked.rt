@@ -2,8 +2,7 @@
 //! that cost, so that nothing is offered such a way twice.
 ghost use Rattle.std.specs.Prelude.{◌≡◌, ◌<◌, ◌≤◌, ◌+◌, ◌-◌, ◌*◌, ◌/◌, ◌%◌, ◌^◌, ℕ, true, length};
 ghost use Rattle.std.specs.Int.{bit_at};
-ghost use Rattle.tcc_bits.specs.Bits.{is_marked};
-ghost use Rattle.tcc_core.specs.private.Marked.{IsMet, IsMarkWay, IsWordWay};
+ghost use Rattle.tcc_core.specs.private.Marked.{HasOffered, IsMet, IsMarkWay, IsWordWay, MayOfferMarked};
 ghost use Rattle.tcc_core.specs.private.Offers.{IsOffered};
 ghost use Rattle.tcc_core.specs.declared.ring.TheConstants.{BUCKETS};
 
@@ -12,15 +11,15 @@ use crate::queue::Queue;
 /// How many marks a word has.
 const WORD: usize = 64;
 
-/// A word that marks all places from this one upward.
-fn from_place(place: u32) -> u64
-    requires { place < 64 }
-    ensures { result ≡ 2 ^ 64 - 2 ^ place }
+/// A word that marks all bits from this one upward.
+fn from_bit(bit: u32) -> u64
+    requires { bit < 64 }
+    ensures { result ≡ 2 ^ 64 - 2 ^ bit }
 {
-    u64::MAX - ((1 << place) - 1)
+    u64::MAX - ((1 << bit) - 1)
 }
 
-/// Offers a way at this cost to each number that the word marks; its lowest place stands for `first`.
+/// Offers a way at this cost to each number that the word marks; its lowest bit stands for `first`.
 fn offer_word(queue: &mut Queue, word: u64, first: u32, cost: u32)
     requires within { (i : ℕ) → i < 64 → bit_at word i ≡ 1 → first + i < length queue.old.costs }
     requires few { first < 2 ^ 31 }
@@ -36,63 +35,44 @@ fn offer_word(queue: &mut Queue, word: u64, first: u32, cost: u32)
     }
 }
 
-/// The same to those that are not met yet, of a word at this place of a row. They are met from now on.
-fn offer_fresh(queue: &mut Queue, met: &mut [u64], word: u64, place: usize, cost: u32)
-    requires place { place < length met.old }
+/// The same to those that are not met yet, of the word at an index of a row. They are met from now on.
+fn offer_fresh(queue: &mut Queue, met: &mut [u64], word: u64, index: usize, cost: u32)
+    requires index { index < length met.old }
     requires few { length met.old ≤ 2 ^ 20 }
-    requires within { (i : ℕ) → i < 64 → bit_at word i ≡ 1 → place * 64 + i < length queue.old.costs }
+    requires within { (i : ℕ) → i < 64 → bit_at word i ≡ 1 → index * 64 + i < length queue.old.costs }
     requires above { queue.old.floor < cost }
     requires window { cost < queue.old.floor + BUCKETS }
     requires met { IsMet cost met.old queue.old.costs }
-    ensures same { length met.new ≡ length met.old }
-    ensures floor { queue.new.floor ≡ queue.old.floor }
-    ensures met { IsMet cost met.new queue.new.costs }
-    ensures offered { IsOffered (IsWordWay word (place * 64) cost) queue.old.floor queue.old.costs queue.new.costs }
+    ensures { HasOffered (IsWordWay word (index * 64) cost) cost met.old met.new queue.old queue.new }
 {
-    let fresh = word & !met[place];
+    let fresh = word & !met[index];
     if fresh != 0 {
-        offer_word(queue, fresh, (place * WORD) as u32, cost);
-        met[place] |= fresh;
+        offer_word(queue, fresh, (index * WORD) as u32, cost);
+        met[index] |= fresh;
     }
 }
 
-/// The same of all words from this place of the row on.
+/// The same of all words of the row from this index on.
 fn offer_words(queue: &mut Queue, met: &mut [u64], marks: &[u64], from: usize, cost: u32)
-    requires same { length met.old ≡ length marks.now }
-    requires few { length marks.now ≤ 2 ^ 20 }
-    requires within { (v : ℕ) → is_marked marks.now v ≡ true → v < length queue.old.costs }
-    requires above { queue.old.floor < cost }
-    requires window { cost < queue.old.floor + BUCKETS }
-    requires met { IsMet cost met.old queue.old.costs }
-    ensures same { length met.new ≡ length met.old }
-    ensures floor { queue.new.floor ≡ queue.old.floor }
-    ensures met { IsMet cost met.new queue.new.costs }
-    ensures offered { IsOffered (IsMarkWay marks.now (from * 64) cost) queue.old.floor queue.old.costs queue.new.costs }
+    requires { MayOfferMarked cost met.old marks.now queue.old }
+    ensures { HasOffered (IsMarkWay marks.now (from * 64) cost) cost met.old met.new queue.old queue.new }
 {
-    for place in from..marks.len() {
-        offer_fresh(queue, met, marks[place], place, cost);
+    for index in from..marks.len() {
+        offer_fresh(queue, met, marks[index], index, cost);
     }
 }
 
 /// Offers a way at this cost to each number from the start upward that the row marks and that is not met yet. They are met
 /// from now on.
 pub(crate) fn offer_marked(queue: &mut Queue, met: &mut [u64], marks: &[u64], start: u32, cost: u32)
-    requires same { length met.old ≡ length marks.now }
-    requires few { length marks.now ≤ 2 ^ 20 }
-    requires within { (v : ℕ) → is_marked marks.now v ≡ true → v < length queue.old.costs }
-    requires above { queue.old.floor < cost }
-    requires window { cost < queue.old.floor + BUCKETS }
-    requires met { IsMet cost met.old queue.old.costs }
-    ensures same { length met.new ≡ length met.old }
-    ensures floor { queue.new.floor ≡ queue.old.floor }
-    ensures met { IsMet cost met.new queue.new.costs }
-    ensures offered { IsOffered (IsMarkWay marks.now start cost) queue.old.floor queue.old.costs queue.new.costs }
+    requires { MayOfferMarked cost met.old marks.now queue.old }
+    ensures { HasOffered (IsMarkWay marks.now start cost) cost met.old met.new queue.old queue.new }
 {
     let first = start as usize / WORD;
     if first >= marks.len() {
         return;
     }
-    let upward = marks[first] & from_place(start % WORD as u32);
+    let upward = marks[first] & from_bit(start % WORD as u32);
     offer_fresh(queue, met, upward, first, cost);
     offer_words(queue, met, marks, first + 1, cost);
 }

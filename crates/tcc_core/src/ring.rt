@@ -1,5 +1,5 @@
 //! A ring of buckets, a bucket for each cost of a window as wide as the greatest cost of a link. Each bucket is a doubly
-//! linked list that closes over an end of its own: the end of bucket b is place `count + b` of the tables, and links to
+//! linked list that closes over an end of its own: the end of bucket b is index `count + b` of the tables, and links to
 //! itself where the bucket is empty. So no call asks whether there is a neighbour.
 ghost use Rattle.std.specs.Prelude.{◌≡◌, ◌<◌, ◌≤◌, ◌+◌, ◌^◌, ℕ, length, slice_index, slice_set, IfSome, IfNone, IfOk, IsTrue, ◌↔◌};
 ghost use Rattle.tcc_core.specs.private.Rings.{StandsIn, IsOutOf, IsEmptyRing};
@@ -35,7 +35,7 @@ impl Model for Ring {
     ghost invariant = { λ s. (s.count ≡ length s.bucket.items) × IsRing BUCKETS s.next.items s.prev.items s.bucket.items };
 }
 
-/// Makes each place from `count` on its own neighbour.
+/// Makes each index from `count` on its own neighbour.
 fn close(table: &mut [u32], count: u32)
     requires { length table.old < 2 ^ 32 }
     ensures long { length table.new ≡ length table.old }

@@ -85,7 +85,7 @@ impl Search {
         if cap > self.limit {
             self.catch_up(prices, cap);
         }
-        self.step(prices, cap)
+        self.join_nearest(prices, cap)
     }
 
     /// Makes all ways known that cost at most a cap above the limit: those from the start, and from all that has joined.
@@ -106,7 +106,7 @@ impl Search {
     }
 
     /// What `settle` does where all ways that cost at most the cap are known. The start was led on from at the opening.
-    fn step(&mut self, prices: &Prices, cap: u64) -> Settled
+    fn join_nearest(&mut self, prices: &Prices, cap: u64) -> Settled
         requires long { length self.old.row ≡ length prices.now.prices }
         requires known { cap ≤ self.old.limit }
         ensures start { self.new.start ≡ self.old.start }
@@ -129,7 +129,7 @@ impl Search {
         Settled::More
     }
 
-    /// The start, for those who step a search by hand.
+    /// The start, for those who settle one transaction after the other by hand.
     pub fn start(&self) -> u32
         ensures value { result ≡ self.now.start }
         ensures below { result < length self.now.row }
@@ -138,7 +138,7 @@ impl Search {
     }
 
     /// The distance from the start to each transaction that has joined, none for those outside, from the start upward:
-    /// place k has that of transaction start + k.
+    /// at index k stands that of transaction start + k.
     pub fn row(&self) -> &[Option<u32>]
         ensures value { result.now ≡ drop self.now.start self.now.row }
         ensures few { length result.now ≤ MAX_COUNT }

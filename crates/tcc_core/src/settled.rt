@@ -1,6 +1,6 @@
-//! What one step of a search answers.
+//! What a search answers that is to take one more into its row.
 
-/// What became of one step of a search.
+/// What became of it.
 #[derive(Clone, Copy, Debug, PartialEq, Eq)]
 pub enum Settled {
     /// A transaction other than the start has joined the row.

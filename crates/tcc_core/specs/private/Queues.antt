@@ -72,7 +72,7 @@ abbrev pub count_reached : List ℕ → ℕ
 count_reached [] = 0
 count_reached (cost ∷ costs) = if cost == NO_WAY then count_reached costs else (count_reached costs + 1)
 
--- each one that was reached stands in the list of those, before the place where the next one comes
+-- each one that was reached stands in the list of those, before the index where the next one comes
 pub record IsListed (held : ℕ) (listed costs : List ℕ) : Type 0 where
   pub long : length listed ≡ length costs
   pub few : length listed ≤ MAX_COUNT

@@ -1,7 +1,7 @@
 -- How the buckets of a ring are linked.
 use Rattle.std.specs.Prelude.{ℕ, ◌≡◌, ◌<◌, ◌≤◌, ◌+◌, ◌-◌, ◌⊎◌, List, length, slice_index, cond, nat_lt}
 
--- the bucket in which a place of the tables stands: a number where it was put, and the end of a bucket in that bucket
+-- the bucket in which an index of the tables stands: a number where it was put, and the end of a bucket in that bucket
 unfoldable pub home : List ℕ → ℕ → ℕ
 home bucket x = cond (nat_lt x (length bucket)) (slice_index bucket x) (x - length bucket)
 
@@ -10,7 +10,7 @@ pub record IsPaired (size : ℕ) (next prev home : ℕ → ℕ) : Type 0 where
   pub same : (x : ℕ) → home x < size → home (next x) ≡ home x
   pub back : (x : ℕ) → home x < size → prev (next x) ≡ x
 
--- each step onward from a number that stands leads to a lower rank or to an end
+-- each way onward from a number that stands leads to a lower rank or to an end
 abbrev pub Falls : ℕ → ℕ → (ℕ → ℕ) → (ℕ → ℕ) → (ℕ → ℕ) → Type 0
 Falls count size next home rank = (v : ℕ) → v < count → home v < size → (count ≤ next v) ⊎ (rank (next v) < rank v)
 

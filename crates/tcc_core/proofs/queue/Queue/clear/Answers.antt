@@ -19,7 +19,7 @@ long c = rw c.deref_mut.ensures.value at c.shut.ensures.long
 all_far : (c : After-shut) → (v : ℕ) → v < length c.shut.new.costs → IsFar c.shut.new.costs c.shut.new.ring v
 all_far c v within = c.shut.ensures.shut v (rw c.deref_mut.ensures.value (omega (arith, long c)))
 
--- the list of costs has kept its places
+-- the list of costs is as long as it was
 whole : (c : After-shut) → length c.shut.new.costs ≡ c.self.inside.costs.len
 whole c =
     let len : c.self.inside.costs.len ≡ length c.self.inside.costs.items = search rules in

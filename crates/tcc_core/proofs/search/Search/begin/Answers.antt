@@ -1,6 +1,6 @@
 use Rattle.std.proofs.Common.{length, arith}
 use Rattle.std.proofs.lemmas.Grind.{common_steps}
-use Rattle.tcc_core.proofs.Steps.{IsBegun, search_begun, bounded_begun}
+use Rattle.tcc_core.proofs.Joining.{IsBegun, search_begun, bounded_begun}
 use Rattle.tcc_core.proofs.search.Search.begin.Goals.{In_ok-row}
 use Rattle.tcc_core.proofs.search.Search.begin.Goals as goal
 

@@ -1,5 +1,5 @@
 use Rattle.std.proofs.Common.{rules, ◌≡◌, length, arith, take_at, sym, ◌∙◌}
-use Rattle.tcc_core.proofs.Steps.{IsBegun, joined_reached, search_begun, bounded_begun}
+use Rattle.tcc_core.proofs.Joining.{IsBegun, joined_reached, search_begun, bounded_begun}
 use Rattle.tcc_core.proofs.search.Search.renew.Goals.{After-clear}
 use Rattle.tcc_core.proofs.search.Search.renew.Goals as goal
 
@@ -13,7 +13,7 @@ begun c = record {
   frontier = rw (c.self.invariant.long, there c) at c.clear.ensures;
 }
 
--- the row has kept its places
+-- the row is as long as it was
 whole : (c : After-clear) → length c.empty.new.row ≡ c.self.inside.row.len
 whole c =
     let long : c.self.inside.row.len ≡ length c.self.inside.row.items = search rules in

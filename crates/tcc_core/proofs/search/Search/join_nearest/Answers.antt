@@ -2,9 +2,9 @@ use Rattle.std.proofs.Common.{rules, slice_index, refl, sym, ◌∙◌, arith}
 use Rattle.tcc_core.specs.Searches.{IsSearchOf}
 use Rattle.tcc_core.proofs.Offered.{lower_same}
 use Rattle.tcc_core.proofs.Kept.{search_in}
-use Rattle.tcc_core.proofs.Steps.{IsJoining, nothing_near, joins_small, bounded_after, nearest_joins, start_joins, led_on, led_on_start, search_after}
-use Rattle.tcc_core.proofs.search.Search.step.Goals.{In-Some}
-use Rattle.tcc_core.proofs.search.Search.step.Goals as goal
+use Rattle.tcc_core.proofs.Joining.{IsJoining, nothing_near, joins_small, bounded_after, nearest_joins, start_joins, led_on, led_on_start, search_after}
+use Rattle.tcc_core.proofs.search.Search.join_nearest.Goals.{In-Some}
+use Rattle.tcc_core.proofs.search.Search.join_nearest.Goals as goal
 
 joining : (c : In-Some) → IsJoining (search_in c.self.inside) c.self.inside.frontier.floor c.args.cap c.in-Some.next
 joining c = record {

@@ -1,4 +1,4 @@
--- One step of a search: the nearest outside the row joins it, and the frontier moves on.
+-- One more is settled: the nearest outside the row joins it, and the frontier moves on.
 use Rattle.std.proofs.Common.{◌≡◌, ◌≢◌, ◌<◌, ◌≤◌, ◌+◌, ℕ, ◌⊎◌, inl, inr, List, length, Option, None, Some, set}
 use Rattle.std.proofs.Common.{slice_index, get_or-set_same, get_or-set_other, length-set, refl, sym, ◌∙◌, ap, subst}
 use Rattle.std.proofs.Common.{Contains, arith}
