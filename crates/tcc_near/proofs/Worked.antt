@@ -17,12 +17,14 @@ use Rattle.tcc_graph.proofs.Worked.{x, y, entry, stale_read}
 no_step : (h : History) (a b : ℕ) (s : Step) → causal_pair h a b ≡ false → IsWalk h a b (s ∷ []) → ⊥
 no_step h a b s none w = false≢true (sym none ∙ subst (λ (u : ℕ). causal_pair h a u ≡ true) w.1.2 (first_pair h a b s [] w.1))
 
+-- a walk that no other is shorter than
+shortest : (h : History) (a b : ℕ) (walk : List Step) → IsWalk h a b walk → ((other : List Step) → IsWalk h a b other → length walk ≤ length other)
+    → IsShortest (causally h) a b (length walk)
+shortest h a b walk is least = record { attained = (walk, (is, tt), refl); least = λ other allowed. least other allowed.0 }
+
 -- a/1 writes x, and a/2 reads the initial value of x
 stale_read-onwards : IsShortest (causally stale_read) 1 2 1
-stale_read-onwards = record {
-  attained = (step.Session 1 2 ∷ [], ((omega arith, (refl, refl, refl)), tt), refl);
-  least = λ walk is. omega (arith, is.0.0);
-}
+stale_read-onwards = shortest stale_read 1 2 (step.Session 1 2 ∷ []) (omega arith, (refl, refl, refl)) (λ other is. omega (arith, is.0))
 
 nothing_from_last : (b : ℕ) → causal_pair stale_read 2 b ≡ true → ⊥
 nothing_from_last zero p = false≢true p
@@ -53,14 +55,9 @@ nothing_between (suc (suc (suc (suc (suc m))))) p q = let below =
 
 -- two reads and a session step
 chain-onwards : IsShortest (causally chain) 1 4 3
-chain-onwards = record {
-  attained = (
-    step.Reads 1 2 x ∷ step.Reads 2 3 y ∷ step.Session 3 4 ∷ [],
-    ((omega arith, (refl, (lit< tt, lit< tt, (0, omega arith, refl)), (refl, (lit< tt, lit< tt, (0, omega arith, refl)), (refl, refl, refl)))), tt),
-    refl,
-  );
-  least = λ walk is. none_shorter walk is.0;
-}
+chain-onwards =
+    shortest chain 1 4 (step.Reads 1 2 x ∷ step.Reads 2 3 y ∷ step.Session 3 4 ∷ [])
+    (omega arith, (refl, (lit< tt, lit< tt, (0, omega arith, refl)), (refl, (lit< tt, lit< tt, (0, omega arith, refl)), (refl, refl, refl)))) none_shorter
   where
     none_shorter : (walk : List Step) → IsWalk chain 1 4 walk → 3 ≤ length walk
     none_shorter [] w = absurd (omega (arith, w.0))
@@ -92,14 +89,9 @@ circle = record {
 
 -- from a transaction to itself at least one step is taken
 circle-round : IsShortest (causally circle) 1 1 2
-circle-round = record {
-  attained = (
-    step.Reads 1 2 x ∷ step.Reads 2 1 y ∷ [],
-    ((omega arith, (refl, (lit< tt, lit< tt, (0, omega arith, refl)), (refl, (lit< tt, lit< tt, (0, omega arith, refl)), refl))), tt),
-    refl,
-  );
-  least = λ walk is. none_shorter walk is.0;
-}
+circle-round =
+    shortest circle 1 1 (step.Reads 1 2 x ∷ step.Reads 2 1 y ∷ [])
+    (omega arith, (refl, (lit< tt, lit< tt, (0, omega arith, refl)), (refl, (lit< tt, lit< tt, (0, omega arith, refl)), refl))) none_shorter
   where
     none_shorter : (walk : List Step) → IsWalk circle 1 1 walk → 2 ≤ length walk
     none_shorter [] w = absurd (omega (arith, w.0))
