@@ -3,7 +3,7 @@ use crate::known::View;
 use atomic_table::Seat as Token;
 use std::marker::Model;
 
-/// A place at a bound. It has no bytes, and may go to another thread.
+/// A seat at a bound. It has no bytes, and may go to another thread.
 ///
 /// Contracts see which bound it is of, the floor of that bound, the word as the seat was last told (its sight), and the costs that it and
 /// all seats joined into it offered. The offers and the sight of a seat that is dropped still count.

@@ -33,7 +33,7 @@ module _ (j : Judged) (workers : ℕ) (found : Found) (is : IsFound j workers fo
     far_rows : AreFarRows j b found.rows.items
     far_rows = record {
       long = is.long;
-      wide = is.places;
+      wide = is.wide;
       exact =
           λ s v up below. subst (λ (o : Option ℕ). IsCappedDistance j s v o (slice_index_or (row_of found.rows.items s) (v - s) None)) least
           (is.exact s v up below);
@@ -51,7 +51,7 @@ module _ (j : Judged) (workers : ℕ) (found : Found) (is : IsFound j workers fo
         least = least_there;
         back = first_is.1;
         first = first_is.2;
-        long = is.places s first_is.0;
+        long = is.wide s first_is.0;
         exact = far_rows.exact s;
       })
 

@@ -11,8 +11,8 @@ use Rattle.tcc_graph.specs.Levels.{Judged, judged}
 use Rattle.tcc_graph.specs.declared.level.Level.{Level}
 use Rattle.tcc_near.specs.Distances.{IsNearOf, NearTable, IsWalkLength, IsShortest}
 use Rattle.tcc_core.specs.Shares.{IsCappedDistance}
-use Rattle.tcc_packed.specs.Packed.{number_in, at_most}
-use Rattle.tcc_packed.specs.declared.row.TheConstants.{NO_NUMBER}
+use Rattle.tcc_packed.specs.Packed.{value_in, at_most}
+use Rattle.tcc_packed.specs.declared.row.TheConstants.{NO_VALUE}
 use Rattle.tcc_cert.specs.Tables.{row_of, entry, far_entry}
 use Rattle.tcc_cert.specs.declared.version.Version.TheVariants.{Two}
 use Rattle.tcc_explain.specs.Certificates.{IsCappedShortest, IsNearTable, IsFarTable}
@@ -78,26 +78,26 @@ near_entry j a c cap steps false shortest = go (cases_lt steps cap)
 
 module _ (j : Judged) (near : NearTable) (is : IsNearOf j near) where
   abbrev numbers : List (List (Option ℕ))
-  numbers = map (map number_in) near.rows
+  numbers = map (map value_in) near.rows
 
   as_many : length numbers ≡ count j.history
-  as_many = length-map near.rows (map number_in) ∙ is.square.long
+  as_many = length-map near.rows (map value_in) ∙ is.square.long
 
-  numbers_at : (a : ℕ) → a < count j.history → row_of numbers a ≡ map number_in (row_of near.rows a)
-  numbers_at a low = get_or-map (map number_in) near.rows a [] [] (omega (arith, low, is.square.long))
+  numbers_at : (a : ℕ) → a < count j.history → row_of numbers a ≡ map value_in (row_of near.rows a)
+  numbers_at a low = get_or-map (map value_in) near.rows a [] [] (omega (arith, low, is.square.long))
 
   wide : (a : ℕ) → a < count j.history → length (row_of near.rows a) ≡ count j.history
   wide a low = is.square.wide a [] (omega (arith, is.square.long))
 
   as_wide : (a : ℕ) → a < count j.history → length (row_of numbers a) ≡ count j.history
-  as_wide a low = ap length (numbers_at a low) ∙ (length-map (row_of near.rows a) number_in ∙ wide a low)
+  as_wide a low = ap length (numbers_at a low) ∙ (length-map (row_of near.rows a) value_in ∙ wide a low)
 
-  pub near_few : count j.history ≤ MAX_COUNT → All (λ row. length row ≤ MAX_COUNT) (map (map number_in) near.rows)
+  pub near_few : count j.history ≤ MAX_COUNT → All (λ row. length row ≤ MAX_COUNT) (map (map value_in) near.rows)
   near_few few = λ i d low.
       let from : i < count j.history = omega (arith, low, as_many) in
       omega (arith, ap length (get_or_default numbers i d [] low), as_wide i from, few)
 
-  pub near_table : (cap : ℕ) → IsNearTable j cap (map (map (at_most cap)) (map (map number_in) near.rows))
+  pub near_table : (cap : ℕ) → IsNearTable j cap (map (map (at_most cap)) (map (map value_in) near.rows))
   near_table cap = record {
     size = record {
       long = length-map numbers (map (at_most cap)) ∙ as_many;
@@ -108,10 +108,10 @@ module _ (j : Judged) (near : NearTable) (is : IsNearOf j near) where
     exact = λ a c from to.
         let steps : ℕ = slice_index (row_of near.rows a) c in
         let inside : c < length (row_of numbers a) = omega (arith, to, as_wide a from) in
-        let at : entry table a c ≡ at_most cap (number_in steps) =
+        let at : entry table a c ≡ at_most cap (value_in steps) =
         ap (λ (r : List ℕ). get_or r c 0) (row a from) ∙ (get_or-map (at_most cap) (row_of numbers a) c None 0 inside
         ∙ ap (at_most cap) (number a c from to)) in
-        subst (λ (z : ℕ). IsCappedShortest j cap a c z) (sym at) (near_entry j a c cap steps (steps == NO_NUMBER) (is.exact a c from to));
+        subst (λ (z : ℕ). IsCappedShortest j cap a c z) (sym at) (near_entry j a c cap steps (steps == NO_VALUE) (is.exact a c from to));
   }
     where
       table : List (List ℕ)
@@ -121,7 +121,7 @@ module _ (j : Judged) (near : NearTable) (is : IsNearOf j near) where
       row a low = get_or-map (map (at_most cap)) numbers a [] [] (omega (arith, low, as_many))
 
       number : (a c : ℕ) → a < count j.history → c < count j.history
-          → get_or (row_of numbers a) c None ≡ number_in (slice_index (row_of near.rows a) c)
+          → get_or (row_of numbers a) c None ≡ value_in (slice_index (row_of near.rows a) c)
       number a c from to =
           ap (λ (r : List (Option ℕ)). get_or r c None) (numbers_at a from)
-          ∙ get_or-map number_in (row_of near.rows a) c 0 None (omega (arith, to, wide a from))
+          ∙ get_or-map value_in (row_of near.rows a) c 0 None (omega (arith, to, wide a from))

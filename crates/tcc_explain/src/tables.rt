@@ -2,7 +2,7 @@
 ghost use Rattle.std.specs.Prelude.{◌≡◌, IfOk, map};
 ghost use Rattle.tcc_graph.specs.Orders.{IsCommitOrder};
 ghost use Rattle.tcc_near.specs.Distances.{IsNearOf};
-ghost use Rattle.tcc_packed.specs.Packed.{number_in};
+ghost use Rattle.tcc_packed.specs.Packed.{value_in};
 ghost use Rattle.tcc_explain.specs.Certificates.{IsNearTable, IsFarTable, IsClocksAt};
 ghost use Rattle.tcc_explain.specs.private.Capping.{AreFarRows};
 ghost use Rattle.tcc_graph.specs.Levels.{judged};
@@ -19,7 +19,7 @@ use tcc_txn::NoMemory;
 
 /// Rows of steps as they lie.
 fn packed(alloc: Global, rows: Vec<Row<u16>>) -> Result<Vec<PackedRow>, NoMemory>
-    ensures { IfOk result (λ packed. packed.items ≡ map (map number_in) rows.items) }
+    ensures { IfOk result (λ packed. packed.items ≡ map (map value_in) rows.items) }
 {
     let mut packed = Vec::with_capacity(alloc, rows.len())?;
     for row in rows {

@@ -1,15 +1,15 @@
--- Numbers in few bits, and numbers that are capped.
+-- Values in few bits, and values that are capped.
 use Rattle.std.specs.Prelude.{ℕ, ◌==◌, min, Option, None, Some, if◌then◌else◌, unwrap_or}
-use Rattle.tcc_packed.specs.declared.row.TheConstants.{NO_NUMBER}
+use Rattle.tcc_packed.specs.declared.row.TheConstants.{NO_VALUE}
 
--- what a place of 16 bits stands for
-abbrev pub number_in : ℕ → Option ℕ
-number_in place = if place == NO_NUMBER then None else Some place
+-- what 16 bits stand for
+abbrev pub value_in : ℕ → Option ℕ
+value_in bits = if bits == NO_VALUE then None else Some bits
 
--- a number that is no greater than the cap; the cap where there is none
+-- the value, but no more than the cap; the cap where it is none
 abbrev pub at_most : ℕ → Option ℕ → ℕ
-at_most cap number = min cap (unwrap_or number cap)
+at_most cap value = min cap (unwrap_or value cap)
 
 -- the same as what a row may have
 abbrev pub capped_at : ℕ → Option ℕ → Option ℕ
-capped_at cap number = Some (at_most cap number)
+capped_at cap value = Some (at_most cap value)

@@ -1,6 +1,6 @@
-//! Rows of numbers, none at some places, that take 16 bits a place where all numbers have room.
+//! Rows of values, each a number or none, that take 16 bits a value where all have room.
 #![tactic(auto)]
 
 mod row;
 
-pub use row::{NO_NUMBER, PackedRow};
+pub use row::{NO_VALUE, PackedRow};

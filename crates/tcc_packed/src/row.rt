@@ -1,118 +1,118 @@
-//! A row of numbers, none at some places: 16 bits a place where all of them have room, else 64.
+//! A row of values, each a number or none: 16 bits a value where all of them have room, else 64.
 ghost use Rattle.std.specs.Prelude.{◌≡◌, ◌<◌, length, map, slice_index_or, IfOk, IfSome, None};
-ghost use Rattle.tcc_packed.specs.Packed.{at_most, capped_at, number_in};
-ghost use Rattle.tcc_packed.specs.private.Places.{capped_by, numbers_in};
+ghost use Rattle.tcc_packed.specs.Packed.{at_most, capped_at, value_in};
+ghost use Rattle.tcc_packed.specs.private.Values.{capped_by, values_in};
 
 use std::alloc::{AllocError, Global};
 use std::marker::Model;
 
-/// What a place of 16 bits has where there is no number.
-pub const NO_NUMBER: u16 = u16::MAX;
+/// What 16 bits hold where there is none.
+pub const NO_VALUE: u16 = u16::MAX;
 
-/// The places of a row.
+/// The values of a row.
 #[derive(Drop)]
-enum Places {
-    /// `NO_NUMBER` stands for none.
+enum Values {
+    /// `NO_VALUE` stands for none.
     Narrow(Vec<u16>),
     Wide(Vec<Option<u32>>),
 }
 
-/// Numbers in order, none at some places; the cap, where there is one, stands where there is no number or a greater one.
+/// Values in order; the cap, where there is one, stands where there is none or a greater one.
 #[derive(Drop)]
 pub struct PackedRow {
-    places: Places,
+    values: Values,
     cap: Option<u32>,
 }
 
 impl Model for PackedRow {
     ghost use Rattle.std.specs.Prelude.{ℕ, List, Option};
-    ghost use Rattle.tcc_packed.specs.private.Places.{capped_by, numbers_in};
+    ghost use Rattle.tcc_packed.specs.private.Values.{capped_by, values_in};
 
     ghost Value = { List (Option ℕ) };
 
-    ghost view = { λ r. capped_by r.cap (numbers_in r.places) };
+    ghost view = { λ r. capped_by r.cap (values_in r.values) };
 }
 
-/// What a place of 16 bits stands for.
-fn number_in(place: u16) -> Option<u32>
-    ensures { result ≡ number_in place }
+/// What 16 bits stand for.
+fn value_in(bits: u16) -> Option<u32>
+    ensures { result ≡ value_in bits }
 {
-    if place == NO_NUMBER {
+    if bits == NO_VALUE {
         None
     } else {
-        Some(place as u32)
+        Some(bits as u32)
     }
 }
 
-/// The place of 16 bits that stands for this, if there is one.
-fn place_of(number: Option<u32>) -> Option<u16>
-    ensures { IfSome result (λ place. number_in place ≡ number) }
+/// The 16 bits that stand for a value, if there are such.
+fn bits_of(value: Option<u32>) -> Option<u16>
+    ensures { IfSome result (λ bits. value_in bits ≡ value) }
 {
-    match number {
-        None => Some(NO_NUMBER),
-        Some(number) if number < NO_NUMBER as u32 => Some(number as u16),
+    match value {
+        None => Some(NO_VALUE),
+        Some(value) if value < NO_VALUE as u32 => Some(value as u16),
         Some(_) => None,
     }
 }
 
-/// The places of 16 bits that stand for these, if there are such for all.
-fn narrowed(alloc: Global, numbers: &[Option<u32>]) -> Result<Option<Vec<u16>>, AllocError>
-    ensures { IfOk result (λ found. IfSome found (λ places. map number_in places.items ≡ numbers.now)) }
+/// The 16 bits that stand for each of these, if there are such for all.
+fn narrowed(alloc: Global, values: &[Option<u32>]) -> Result<Option<Vec<u16>>, AllocError>
+    ensures { IfOk result (λ found. IfSome found (λ narrow. map value_in narrow.items ≡ values.now)) }
 {
-    let mut places = Vec::with_capacity(alloc, numbers.len())?;
-    for number in numbers {
-        let Some(place) = place_of(*number) else {
+    let mut narrow = Vec::with_capacity(alloc, values.len())?;
+    for value in values {
+        let Some(bits) = bits_of(*value) else {
             return Ok(None);
         };
-        places.push(place)?;
+        narrow.push(bits)?;
     }
-    Ok(Some(places))
+    Ok(Some(narrow))
 }
 
-/// The number at a place, before it is capped.
-fn number_at(places: &Places, place: usize) -> Option<u32>
-    requires { place < length (numbers_in places.now) }
-    ensures { result ≡ slice_index_or (numbers_in places.now) place None }
+/// The value at an index, before it is capped.
+fn value_at(values: &Values, index: usize) -> Option<u32>
+    requires { index < length (values_in values.now) }
+    ensures { result ≡ slice_index_or (values_in values.now) index None }
 {
-    match places {
-        Places::Narrow(places) => number_in(places[place]),
-        Places::Wide(numbers) => numbers[place],
+    match values {
+        Values::Narrow(narrow) => value_in(narrow[index]),
+        Values::Wide(wide) => wide[index],
     }
 }
 
-/// A number that is no greater than the cap; the cap where there is none.
-fn at_most(cap: u32, number: Option<u32>) -> u32
-    ensures { result ≡ at_most cap number }
+/// The value, but no more than the cap; the cap where it is none.
+fn at_most(cap: u32, value: Option<u32>) -> u32
+    ensures { result ≡ at_most cap value }
 {
-    match number {
-        Some(number) => cap.min(number),
+    match value {
+        Some(value) => cap.min(value),
         None => cap,
     }
 }
 
 impl PackedRow {
-    /// The row of these places, `NO_NUMBER` where there is no number.
-    pub fn narrow(places: Vec<u16>) -> PackedRow
-        ensures { result ≡ map number_in places.items }
+    /// The row of these values, `NO_VALUE` for none.
+    pub fn narrow(values: Vec<u16>) -> PackedRow
+        ensures { result ≡ map value_in values.items }
     {
         PackedRow {
-            places: Places::Narrow(places),
+            values: Values::Narrow(values),
             cap: None,
         }
     }
 
-    /// The row of these numbers.
-    pub fn of(alloc: Global, numbers: &[Option<u32>]) -> Result<PackedRow, AllocError>
-        ensures { IfOk result (λ row. row ≡ numbers.now) }
+    /// The row of these values.
+    pub fn of(alloc: Global, values: &[Option<u32>]) -> Result<PackedRow, AllocError>
+        ensures { IfOk result (λ row. row ≡ values.now) }
     {
-        let places = match narrowed(alloc, numbers)? {
-            Some(places) => Places::Narrow(places),
-            None => Places::Wide(Vec::from_slice(alloc, numbers)?),
+        let values = match narrowed(alloc, values)? {
+            Some(narrow) => Values::Narrow(narrow),
+            None => Values::Wide(Vec::from_slice(alloc, values)?),
         };
-        Ok(PackedRow { places, cap: None })
+        Ok(PackedRow { values, cap: None })
     }
 
-    /// The same row with each number capped, and the cap where there is none. The numbers stay as they lie: the cap is
+    /// The same row with each value capped, and the cap where there is none. The values stay as they lie: the cap is
     /// applied where one of them is asked for.
     pub fn capped(self, cap: u32) -> PackedRow
         ensures { result ≡ map (capped_at cap) self }
@@ -122,51 +122,51 @@ impl PackedRow {
             None => cap,
         };
         PackedRow {
-            places: self.places,
+            values: self.values,
             cap: Some(cap),
         }
     }
 
-    /// How many places there are.
+    /// How many values there are.
     pub fn len(&self) -> usize
         ensures { result ≡ length self.now }
     {
-        match &self.places {
-            Places::Narrow(places) => places.len(),
-            Places::Wide(numbers) => numbers.len(),
+        match &self.values {
+            Values::Narrow(narrow) => narrow.len(),
+            Values::Wide(wide) => wide.len(),
         }
     }
 
-    /// The number at a place; none where there is none.
-    pub fn get(&self, place: usize) -> Option<u32>
-        requires { place < length self.now }
-        ensures { result ≡ slice_index_or self.now place None }
+    /// The value at an index.
+    pub fn get(&self, index: usize) -> Option<u32>
+        requires { index < length self.now }
+        ensures { result ≡ slice_index_or self.now index None }
     {
-        let number = number_at(&self.places, place);
+        let value = value_at(&self.values, index);
         match self.cap {
-            Some(cap) => Some(at_most(cap, number)),
-            None => number,
+            Some(cap) => Some(at_most(cap, value)),
+            None => value,
         }
     }
 
-    /// The numbers one by one, as a list of its own.
+    /// The values one by one, as a list of its own.
     pub fn unpacked(&self, alloc: Global) -> Result<Vec<Option<u32>>, AllocError>
-        ensures { IfOk result (λ numbers. numbers.items ≡ self.now) }
+        ensures { IfOk result (λ values. values.items ≡ self.now) }
     {
-        let mut numbers = Vec::with_capacity(alloc, self.len())?;
-        for place in 0..self.len() {
-            numbers.push(self.get(place))?;
+        let mut values = Vec::with_capacity(alloc, self.len())?;
+        for index in 0..self.len() {
+            values.push(self.get(index))?;
         }
-        Ok(numbers)
+        Ok(values)
     }
 
-    /// Sets the numbers, each capped, into as many places.
-    pub fn write_capped(&self, cap: u32, numbers: &mut [u32])
-        requires { length numbers.old ≡ length self.now }
-        ensures { numbers.new ≡ map (at_most cap) self.now }
+    /// Writes the values, each capped, into a slice for as many.
+    pub fn write_capped(&self, cap: u32, values: &mut [u32])
+        requires { length values.old ≡ length self.now }
+        ensures { values.new ≡ map (at_most cap) self.now }
     {
-        for place in 0..numbers.len() {
-            numbers[place] = at_most(cap, self.get(place));
+        for index in 0..values.len() {
+            values[index] = at_most(cap, self.get(index));
         }
     }
 }

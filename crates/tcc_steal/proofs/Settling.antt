@@ -28,7 +28,7 @@ use Rattle.tcc_steal.specs.private.Working.{KnowsMore, IsSeat, HasEnded, whole_r
 use Rattle.tcc_steal.specs.declared.bringing.Searched.{Searched}
 use Rattle.tcc_steal.specs.declared.found.Found.{Found}
 use Rattle.tcc_steal.proofs.Floor.{floor_attained}
-use Rattle.tcc_steal.proofs.Places.{knows_more}
+use Rattle.tcc_steal.proofs.Slots.{knows_more}
 use Rattle.tcc_steal.proofs.Rows.{drop_whole, in_whole, length_whole}
 
 -- ---- searches in order
@@ -143,7 +143,7 @@ pub record IsTold (es : List Searched) (least : Option ℕ) (found : Found) : Ty
   pub rows : found.rows.items ≡ map (λ (e : Searched). map (capped least) e.row) es
   pub starts : found.starts.items ≡ map (λ (e : Searched). (e.worker, e.start)) es
 
--- the search that stands at a place
+-- the search from a start
 record IsAt (j : Judged) (known : Known) (es : List Searched) (s : ℕ) : Type 0 where
   search : Searched
   here : (d : Searched) → get_or es s d ≡ search
@@ -162,8 +162,8 @@ module _ {j : Judged} {t : Tables} {workers : ℕ} {known : Known} {es : List Se
       zero_more : (s : ℕ) → 0 + s ≡ s
       zero_more s = omega arith
 
-  at_place : (s : ℕ) → s < length es → IsAt j known es s
-  at_place s l = go (first_of es l)
+  at_start : (s : ℕ) → s < length es → IsAt j known es s
+  at_start s l = go (first_of es l)
     where
       any_default : (xs : List Searched) (k : ℕ) (d e : Searched) → k < length xs → get_or xs k d ≡ get_or xs k e
       any_default [] k d e l = absurd (omega arith)
@@ -182,7 +182,7 @@ module _ {j : Judged} {t : Tables} {workers : ℕ} {known : Known} {es : List Se
 
   back_row : (s c : ℕ) → s < length es → CameBack es s c → IsDistance j s s c
   back_row s c l back =
-      let w = at_place s l in
+      let w = at_start s l in
       let here : in_row w.search.row 0 ≡ Some c = subst (λ (row : List (Option ℕ)). in_row row 0 ≡ Some c) w.row_is back in
       let same : s + 0 ≡ s = omega arith in
       w.ended.exact.exact s c (ap (in_row (whole_row s w.search.row)) (sym same) ∙ (in_whole s 0 w.search.row ∙ here))
@@ -206,7 +206,7 @@ module _ {j : Judged} {t : Tables} {workers : ℕ} {known : Known} {es : List Se
 
   returned_at : (b s : ℕ) → word ≡ Some b → s < length es → IsDistance j s s b → CameBack es s b × Contains known.offers b
   returned_at b s some l distance =
-      let w = at_place s l in
+      let w = at_start s l in
       let e = w.search in
       let P : Finished → Type 0 = λ f. IsDistance j f.start f.start b → f.stop ≡ Returned b in
       let settle_b : SettleAt j (share_of known es ∷ []) (Some b) = subst (SettleAt j (share_of known es ∷ [])) some all.settle in
@@ -255,7 +255,7 @@ module _ {j : Judged} {t : Tables} {workers : ℕ} {known : Known} {es : List Se
     exact_at : (s v : ℕ) → s ≤ v → v < count j.history → IsCappedDistance j s v word (slice_index_or (row_of rows s) (v - s) None)
     exact_at s v up below =
         let l : s < length es = omega (arith, all.long, all.priced.prices.long) in
-        let w = at_place s l in
+        let w = at_start s l in
         let row = w.search.row in
         let P : Finished → Type 0 = λ f. (v : ℕ) → IsCappedDistance j f.start v word (capped word (in_row f.row v)) in
         let at_start : IsCappedDistance j w.search.start v word (capped word (in_row (whole_row w.search.start row) v)) =
@@ -270,10 +270,10 @@ module _ {j : Judged} {t : Tables} {workers : ℕ} {known : Known} {es : List Se
         ap (λ (r : List (Option ℕ)). slice_index_or r (v - s) None) (rows_at s l w) ∙ map_at (capped word) row (v - s) None None inside in
         subst (IsCappedDistance j s v word) (ap (capped word) entry ∙ sym cell) here
 
-    places_at : (s : ℕ) → s < count j.history → length (row_of rows s) ≡ count j.history - s
-    places_at s below =
+    wide_at : (s : ℕ) → s < count j.history → length (row_of rows s) ≡ count j.history - s
+    wide_at s below =
         let l : s < length es = omega (arith, all.long, all.priced.prices.long) in
-        let w = at_place s l in
+        let w = at_start s l in
         let row = w.search.row in
         let wide : length (whole_row s row) ≡ count j.history = w.ended.exact.long in
         omega (arith, ap (λ (r : List (Option ℕ)). length r) (rows_at s l w), length-map row (capped word), length_whole s row, wide)
@@ -281,7 +281,7 @@ module _ {j : Judged} {t : Tables} {workers : ℕ} {known : Known} {es : List Se
     each_row : EachFinished (share_of known es ∷ []) (λ f. row_of rows f.start ≡ map (capped word) (drop f.start f.row))
     each_row = one_share (λ share. All P share.finished) (share_of known es) (λ i d inside.
         let l : i < length es = omega (arith, length-map es (finished_of known)) in
-        let w = at_place i l in
+        let w = at_start i l in
         let x = w.search in
         let same : get_or (map (finished_of known) es) i d ≡ finished_of known x = map_at (finished_of known) es i d x l ∙ ap (finished_of known) (w.here x) in
         let row : row_of rows x.start ≡ map (capped word) x.row = ap (row_of rows) w.start ∙ rows_at i l w in
@@ -306,7 +306,7 @@ module _ {j : Judged} {t : Tables} {workers : ℕ} {known : Known} {es : List Se
           all.priced.prices.long,
         );
     rows = rw told.least_is (each_row told.rows);
-    places = places_at told.rows;
+    wide = wide_at told.rows;
     exact = λ s v up below. rw told.least_is (exact_at told.rows s v up below);
     first = rw told.least_is (first_is found.first word refl told.first);
     once = rw (told.starts, seconds es) numbered;

@@ -12,42 +12,42 @@ use tcc_bound::{Bound, Seat};
 use tcc_derive::Prices;
 use tcc_txn::NoMemory;
 
-/// Takes in a share: each search has the place of its start, unless that has one.
+/// Takes in a share: each search has the slot of its start, unless that is taken.
 fn take_in(
     bound: &Bound,
     seat: &mut Seat,
-    places: &mut [Option<Searched>],
+    slots: &mut [Option<Searched>],
     share: Share,
     _prices: &Prices,
     _workers: u32,
 )
     requires seat { IsSeat _prices.now bound.now seat.old }
-    requires long { length places.old ≡ length _prices.now.prices }
-    requires kept { AreKept _prices.now _workers seat.old.known places.old }
+    requires long { length slots.old ≡ length _prices.now.prices }
+    requires kept { AreKept _prices.now _workers seat.old.known slots.old }
     requires share { IsShare _prices.now bound.now _workers share }
     ensures seat { IsSeat _prices.now bound.now seat.new }
-    ensures long { length places.new ≡ length places.old }
-    ensures kept { AreKept _prices.now _workers seat.new.known places.new }
+    ensures long { length slots.new ≡ length slots.old }
+    ensures kept { AreKept _prices.now _workers seat.new.known slots.new }
 {
     bound.join(seat, share.seat);
     let mut searches = share.searches;
     while let Some(searched) = searches.pop() {
         let start = searched.start as usize;
-        if places[start].is_none() {
-            places[start] = Some(searched);
+        if slots[start].is_none() {
+            slots[start] = Some(searched);
         }
     }
 }
 
-/// A place for the search of each start, empty.
-fn empty_places(alloc: Global, count: u32) -> Result<Vec<Option<Searched>>, NoMemory>
-    ensures { IfOk result (λ places. places.items ≡ replicate count None) }
+/// A slot for the search of each start, empty.
+fn empty_slots(alloc: Global, count: u32) -> Result<Vec<Option<Searched>>, NoMemory>
+    ensures { IfOk result (λ slots. slots.items ≡ replicate count None) }
 {
-    let mut places = Vec::with_capacity(alloc, count as usize)?;
+    let mut slots = Vec::with_capacity(alloc, count as usize)?;
     for _ in 0..count {
-        places.push(None)?;
+        slots.push(None)?;
     }
-    Ok(places)
+    Ok(slots)
 }
 
 /// Takes in the shares one at a time, by the seat that offered the seed. A worker that ended out of memory ends this too.
@@ -64,39 +64,39 @@ pub(crate) fn gather(
     requires seed { HasSeed _seed seat.old.known }
     requires shares { AreShares prices.now bound.now _workers shares.items }
     ensures seat { OnOk result (IsSeat prices.now bound.now seat.new) }
-    ensures long { IfOk result (λ places. length places.items ≡ length prices.now.prices) }
-    ensures kept { IfOk result (λ places. AreKept prices.now _workers seat.new.known places.items) }
+    ensures long { IfOk result (λ slots. length slots.items ≡ length prices.now.prices) }
+    ensures kept { IfOk result (λ slots. AreKept prices.now _workers seat.new.known slots.items) }
 {
-    let mut places = empty_places(alloc, prices.count())?;
+    let mut slots = empty_slots(alloc, prices.count())?;
     while let Some(share) = shares.pop() {
-        take_in(bound, seat, places.as_mut_slice(), share?, prices, _workers);
+        take_in(bound, seat, slots.as_mut_slice(), share?, prices, _workers);
     }
-    Ok(places)
+    Ok(slots)
 }
 
-/// The searches from all starts, in order: those that stand in the places, and the worker's own for those that do not.
+/// The searches from all starts, in order: those that stand in their slots, and the worker's own for those that do not.
 pub(crate) fn search_all(
     alloc: Global,
     prices: &Prices,
     bound: &Bound,
     gate: &impl Gate,
     worker: &mut Worker,
-    mut places: Vec<Option<Searched>>,
+    mut slots: Vec<Option<Searched>>,
     _workers: u32,
 ) -> Result<Vec<Searched>, NoMemory>
     requires prices { HasJudged prices.now }
     requires worker { IsWorker prices.now bound.now worker.old }
     requires number { worker.old.number < _workers }
-    requires long { length places.items ≡ length prices.now.prices }
-    requires kept { AreKept prices.now _workers worker.old.seat.known places.items }
+    requires long { length slots.items ≡ length prices.now.prices }
+    requires kept { AreKept prices.now _workers worker.old.seat.known slots.items }
     ensures worker { OnOk result (IsWorker prices.now bound.now worker.new) }
     ensures few { IfOk result (λ all. length all.items < 2 ^ 32) }
     ensures long { IfOk result (λ all. length all.items ≡ length prices.now.prices) }
     ensures all { IfOk result (λ all. AreSearches prices.now _workers worker.new.seat.known 0 all.items) }
 {
-    let mut searches = Vec::with_capacity(alloc, places.len())?;
+    let mut searches = Vec::with_capacity(alloc, slots.len())?;
     for start in 0..prices.count() {
-        let searched = match places[start as usize].take() {
+        let searched = match slots[start as usize].take() {
             Some(searched) => searched,
             None => worker.search(alloc, prices, bound, gate, start)?,
         };

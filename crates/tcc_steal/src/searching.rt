@@ -22,7 +22,7 @@ use tcc_packed::PackedRow;
 use tcc_txn::NoMemory;
 use tcc_workers::Workers;
 
-/// The row with each of its places capped, where there is a cap.
+/// The row with each of its values capped, where there is a cap.
 fn capped_row(row: PackedRow, cap: Option<u32>) -> PackedRow
     ensures { result ≡ map (capped cap) row }
 {
@@ -32,7 +32,7 @@ fn capped_row(row: PackedRow, cap: Option<u32>) -> PackedRow
     }
 }
 
-/// The first of these searches that came back at this cost, by its place.
+/// The first of these searches that came back at this cost, by its index.
 fn first_back(searches: &[Searched], cost: u32) -> Option<u32>
     requires { length searches.now < 2 ^ 32 }
     ensures { IsFirstBack searches.now (Some cost) result }
@@ -143,13 +143,13 @@ pub fn search_with<R: Threads + Sync, G: Gate, C: Crew>(
             rt, alloc, prices, &bound, gate, crew, &thieves, &mut seat, workers,
         )?
     };
-    let places = gather(alloc, prices, &bound, &mut seat, shares, workers, seed)?;
+    let slots = gather(alloc, prices, &bound, &mut seat, shares, workers, seed)?;
     let mut worker = Worker {
         number: 0,
         seat,
         search: None,
     };
-    let searches = search_all(alloc, prices, &bound, gate, &mut worker, places, workers)?;
+    let searches = search_all(alloc, prices, &bound, gate, &mut worker, slots, workers)?;
     let least = cost_in(bound.close(worker.seat));
     let found = found(alloc, least, searches)?;
     Ok(found)

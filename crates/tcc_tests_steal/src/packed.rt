@@ -1,21 +1,21 @@
-//! Rows of numbers in 16 bits a place, and of numbers that have no room there.
+//! Rows of values in 16 bits each, and of values that have no room there.
 use std::process::Abort;
 use std::test::Fail;
-use tcc_packed::{NO_NUMBER, PackedRow};
+use tcc_packed::{NO_VALUE, PackedRow};
 
-/// The row has these numbers, one by one and all together.
-fn assert_numbers(rt: &(impl Abort), row: &PackedRow, all: &[Option<u32>], wanted: &[Option<u32>]) {
+/// The row has these values, one by one and all together.
+fn assert_values(rt: &(impl Abort), row: &PackedRow, all: &[Option<u32>], wanted: &[Option<u32>]) {
     assert_eq!(rt; row.len(), wanted.len());
-    for (place, number) in wanted.iter().enumerate() {
-        assert!(rt; place < row.len());
-        assert!(rt; row.get(place) == *number);
+    for (index, value) in wanted.iter().enumerate() {
+        assert!(rt; index < row.len());
+        assert!(rt; row.get(index) == *value);
     }
     assert!(rt; all == wanted);
 }
 
 /// The greatest number of 16 bits stands for none, so it has no room there itself.
 #[test]
-fn numbers_read_back(rt: HostRuntime) -> Result<(), Fail> {
+fn values_read_back(rt: HostRuntime) -> Result<(), Fail> {
     let alloc = rt.alloc();
     let rows: [&[Option<u32>]; 5] = [
         &[],
@@ -24,35 +24,35 @@ fn numbers_read_back(rt: HostRuntime) -> Result<(), Fail> {
         &[None, Some(65_536), Some(7)],
         &[Some(u32::MAX), None],
     ];
-    for numbers in rows {
-        let row = PackedRow::of(alloc, numbers)?;
-        assert_numbers(&rt, &row, &row.unpacked(alloc)?, numbers);
+    for values in rows {
+        let row = PackedRow::of(alloc, values)?;
+        assert_values(&rt, &row, &row.unpacked(alloc)?, values);
     }
-    let row = PackedRow::narrow(vec![in alloc; 5, NO_NUMBER, 0]?);
-    assert_numbers(&rt, &row, &row.unpacked(alloc)?, &[Some(5), None, Some(0)]);
+    let row = PackedRow::narrow(vec![in alloc; 5, NO_VALUE, 0]?);
+    assert_values(&rt, &row, &row.unpacked(alloc)?, &[Some(5), None, Some(0)]);
     Ok(())
 }
 
-/// A cap stands where there is no number or a greater one, and of two caps the lesser does.
+/// A cap stands where there is none or a greater one, and of two caps the lesser does.
 #[test]
 fn caps(rt: HostRuntime) -> Result<(), Fail> {
     let alloc = rt.alloc();
     let row = PackedRow::of(alloc, &[Some(3), None, Some(4), Some(9)])?.capped(4);
-    assert_numbers(
+    assert_values(
         &rt,
         &row,
         &row.unpacked(alloc)?,
         &[Some(3), Some(4), Some(4), Some(4)],
     );
     let row = row.capped(5).capped(3);
-    assert_numbers(
+    assert_values(
         &rt,
         &row,
         &row.unpacked(alloc)?,
         &[Some(3), Some(3), Some(3), Some(3)],
     );
     let row = PackedRow::of(alloc, &[Some(70_000), None, Some(2)])?.capped(66_000);
-    assert_numbers(
+    assert_values(
         &rt,
         &row,
         &row.unpacked(alloc)?,

@@ -57,7 +57,7 @@ pub record HasEnded (j : Judged) (known : Known) (s : ℕ) (row : List (Option �
   pub returned : (c : ℕ) → in_row row s ≡ Some c → Contains known.offers c
   pub cut : in_row row s ≡ None → IsCutOff j s row (cap_of known.sight)
 
--- a row from s upward, with the places below s, which are outside
+-- a row from s upward, with the numbers below s, which are outside
 abbrev pub whole_row : ℕ → List (Option ℕ) → List (Option ℕ)
 whole_row s row = replicate s None ++ row
 
@@ -116,9 +116,9 @@ AreBy number searches = All (λ e. e.worker ≡ number) searches
 abbrev pub AreShares : Tables → BoundId → ℕ → List (Result Share NoMemory) → Type 0
 AreShares t id workers shares = All (λ share. IfOk share (IsShare t id workers)) shares
 
--- each place is empty, or has the search of its start
+-- each slot is empty, or has the search of its start
 abbrev pub AreKept : Tables → ℕ → Known → List (Option Searched) → Type 0
-AreKept t workers known places = (k : ℕ) (e : Searched) → slice_get places k ≡ Some (Some e) → (e.start ≡ k) × IsSearched t workers known e
+AreKept t workers known slots = (k : ℕ) (e : Searched) → slice_get slots k ≡ Some (Some e) → (e.start ≡ k) × IsSearched t workers known e
 
 -- the row of the search from k, from there upward
 abbrev pub rows_of : List Searched → List (List (Option ℕ))

@@ -1,7 +1,7 @@
--- the places so far
+-- what stands for those so far
 use Rattle.std.proofs.Common.{◌≡◌, map, take}
-use Rattle.tcc_packed.specs.Packed.{number_in}
+use Rattle.tcc_packed.specs.Packed.{value_in}
 use Rattle.tcc_packed.proofs.row.narrowed.Given as goal
 
-abbrev pub invariant-loop-number : goal.invariant-loop-number
-invariant-loop-number l = map number_in l.places.items ≡ take l.number-index l.numbers
+abbrev pub invariant-loop-value : goal.invariant-loop-value
+invariant-loop-value l = map value_in l.narrow.items ≡ take l.value-index l.values

@@ -9,10 +9,10 @@ use Rattle.tcc_steal.proofs.gathering.gather.Goals as goal
 
 pub loop-share-preserved : goal.loop-share-preserved
 loop-share-preserved c =
-    let new = c.take_in.new.places in
-    let old = c.loop-share.places.items in
-    let long : c.loop-share.places.len ≡ length new = omega (arith, c.as_mut_slice.ensures.len, c.take_in.ensures.long) in
-    let whole : take c.loop-share.places.len (new ++ drop (length new) old) ≡ new =
+    let new = c.take_in.new.slots in
+    let old = c.loop-share.slots.items in
+    let long : c.loop-share.slots.len ≡ length new = omega (arith, c.as_mut_slice.ensures.len, c.take_in.ensures.long) in
+    let whole : take c.loop-share.slots.len (new ++ drop (length new) old) ≡ new =
     ap (λ (n : ℕ). take n (new ++ drop (length new) old)) long ∙ take-append_seam new (drop (length new) old) in
     let left =
     All-pop (λ (s : Result Share NoMemory). IfOk s (IsShare c.args.prices.now c.args.bound.now c.args._workers)) c.loop-share.shares.items

@@ -1,4 +1,4 @@
--- the shares that are left, and the places of those that were taken in
+-- the shares that are left, and the slots of those that were taken in
 use Rattle.std.proofs.Common.{◌≡◌, length}
 use Rattle.tcc_steal.specs.private.Working.{IsSeat, AreShares, AreKept}
 use Rattle.tcc_steal.proofs.gathering.gather.Given as goal
@@ -7,8 +7,8 @@ abbrev pub invariant-loop-share : goal.invariant-loop-share
 invariant-loop-share l =
     IsSeat l.prices l.bound l.seat
     × AreShares l.prices l.bound l._workers l.shares.items
-    × AreKept l.prices l._workers l.seat.known l.places.items
-    × (length l.places.items ≡ length l.prices.prices)
+    × AreKept l.prices l._workers l.seat.known l.slots.items
+    × (length l.slots.items ≡ length l.prices.prices)
 
 abbrev pub decreases-loop-share : goal.decreases-loop-share
 decreases-loop-share l = length l.shares.items

@@ -1,5 +1,5 @@
 use Rattle.std.proofs.Common.{◌≡◌, ◌<◌, ◌++◌, ◌∷◌, [], length, length-append, length-set, set, sym, ◌∙◌, ap, arith}
-use Rattle.tcc_steal.proofs.Places.{kept_more, kept_emptied, kept_at}
+use Rattle.tcc_steal.proofs.Slots.{kept_more, kept_emptied, kept_at}
 use Rattle.tcc_steal.proofs.Seats.{knows_itself}
 use Rattle.tcc_steal.proofs.Settling.{searches_more}
 use Rattle.tcc_steal.proofs.gathering.search_all.Goals.{in-Some, in-None+in_ok-searched-in-None}
@@ -9,20 +9,20 @@ pub loop-start-preserved : goal.loop-start-preserved
 loop-start-preserved g c =
     let t = c.args.prices.now in
     let es = c.loop-start.searches.items in
-    let places = c.loop-start.places.items in
+    let slots = c.loop-start.slots.items in
     let start = c.loop-start.start in
     let (worker, number, wide, kept, long, searches) = c.loop-start.invariant in
-    let emptied = kept_emptied places kept start c.take.new.self c.take.ensures.after in
+    let emptied = kept_emptied slots kept start c.take.new.self c.take.ensures.after in
     let pushed : c.push.new.self.items ≡ es ++ c.match-take.searched ∷ [] = c.in_ok-push.ensures.items in
     elim c.match-take.branch [
       | in-Some w ↦
-          let inside : start < length places = omega (arith, wide, c.loop-start-test.true, c.count-start-end.ensures.value) in
+          let inside : start < length slots = omega (arith, wide, c.loop-start-test.true, c.count-start-end.ensures.value) in
           let taken = sym c.take.ensures.value ∙ w.in-Some.is in
-          let at = kept_at places kept start c.index_mut.result.now w.in-Some.searched inside c.index_mut.ensures.value taken in
+          let at = kept_at slots kept start c.index_mut.result.now w.in-Some.searched inside c.index_mut.ensures.value taken in
           rw (w.worker-is) (
             worker,
             number,
-            length-set places start c.take.new.self ∙ wide,
+            length-set slots start c.take.new.self ∙ wide,
             emptied,
             omega (arith, ap length pushed, length-append es (c.match-take.searched ∷ []), long),
             rw (pushed, w.searched-is) (searches_more t c.args._workers (knows_itself c.loop-start.worker.seat.known worker.seat.sight) es searches
@@ -33,8 +33,8 @@ loop-start-preserved g c =
           rw (w.worker-is) (
             ens.worker,
             ens.number ∙ number,
-            length-set places start c.take.new.self ∙ wide,
-            kept_more (set places start c.take.new.self) emptied ens.knows,
+            length-set slots start c.take.new.self ∙ wide,
+            kept_more (set slots start c.take.new.self) emptied ens.knows,
             omega (arith, ap length pushed, length-append es (c.match-take.searched ∷ []), long),
             rw (pushed, w.searched-is) (searches_more t c.args._workers ens.knows es searches w.in_ok-searched-in-None.searched
                 (record {

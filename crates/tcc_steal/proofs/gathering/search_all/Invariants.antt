@@ -1,4 +1,4 @@
--- the searches of the starts so far, and the places that are left
+-- the searches of the starts so far, and the slots that are left
 use Rattle.std.proofs.Common.{◌≡◌, length}
 use Rattle.tcc_steal.specs.private.Working.{IsWorker, AreKept, AreSearches}
 use Rattle.tcc_steal.proofs.gathering.search_all.Given as goal
@@ -7,7 +7,7 @@ abbrev pub invariant-loop-start : goal.invariant-loop-start
 invariant-loop-start g l =
     IsWorker l.prices l.bound l.worker
     × (l.worker.number ≡ l.fn.worker.number)
-    × (length l.places.items ≡ length l.prices.prices)
-    × AreKept l.prices l._workers l.worker.seat.known l.places.items
+    × (length l.slots.items ≡ length l.prices.prices)
+    × AreKept l.prices l._workers l.worker.seat.known l.slots.items
     × (length l.searches.items ≡ l.start)
     × AreSearches l.prices l._workers l.worker.seat.known 0 l.searches.items

@@ -2,7 +2,7 @@ use Rattle.std.proofs.Common.{◌≡◌, ◌++◌, ◌∷◌, [], ◌∙◌, ari
 use Rattle.std.proofs.lemmas.List.Elements.{All-push}
 use Rattle.tcc_steal.specs.private.Working.{IsHand}
 use Rattle.tcc_steal.specs.declared.bringing.Searched.{Searched}
-use Rattle.tcc_steal.proofs.Places.{one_more}
+use Rattle.tcc_steal.proofs.Slots.{one_more}
 use Rattle.tcc_steal.proofs.sharing.bring_back.Goals as goal
 
 pub loop-preserved : goal.loop-preserved

@@ -1,6 +1,6 @@
--- the numbers so far
+-- the values so far
 use Rattle.std.proofs.Common.{◌≡◌, take}
 use Rattle.tcc_packed.proofs.row.PackedRow.unpacked.Given as goal
 
-abbrev pub invariant-loop-place : goal.invariant-loop-place
-invariant-loop-place l = l.numbers.items ≡ take l.place l.self
+abbrev pub invariant-loop-index : goal.invariant-loop-index
+invariant-loop-index l = l.values.items ≡ take l.index l.self

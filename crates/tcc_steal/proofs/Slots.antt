@@ -1,4 +1,4 @@
--- Searches that workers bring back, in any order, and the places that they have by their starts.
+-- Searches that workers bring back, in any order, and the slots that they have by their starts.
 use Rattle.std.proofs.Common.{◌≡◌, ◌<◌, ◌++◌, ◌⊎◌, inl, inr, ℕ, zero, suc, List, [], ◌∷◌, length, length-set, set}
 use Rattle.std.proofs.Common.{replicate, get_or, All, Option, None, Some, slice_get, refl, sym, ◌∙◌, ap}
 use Rattle.std.proofs.Common.{subst}
@@ -33,7 +33,7 @@ module _ (t : Tables) (workers : ℕ) {old new : Known} (more : KnowsMore old ne
   pub one_more : (e : Searched) → IsSearched t workers new e → All (IsSearched t workers new) (es ++ e ∷ [])
   one_more e is = All-push (IsSearched t workers new) es e all_more is
 
--- ---- places
+-- ---- slots
 
 pub kept_none : (t : Tables) (workers : ℕ) (known : Known) (n : ℕ) → AreKept t workers known (replicate n None)
 kept_none t workers known n k e at = absurd (none_at n k at)
@@ -49,50 +49,50 @@ kept_none t workers known n k e at = absurd (none_at n k at)
     none_at (suc n) zero at = inner at
     none_at (suc n) (suc k) at = none_at n k at
 
--- what stands at a place once one is set
-at_place : (places : List (Option Searched)) (i k : ℕ) (o : Option Searched) (e : Searched) → slice_get (set places i o) k ≡ Some (Some e)
-    → ((k ≡ i) × (o ≡ Some e)) ⊎ (slice_get places k ≡ Some (Some e))
-at_place [] i k o e at = inr at
-at_place (p ∷ places) zero zero o e at = inl (refl, inside o at)
+-- what stands in a slot once one is set
+at_slot : (slots : List (Option Searched)) (i k : ℕ) (o : Option Searched) (e : Searched) → slice_get (set slots i o) k ≡ Some (Some e)
+    → ((k ≡ i) × (o ≡ Some e)) ⊎ (slice_get slots k ≡ Some (Some e))
+at_slot [] i k o e at = inr at
+at_slot (p ∷ slots) zero zero o e at = inl (refl, inside o at)
   where
     inside : (o : Option Searched) → Some o ≡ Some (Some e) → o ≡ Some e
     inside o same = cc
-at_place (p ∷ places) zero (suc k) o e at = inr at
-at_place (p ∷ places) (suc i) zero o e at = inr at
-at_place (p ∷ places) (suc i) (suc k) o e at = go (at_place places i k o e at)
+at_slot (p ∷ slots) zero (suc k) o e at = inr at
+at_slot (p ∷ slots) (suc i) zero o e at = inr at
+at_slot (p ∷ slots) (suc i) (suc k) o e at = go (at_slot slots i k o e at)
   where
-    go : ((k ≡ i) × (o ≡ Some e)) ⊎ (slice_get places k ≡ Some (Some e)) → ((suc k ≡ suc i) × (o ≡ Some e)) ⊎ (slice_get places k ≡ Some (Some e))
+    go : ((k ≡ i) × (o ≡ Some e)) ⊎ (slice_get slots k ≡ Some (Some e)) → ((suc k ≡ suc i) × (o ≡ Some e)) ⊎ (slice_get slots k ≡ Some (Some e))
     go (inl here) = inl (ap suc here.0, here.1)
     go (inr there) = inr there
 
-module _ {t : Tables} {workers : ℕ} {known : Known} (places : List (Option Searched)) (kept : AreKept t workers known places) where
-  pub kept_more : {new : Known} → KnowsMore known new → AreKept t workers new places
+module _ {t : Tables} {workers : ℕ} {known : Known} (slots : List (Option Searched)) (kept : AreKept t workers known slots) where
+  pub kept_more : {new : Known} → KnowsMore known new → AreKept t workers new slots
   kept_more more k e at = let w = kept k e at in (w.0, knows_more more w.1)
 
-  pub kept_emptied : (i : ℕ) (o : Option Searched) → o ≡ None → AreKept t workers known (set places i o)
-  kept_emptied i o none k e at = go (at_place places i k o e at)
+  pub kept_emptied : (i : ℕ) (o : Option Searched) → o ≡ None → AreKept t workers known (set slots i o)
+  kept_emptied i o none k e at = go (at_slot slots i k o e at)
     where
-      go : ((k ≡ i) × (o ≡ Some e)) ⊎ (slice_get places k ≡ Some (Some e)) → (e.start ≡ k) × IsSearched t workers known e
+      go : ((k ≡ i) × (o ≡ Some e)) ⊎ (slice_get slots k ≡ Some (Some e)) → (e.start ≡ k) × IsSearched t workers known e
       go (inl here) = absurd (no_search e (sym none ∙ here.1))
       go (inr there) = kept k e there
 
-  kept_filled : {x : Searched} → IsSearched t workers known x → AreKept t workers known (set places x.start (Some x))
-  kept_filled {x} is k e at = go (at_place places x.start k (Some x) e at)
+  kept_filled : {x : Searched} → IsSearched t workers known x → AreKept t workers known (set slots x.start (Some x))
+  kept_filled {x} is k e at = go (at_slot slots x.start k (Some x) e at)
     where
-      go : ((k ≡ x.start) × (Some x ≡ Some e)) ⊎ (slice_get places k ≡ Some (Some e)) → (e.start ≡ k) × IsSearched t workers known e
+      go : ((k ≡ x.start) × (Some x ≡ Some e)) ⊎ (slice_get slots k ≡ Some (Some e)) → (e.start ≡ k) × IsSearched t workers known e
       go (inl here) = subst (λ (y : Searched). (y.start ≡ k) × IsSearched t workers known y) (one_search x e here.1) (sym here.0, is)
       go (inr there) = kept k e there
 
-  -- the last of some searches goes to its place
-  pub last_filled : {n : ℕ} → length places ≡ n → (searches left : List Searched) (x : Searched) → searches ≡ left ++ x ∷ []
+  -- the last of some searches goes to its slot
+  pub last_filled : {n : ℕ} → length slots ≡ n → (searches left : List Searched) (x : Searched) → searches ≡ left ++ x ∷ []
       → All (IsSearched t workers known) searches
-      → All (IsSearched t workers known) left × AreKept t workers known (set places x.start (Some x)) × (length (set places x.start (Some x)) ≡ n)
+      → All (IsSearched t workers known) left × AreKept t workers known (set slots x.start (Some x)) × (length (set slots x.start (Some x)) ≡ n)
   last_filled long searches left x parts all =
       let (fewer, is) = All-pop (IsSearched t workers known) searches left (Some x) parts all in
-      (fewer, kept_filled is, length-set places x.start (Some x) ∙ long)
+      (fewer, kept_filled is, length-set slots x.start (Some x) ∙ long)
 
-  -- the search that stands at a place
-  pub kept_at : (i : ℕ) (o : Option Searched) (e : Searched) → i < length places → o ≡ get_or places i o → o ≡ Some e
+  -- the search that stands in a slot
+  pub kept_at : (i : ℕ) (o : Option Searched) (e : Searched) → i < length slots → o ≡ get_or slots i o → o ≡ Some e
       → (e.start ≡ i) × IsSearched t workers known e
   kept_at i o e inside here some =
-      kept i e (slice_get_read places (length places) i o refl inside here ∙ ap (λ (x : Option Searched). Some x) some)
+      kept i e (slice_get_read slots (length slots) i o refl inside here ∙ ap (λ (x : Option Searched). Some x) some)
