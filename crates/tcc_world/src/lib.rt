@@ -8,5 +8,5 @@ pub mod laws;
 mod stage;
 mod world;
 
-pub use event::{Event, RunFault, StepFault};
+pub use event::{Event, RunFault, EventFault};
 pub use world::World;
