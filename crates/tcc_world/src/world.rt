@@ -11,7 +11,7 @@ ghost use Rattle.tcc_world.specs.declared.event.Event.TheVariants as event;
 ghost use Rattle.tcc_world.specs.declared.stage.Stage.TheVariants as stages;
 
 use crate::desk::{Begun, Desk};
-use crate::event::{Event, RunFault, EventFault};
+use crate::event::{Event, EventFault, RunFault};
 use crate::stage::Stage;
 use std::alloc::Global;
 use std::marker::Model;
