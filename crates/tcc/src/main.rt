@@ -4,6 +4,7 @@
 
 mod watch;
 
+use std::fs::File;
 use std::io::Write;
 use std::process::ExitCode;
 use std::sync::Wait;
@@ -17,16 +18,52 @@ use tcc_run::{OpenGate, Options, Status, run_explain};
 use tcc_words::{Request, read};
 use watch::Watch;
 
-/// Explains the records of the input, with a file for the certificate if a path is given, and gives the status of the run.
-fn explain<W: Write>(
+/// Runs `explain --large`, with a file for a slice if one is given. At a terminal a run that takes longer shows what it is doing.
+fn run_shown<W: Write>(
     rt: &HostRuntime,
-    threads: &(impl Threads + Sync),
+    threads: &(impl Threads + Wait + Clock + Sync),
     options: Options,
     input: Telling<'_, Input>,
-    certificate: &Option<String>,
+    slice: Option<Telling<'_, File>>,
     out: &mut W,
 ) -> u8 {
-    match open_output(rt, certificate.as_deref(), input.stream()) {
+    let mut slice = slice;
+    let mut notes = rt.stderr();
+    let is_shown = is_waited_for(rt, input.stream());
+    let watch = Watch::new(threads, rt.stderr());
+    let watch = &watch;
+    thread::scope(thread::scope_env(), threads, move |scope| -> u8 {
+        if is_shown {
+            let _ = scope.spawn(move || watch.show());
+        }
+        let code = run_large(
+            threads,
+            rt.alloc(),
+            input,
+            out,
+            &mut slice,
+            &mut notes,
+            options,
+            watch,
+        );
+        watch.finish();
+        code
+    })
+}
+
+/// Explains the records of the input, up to the large limits or the small ones, and gives the status of the run. If a path is
+/// given, its file is for what comes behind the answers: a slice, or a certificate.
+fn explain<W: Write>(
+    rt: &HostRuntime,
+    threads: &(impl Threads + Wait + Clock + Sync),
+    options: Options,
+    large: bool,
+    input: Telling<'_, Input>,
+    path: &Option<String>,
+    out: &mut W,
+) -> u8 {
+    match open_output(rt, path.as_deref(), input.stream()) {
+        Ok(file) if large => run_shown(rt, threads, options, input, file, out),
         Ok(file) => {
             let mut file = file;
             let mut notes = rt.stderr();
@@ -45,45 +82,6 @@ fn explain<W: Write>(
     }
 }
 
-/// The same of records up to the large limits, with a file for a slice if a path is given. At a terminal a run that takes longer
-/// shows what it is doing.
-fn explain_large<W: Write>(
-    rt: &HostRuntime,
-    threads: &(impl Threads + Wait + Clock + Sync),
-    options: Options,
-    input: Telling<'_, Input>,
-    slice: &Option<String>,
-    out: &mut W,
-) -> u8 {
-    match open_output(rt, slice.as_deref(), input.stream()) {
-        Ok(file) => {
-            let mut file = file;
-            let mut notes = rt.stderr();
-            let is_shown = is_waited_for(rt, input.stream());
-            let watch = Watch::new(threads, rt.stderr());
-            let watch = &watch;
-            thread::scope(thread::scope_env(), threads, move |scope| -> u8 {
-                if is_shown {
-                    let _ = scope.spawn(move || watch.show());
-                }
-                let code = run_large(
-                    threads,
-                    rt.alloc(),
-                    input,
-                    out,
-                    &mut file,
-                    &mut notes,
-                    options,
-                    watch,
-                );
-                watch.finish();
-                code
-            })
-        }
-        Err(error) => print_unopened(error.kind(), options.json, out),
-    }
-}
-
 fn main(rt: HostRuntime) -> ExitCode {
     let mut out = Telling::new(rt.stdout(), "standard output", rt.stderr());
     let code = match read(&rt, &mut out) {
@@ -96,8 +94,10 @@ fn main(rt: HostRuntime) -> ExitCode {
                 slice,
             },
         ) => match open_input(&rt, history.as_deref()) {
-            Ok(input) if large => explain_large(&rt, &rt, options, input, &slice, &mut out),
-            Ok(input) => explain(&rt, &rt, options, input, &certificate, &mut out),
+            Ok(input) => {
+                let path = if large { &slice } else { &certificate };
+                explain(&rt, &rt, options, large, input, path, &mut out)
+            }
             Err(error) => print_unopened(error.kind(), options.json, &mut out),
         },
         Ok(
