@@ -73,8 +73,8 @@ fn do_the_same(one: &Op, other: &Op) -> bool {
 
 /// Whether two transactions ended alike and did the same.
 fn are_alike(one: &Txn, other: &Txn) -> bool {
-    for (place, op) in one.ops().iter().enumerate() {
-        match other.ops().get(place) {
+    for (index, op) in one.ops().iter().enumerate() {
+        match other.ops().get(index) {
             Some(same) if do_the_same(op, same) => {}
             _ => return false,
         }
@@ -84,8 +84,8 @@ fn are_alike(one: &Txn, other: &Txn) -> bool {
 
 /// Whether some transactions are a beginning of others.
 fn begins(some: &[Txn], all: &[Txn]) -> bool {
-    for (place, txn) in some.iter().enumerate() {
-        match all.get(place) {
+    for (index, txn) in some.iter().enumerate() {
+        match all.get(index) {
             Some(other) if are_alike(txn, other) => {}
             _ => return false,
         }

@@ -148,9 +148,9 @@ fn walks_keep_their_steps(rt: HostRuntime) -> Result<(), Fail> {
     let Ok(copy) = walk.copy(alloc) else {
         panic!(rt; "out of memory")
     };
-    for (place, step) in copy.as_slice().iter().enumerate() {
-        assert_eq!(rt; step.from(), place as u32 + 1);
-        assert_eq!(rt; step.to(), place as u32 + 2);
+    for (index, step) in copy.as_slice().iter().enumerate() {
+        assert_eq!(rt; step.from(), index as u32 + 1);
+        assert_eq!(rt; step.to(), index as u32 + 2);
     }
     assert_eq!(rt; walk.as_slice().len(), 2);
     assert_eq!(rt; copy.into_vec().len(), 2);

@@ -81,12 +81,12 @@ fn resolves_as_many_reads_as_there_may_be(rt: HostRuntime) -> Result<(), Fail> {
     assert_eq!(rt; graph.count(), 4_096);
     assert_eq!(rt; graph.keys().len(), 256);
     assert_eq!(rt; graph.reads(4_095).len(), 256);
-    let (readers, places) = graph.readings_at(0);
+    let (readers, key_indices) = graph.readings_at(0);
     assert_eq!(rt; readers.len(), 1_048_320);
     assert_eq!(rt; readers.first().copied(), Some(1));
-    assert_eq!(rt; places.first().copied(), Some(0));
+    assert_eq!(rt; key_indices.first().copied(), Some(0));
     assert_eq!(rt; readers.last().copied(), Some(4_095));
-    assert_eq!(rt; places.last().copied(), Some(255));
+    assert_eq!(rt; key_indices.last().copied(), Some(255));
     Ok(())
 }
 

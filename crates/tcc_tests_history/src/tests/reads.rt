@@ -41,7 +41,7 @@ fn faults_of_records(rt: HostRuntime) -> Result<(), Fail> {
             "a,begin\na,w,x,1\na,w,x,2\na,commit\nb,begin\nb,r,x,1\nb,commit\n",
             &[("b", 1, 1, "x", 1, Intermediate)],
         ),
-        // The last write of x is of the value that was written over: places count, and not values.
+        // The last write of x is of the value that was written over: what comes later counts, and not the value.
         (
             "b,begin\nb,r,x,1\nb,commit\na,begin\na,w,x,1\na,w,x,2\na,w,x,1\na,commit\n",
             &[

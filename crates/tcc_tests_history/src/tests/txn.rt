@@ -94,8 +94,8 @@ fn names_are_hashed(rt: HostRuntime) -> Result<(), Fail> {
         hashed.insert(name(&rt, text))?;
     }
     assert_eq!(rt; hashed.len(), 5);
-    for (text, place) in [("A", Some(2)), ("b", None)] {
-        assert_eq!(rt; hashed.get_index_of(&name(&rt, text)), place);
+    for (text, index) in [("A", Some(2)), ("b", None)] {
+        assert_eq!(rt; hashed.get_index_of(&name(&rt, text)), index);
     }
     Ok(())
 }
@@ -166,14 +166,14 @@ fn idle(rt: &impl Abort, alloc: Global, count: usize) -> Result<Vec<Txn>, Fail> 
     Ok(txns)
 }
 
-// The session at this place has this name, and so many transactions.
-fn assert_session(rt: &impl Abort, snapshot: &Snapshot, place: u32, wanted: (&str, usize)) {
-    match snapshot.session(place) {
+// The session at this index has this name, and so many transactions.
+fn assert_session(rt: &impl Abort, snapshot: &Snapshot, index: u32, wanted: (&str, usize)) {
+    match snapshot.session(index) {
         Some((session, txns)) => {
             assert_eq!(rt; session.bytes(), wanted.0.as_bytes());
             assert_eq!(rt; txns.len(), wanted.1);
         }
-        None => panic!(rt; "no session {place}"),
+        None => panic!(rt; "no session {index}"),
     }
 }
 
@@ -190,10 +190,10 @@ fn makes_snapshots_in_byte_order(rt: HostRuntime) -> Result<(), Fail> {
         panic!(rt; "five sessions are refused");
     };
     assert_eq!(rt; snapshot.sessions(), 5);
-    let mut place = 0u32;
+    let mut index = 0u32;
     for wanted in [("A", 2), ("a", 1), ("a-b", 4), ("a.1", 3), ("ab", 0)] {
-        assert_session(&rt, &snapshot, place, wanted);
-        place = place.wrapping_add(1);
+        assert_session(&rt, &snapshot, index, wanted);
+        index = index.wrapping_add(1);
     }
     assert!(rt; snapshot.session(5).is_none());
     Ok(())
@@ -390,16 +390,16 @@ fn tells_the_last_record(rt: HostRuntime) -> Result<(), Fail> {
     let mut recording = Recording::new(alloc, "a,begin\na,r,x,01\n".as_bytes())?;
     assert!(rt; recording.last_field(0).is_none());
     assert!(rt; recording.advance(alloc).is_err());
-    let mut place = 0usize;
+    let mut index = 0usize;
     for wanted in ["a", "r", "x", "01"] {
         assert!(rt;
             recording
-                .last_field(place)
+                .last_field(index)
                 .is_some_and(|field| field == wanted.as_bytes())
         );
-        place = place.wrapping_add(1);
+        index = index.wrapping_add(1);
     }
-    assert!(rt; recording.last_field(place).is_none());
+    assert!(rt; recording.last_field(index).is_none());
     Ok(())
 }
 
