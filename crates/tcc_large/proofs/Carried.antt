@@ -1,17 +1,16 @@
 -- A map of numbers that keeps pairs and writers, transaction by transaction, carries each link.
-use Rattle.std.proofs.Common.{◌≡◌, ◌<◌, ◌≤◌, ◌+◌, ◌-◌, ◌==◌, ◌↔◌, ◌⊎◌, inl, inr, ℕ, zero, suc, true, List, [], ◌∷◌, length, get_or, refl, sym, ap, subst, ◌∙◌, arith}
+use Rattle.std.proofs.Common.{◌≡◌, ◌<◌, ◌≤◌, ◌+◌, ◌-◌, ◌==◌, ◌↔◌, ◌⊎◌, inl, inr, ℕ, zero, suc, true, List, [], ◌∷◌, length, get_or, refl, ap, subst, ◌∙◌, arith}
 use Rattle.std.specs.Prelude.{zip, slice_index}
 use Rattle.std.specs.List.{Contains}
-use Rattle.std.proofs.lemmas.Bool.{cases_lt, cases_eq, or_cases, eqb-true}
+use Rattle.std.proofs.lemmas.Bool.{cases_lt, or_cases, eqb-true}
 use Rattle.std.proofs.lemmas.List.{get_or_default}
 use Rattle.tcc_reads.specs.History.{History, count, entry_at}
 use Rattle.tcc_graph.specs.Relations.{IsSessionPair, IsReadsPair}
 use Rattle.tcc_graph.specs.Keys.{IsWriter, has_name}
-use Rattle.tcc_graph.specs.Links.{IsLink, link_cost}
 use Rattle.tcc_graph.proofs.NameLemmas.{has_name-contains}
 use Rattle.tcc_graph.proofs.Pairs.{initial_pair, pair_parts}
 use Rattle.tcc_graph.proofs.Kept.{IsKept, kept_link, moved_cost}
-use Rattle.tcc_large.specs.private.Carrying.{carry, IsRising, KeepsReads, KeepsSessions, KeepsWrites}
+use Rattle.tcc_large.specs.private.Carrying.{carry, Fits, IsRising, Keeps, KeepsReads, KeepsSessions, KeepsWrites}
 use Rattle.tcc_large.specs.Slices.{IsCarried}
 
 -- ---- one after the other
@@ -108,17 +107,11 @@ written_all numbers small large b n all written x is =
 
 -- ---- all of them
 -- the first n transactions are kept
-pub record HasKept (numbers : List ℕ) (small : History) (large : History) (n : ℕ) : Type 0 where
-  pub reads : (a : ℕ) → a < n → KeepsReads numbers small large a
-  pub sessions : (a : ℕ) → a < n → KeepsSessions numbers small large a
-  pub writes : (b : ℕ) → b < n → KeepsWrites numbers small large b
+abbrev pub HasKept : List ℕ → History → History → ℕ → Type 0
+HasKept numbers small large n = (a : ℕ) → a < n → Keeps numbers small large a
 
 pub has_none : (numbers : List ℕ) (small large : History) → HasKept numbers small large 0
-has_none numbers small large = record {
-  reads = λ a l. absurd (omega (arith, l));
-  sessions = λ a l. absurd (omega (arith, l));
-  writes = λ b l. absurd (omega (arith, l));
-}
+has_none numbers small large a l = absurd (omega (arith, l))
 
 one_more : (P : ℕ → Type 0) (n : ℕ) → ((k : ℕ) → k < n → P k) → P n → (k : ℕ) → k < n + 1 → P k
 one_more P n before here k l = go (cases_lt k n)
@@ -127,24 +120,25 @@ one_more P n before here k l = go (cases_lt k n)
     go (inl less) = before k less
     go (inr last) = let same : k ≡ n = omega (arith, last, l) in rw same here
 
-pub has_more : (numbers : List ℕ) (small large : History) (n : ℕ) → HasKept numbers small large n → KeepsReads numbers small large n
-    → KeepsSessions numbers small large n → KeepsWrites numbers small large n → HasKept numbers small large (n + 1)
-has_more numbers small large n before reads sessions writes = record {
-  reads = one_more (KeepsReads numbers small large) n before.reads reads;
-  sessions = one_more (KeepsSessions numbers small large) n before.sessions sessions;
-  writes = one_more (KeepsWrites numbers small large) n before.writes writes;
-}
+pub has_more : (numbers : List ℕ) (small large : History) (n : ℕ) → HasKept numbers small large n → Keeps numbers small large n
+    → HasKept numbers small large (n + 1)
+has_more numbers small large n before here = one_more (Keeps numbers small large) n before here
 
-module _ (numbers : List ℕ) (small large : History) (n : ℕ) (all : count small ≤ n) (kept : HasKept numbers small large n)
-    (long : length numbers ≡ count small) (rising : IsRising numbers) (first : slice_index numbers 0 ≡ 0) (some : 0 < count large) where
+module _ (numbers : List ℕ) (small large : History) (n : ℕ) (all : count small ≤ n) (kept : HasKept numbers small large n) (fits : Fits numbers small large) where
+  long : length numbers ≡ count small
+  long = fits.0
+
+  first : slice_index numbers 0 ≡ 0
+  first = fits.1
+
   up : (a b : ℕ) → a < b → b < count small → carry numbers a < carry numbers b
-  up a b less below = rising a b less (omega (arith, below, long))
+  up a b less below = fits.3 a b less (omega (arith, below, long))
 
   inside : (b : ℕ) → b < count small → carry numbers b < count large
-  inside zero below = omega (arith, first, some)
+  inside zero below = omega (arith, first, fits.2)
   inside (suc i) below =
       let pair = initial_pair small 0 (suc i) refl (omega (arith, below)) (omega arith) below in
-      (pair_parts large (carry numbers 0) (carry numbers (suc i)) (kept.sessions 0 (omega (arith, below, all)) (suc i) pair)).to
+      (pair_parts large (carry numbers 0) (carry numbers (suc i)) ((kept 0 (omega (arith, below, all))).1 (suc i) pair)).to
 
   positive : (b : ℕ) → 0 < b → b < count small → 0 < carry numbers b
   positive b more below = omega (arith, up 0 b more below, first)
@@ -159,7 +153,7 @@ module _ (numbers : List ℕ) (small large : History) (n : ℕ) (all : count sma
 
   has : (b : ℕ) (x : List ℕ) → 0 < b → b < count small → has_name (entry_at small b).writes x ≡ true → has_name (entry_at large (carry numbers b)).writes x ≡ true
   has b x more below is =
-      let w = kept.writes b (omega (arith, below, all)) x is in
+      let w = (kept b (omega (arith, below, all))).2 x is in
       go (or_cases (carry numbers b == 0) (has_name (entry_at large (carry numbers b)).writes x) w.1)
     where
       go : ((carry numbers b == 0) ≡ true) ⊎ (has_name (entry_at large (carry numbers b)).writes x ≡ true)
@@ -173,9 +167,9 @@ module _ (numbers : List ℕ) (small large : History) (n : ℕ) (all : count sma
     some = positive;
     below = inside;
     once = once;
-    session = λ a b more pair. kept.sessions a (omega (arith, (pair_parts small a b pair).from, all)) b pair;
+    session = λ a b more pair. (kept a (omega (arith, (pair_parts small a b pair).from, all))).1 b pair;
     written = has;
-    read = λ a b x pair. kept.reads a (omega (arith, pair.0, all)) b x pair;
+    read = λ a b x pair. (kept a (omega (arith, pair.0, all))).0 b x pair;
   }
 
   pub carried : IsCarried (carry numbers) small large

@@ -1,6 +1,7 @@
 -- Ranks of transactions, one more, and all of them: then there is no cycle. A trail of links over transactions without a rank.
 use Rattle.std.proofs.Common.{ℕ, zero, suc, ◌+◌, ◌-◌, ◌<◌, ◌≤◌, ◌≡◌, ◌≢◌, ◌⊎◌, inl, inr, List, [], ◌∷◌, ◌++◌, length, map, drop, set, refl, sym, ap, subst, ◌∙◌, arith}
-use Rattle.std.specs.Prelude.{slice_index, Option, None, Some, MatchOption}
+use Rattle.std.specs.Prelude.{slice_index, Option, None, Some, MatchOption, Result, IfOk}
+use Rattle.std.proofs.lemmas.Result.{IfOk-weaker}
 use Rattle.std.proofs.lemmas.Bool.{cases_lt, cases_eq}
 use Rattle.std.proofs.lemmas.List.{get_or-set_same, get_or-set_other, length-set, length-map, length_push, map_push, get_or_append_left, get_or_push}
 use Rattle.tcc_reads.specs.History.{count}
@@ -22,10 +23,18 @@ links_past j ranks from pairs reasons (link.Reads a b x) same is = pairs b (inr 
 links_past j ranks from pairs reasons (link.Derived b a x c walk) same is =
     reasons a x c walk (subst (λ (z : ℕ). IsLink j (link.Derived z a x c walk)) same is)
 
-pub found_past : (j : Judged) (ranks : List ℕ) (from : ℕ) (found : Option Link) → ArePairsPast j.history ranks from
+found_past : (j : Judged) (ranks : List ℕ) (from : ℕ) (found : Option Link) → ArePairsPast j.history ranks from
     → MatchOption found (AreReasonsPast j ranks from) (IsOnward j ranks from) → MatchOption found (AreLinksPast j ranks from) (IsOnward j ranks from)
 found_past j ranks from None pairs reasons = links_past j ranks from pairs reasons
 found_past j ranks from (Some l) pairs on = on
+
+-- what a search for a derived link found, where all pairs lead to ranks
+pub found_on : {E : Type 0} (j : Judged) (ranks : List ℕ) (from : ℕ) (found : Result (Option Link) E) → ArePairsPast j.history ranks from
+    → IfOk found (λ one. MatchOption one (AreReasonsPast j ranks from) (IsOnward j ranks from))
+    → IfOk found (λ one. MatchOption one (AreLinksPast j ranks from) (IsOnward j ranks from))
+found_on j ranks from found pairs is =
+    IfOk-weaker found (λ one. MatchOption one (AreReasonsPast j ranks from) (IsOnward j ranks from))
+    (λ one. MatchOption one (AreLinksPast j ranks from) (IsOnward j ranks from)) (λ one p. found_past j ranks from one pairs p) is
 
 -- ---- ranks
 -- the ranks from 1 to n are given

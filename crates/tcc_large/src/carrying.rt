@@ -2,12 +2,11 @@
 ghost use Rattle.std.specs.Prelude.{◌≡◌, ◌<◌, ℕ, List, IsTrue, length, slice_index};
 ghost use Rattle.tcc_reads.specs.History.{count};
 ghost use Rattle.tcc_graph.specs.Relations.{IsReadsPair, IsSessionPair};
-ghost use Rattle.tcc_graph.specs.Keys.{IsWriter};
 ghost use Rattle.tcc_large.specs.Slices.{IsCarried};
-ghost use Rattle.tcc_large.specs.private.Carrying.{carry, KeepsReads, KeepsSessions, KeepsWrites, IsRising};
+ghost use Rattle.tcc_large.specs.private.Carrying.{carry, Fits, Keeps, KeepsReads, KeepsSessions, KeepsWrites, IsRising};
 
+use crate::onward::is_writer;
 use tcc_graph::{LargeGraph, Level, Link};
-use tcc_txn::Name;
 
 /// The number that one has in the large history; 0 where it has none.
 fn carried(numbers: &[u32], number: u32) -> u32
@@ -68,13 +67,6 @@ fn keeps_sessions(small: &LargeGraph, large: &LargeGraph, numbers: &[u32], first
     true
 }
 
-/// Whether a transaction writes the key, whatever its number.
-fn is_writer(graph: &LargeGraph, writer: u32, key: &Name) -> bool
-    ensures { IsTrue result → IsWriter graph.now writer key.now }
-{
-    writer < graph.count() && graph.writes(writer).contains(key)
-}
-
 /// Whether all that a transaction writes it writes in the large history too.
 fn keeps_writes(small: &LargeGraph, large: &LargeGraph, numbers: &[u32], writer: u32) -> bool
     requires { writer < count small.now }
@@ -88,26 +80,39 @@ fn keeps_writes(small: &LargeGraph, large: &LargeGraph, numbers: &[u32], writer:
     true
 }
 
+/// Whether all three are so of a transaction.
+fn keeps(small: &LargeGraph, large: &LargeGraph, numbers: &[u32], number: u32) -> bool
+    requires { number < count small.now }
+    ensures { IsTrue result → Keeps numbers.now small.now large.now number }
+{
+    if !keeps_reads(small, large, numbers, number) {
+        return false;
+    }
+    if !keeps_sessions(small, large, numbers, number) {
+        return false;
+    }
+    keeps_writes(small, large, numbers, number)
+}
+
+/// Whether the numbers are one for each transaction of the small history, and rise from 0 to some of the large one.
+fn fits(small: &LargeGraph, large: &LargeGraph, numbers: &[u32]) -> bool
+    ensures { IsTrue result → Fits numbers.now small.now large.now }
+{
+    numbers.len() == small.count() as usize
+        && numbers[0] == 0
+        && carried(numbers, small.count() - 1) < large.count()
+        && is_rising(numbers)
+}
+
 /// Whether by these numbers, one for each transaction of the small history, each of its links is a link of the large one.
 pub(crate) fn is_carried(small: &LargeGraph, large: &LargeGraph, numbers: &[u32]) -> bool
     ensures { IsTrue result → IsCarried (carry numbers.now) small.now large.now }
 {
-    let end = large.count();
-    if numbers.len() != small.count() as usize
-        || numbers[0] != 0
-        || carried(numbers, small.count() - 1) >= end
-        || !is_rising(numbers)
-    {
+    if !fits(small, large, numbers) {
         return false;
     }
     for number in 0..small.count() {
-        if !keeps_reads(small, large, numbers, number) {
-            return false;
-        }
-        if !keeps_sessions(small, large, numbers, number) {
-            return false;
-        }
-        if !keeps_writes(small, large, numbers, number) {
+        if !keeps(small, large, numbers, number) {
             return false;
         }
     }

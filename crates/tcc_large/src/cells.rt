@@ -3,6 +3,7 @@ ghost use Rattle.std.specs.Prelude.{◌≡◌, length, replicate, slice_index, s
 
 use std::alloc::Global;
 use std::marker::Model;
+use tcc_graph::Renumbering;
 use tcc_txn::NoMemory;
 
 /// A value at each index. Past the end each is 0, and what is put there is lost.
@@ -58,5 +59,15 @@ impl Cells {
         if index < self.values.len() {
             self.values[index] = value;
         }
+    }
+}
+
+impl Renumbering for Cells {
+    ghost use Rattle.std.specs.Prelude.{slice_index};
+
+    ghost by = { λ cells. slice_index cells };
+
+    fn number(&self, number: u32) -> u32 {
+        self.get(number)
     }
 }

@@ -1,35 +1,23 @@
 //! Shortest ways by pairs and links among some transactions, searched backwards.
-use crate::asking::reads;
-use crate::cells::Cells;
-use crate::covering::Covering;
-use crate::placing::Relation;
-use crate::sessions::Sessions;
+use crate::among::Among;
+use crate::backwards::Backwards;
+use crate::pairs::Pairs;
 use std::alloc::{AllocError, Global};
-use tcc_graph::LargeGraph;
 use tcc_txn::NoMemory;
 
-/// What a search backwards has met, and where each transaction leads on to. It serves for many searches, of which each has a
-/// turn of its own.
+/// Searches backwards among transactions that are marked.
 #[derive(Drop)]
 pub(crate) struct Circling {
-    turn: u32,
-    met: Cells,
-    next: Cells,
-    covering: Covering,
-    queue: Vec<u32>,
+    backwards: Backwards,
     looked: u64,
 }
 
 impl Circling {
     /// Before the first search.
-    pub(crate) fn new(alloc: Global, graph: &LargeGraph) -> Result<Circling, NoMemory> {
-        let count = graph.count() as usize;
+    pub(crate) fn new(alloc: Global, pairs: &Pairs<'_>) -> Result<Circling, NoMemory> {
+        let backwards = Backwards::new(alloc, pairs)?;
         Ok(Circling {
-            turn: 0,
-            met: Cells::new(alloc, count, 0)?,
-            next: Cells::new(alloc, count, 0)?,
-            covering: Covering::new(alloc, graph.sessions().len())?,
-            queue: Vec::new(alloc),
+            backwards,
             looked: 0,
         })
     }
@@ -44,66 +32,54 @@ impl Circling {
     pub(crate) fn way(
         &mut self,
         alloc: Global,
-        graph: &LargeGraph,
-        sessions: &Sessions,
-        relation: &Relation,
-        marked: &Cells,
+        among: &Among<'_>,
         ends: (u32, u32),
     ) -> Result<Option<Vec<u32>>, NoMemory> {
-        self.turn = self.turn.saturating_add(1);
-        self.queue.clear();
-        self.meet(marked, ends.1, ends.1)?;
-        for head in 0..graph.count() {
-            let Some(number) = self.queue.get(head as usize).copied() else {
+        self.backwards.begin();
+        self.meet(among, ends.1, ends.1)?;
+        for head in 0..among.pairs().count() {
+            let Some(number) = self.backwards.at(head) else {
                 break;
             };
-            self.look(graph, sessions, relation, marked, number)?;
-            if self.met.get(ends.0) == self.turn {
-                return Ok(Some(self.trail(alloc, graph, ends.0)?));
+            self.look(among, number)?;
+            if self.backwards.is_met(ends.0) {
+                return Ok(Some(self.trail(alloc, among.pairs().count(), ends.0)?));
             }
         }
         Ok(None)
     }
 
     /// Takes in a marked transaction that leads on to the next one, unless it was met before.
-    fn meet(&mut self, marked: &Cells, number: u32, next: u32) -> Result<(), AllocError> {
-        if marked.get(number) != 0 && self.met.get(number) != self.turn {
-            self.met.set(number, self.turn);
-            self.next.set(number, next);
-            self.queue.push(number)?;
-            self.looked = self.looked.saturating_add(1);
+    fn meet(&mut self, among: &Among<'_>, number: u32, next: u32) -> Result<(), AllocError> {
+        if among.has(number) {
+            if self.backwards.meet(number, next)? {
+                self.looked = self.looked.saturating_add(1);
+            }
         }
         Ok(())
     }
 
     /// Takes in all that lead to a transaction by one pair or link.
-    fn look(
-        &mut self,
-        graph: &LargeGraph,
-        sessions: &Sessions,
-        relation: &Relation,
-        marked: &Cells,
-        number: u32,
-    ) -> Result<(), AllocError> {
-        for (_to, from) in relation.into(number) {
-            self.meet(marked, *from, number)?;
+    fn look(&mut self, among: &Among<'_>, number: u32) -> Result<(), AllocError> {
+        for (_to, from) in among.relation().into(number) {
+            self.meet(among, *from, number)?;
         }
-        for (_key, source) in reads(graph, number) {
-            self.meet(marked, *source, number)?;
+        for (_key, source) in among.pairs().reads(number) {
+            self.meet(among, *source, number)?;
         }
-        for earlier in self.covering.take(sessions, number, self.turn)..number {
-            self.meet(marked, earlier, number)?;
+        for earlier in self.backwards.cover(among.pairs(), number)..number {
+            self.meet(among, earlier, number)?;
         }
         Ok(())
     }
 
-    /// From a transaction on to where the search began.
-    fn trail(&self, alloc: Global, graph: &LargeGraph, start: u32) -> Result<Vec<u32>, AllocError> {
+    /// From a transaction on to where the search began, over so many at most.
+    fn trail(&self, alloc: Global, count: u32, start: u32) -> Result<Vec<u32>, AllocError> {
         let mut trail = Vec::new(alloc);
         let mut number = start;
-        for _turn in 0..graph.count() {
+        for _turn in 0..count {
             trail.push(number)?;
-            let next = self.next.get(number);
+            let next = self.backwards.next(number);
             if next == number {
                 break;
             }

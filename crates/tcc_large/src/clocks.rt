@@ -2,10 +2,9 @@
 ghost use Rattle.std.specs.Prelude.{◌<◌, IfSome};
 ghost use Rattle.tcc_large.specs.declared.clocks.TheConstants.{WIDTH};
 
-use crate::asking::reads;
-use crate::sessions::Sessions;
+use crate::pairs::Pairs;
+use crate::placing::Relation;
 use std::alloc::Global;
-use tcc_graph::LargeGraph;
 use tcc_txn::NoMemory;
 
 /// How many sessions a block has.
@@ -16,7 +15,8 @@ pub(crate) type Clock = [u32; WIDTH];
 
 /// The clocks of all transactions, for a block of sessions.
 #[derive(Drop)]
-pub(crate) struct Clocks {
+pub(crate) struct Clocks<'a> {
+    pairs: &'a Pairs<'a>,
     first: u32,
     rows: Vec<Clock>,
 }
@@ -28,20 +28,19 @@ pub(crate) fn raise(clock: &mut Clock, other: &Clock) {
     }
 }
 
-impl Clocks {
+impl<'a> Clocks<'a> {
     /// The clocks for the sessions from this one on, worked out along an order in which pairs lead onward. A transaction
     /// counts as known to itself.
     pub(crate) fn of(
         alloc: Global,
-        graph: &LargeGraph,
-        sessions: &Sessions,
-        order: &[u32],
+        relation: &Relation<'a>,
         first: u32,
-    ) -> Result<Clocks, NoMemory> {
-        let rows = vec![in alloc; [0; WIDTH]; graph.count() as usize]?;
-        let mut clocks = Clocks { first, rows };
-        for number in order {
-            let clock = clocks.next(graph, sessions, *number);
+    ) -> Result<Clocks<'a>, NoMemory> {
+        let pairs = relation.pairs();
+        let rows = vec![in alloc; [0; WIDTH]; pairs.count() as usize]?;
+        let mut clocks = Clocks { pairs, first, rows };
+        for number in relation.order() {
+            let clock = clocks.next(*number);
             if (*number as usize) < clocks.rows.len() {
                 clocks.rows[*number as usize] = clock;
             }
@@ -49,32 +48,37 @@ impl Clocks {
         Ok(clocks)
     }
 
+    /// The pairs.
+    pub(crate) fn pairs(&self) -> &'a Pairs<'a> {
+        self.pairs
+    }
+
     /// The clock of a transaction by those of the one before it in its session and of its sources.
-    fn next(&self, graph: &LargeGraph, sessions: &Sessions, number: u32) -> Clock {
+    fn next(&self, number: u32) -> Clock {
         let mut clock = [0; WIDTH];
-        if let Some(previous) = sessions.previous(number) {
+        if let Some(previous) = self.pairs.previous(number) {
             raise(&mut clock, &self.get(previous));
         }
-        for (_key, source) in reads(graph, number) {
+        for (_key, source) in self.pairs.reads(number) {
             raise(&mut clock, &self.get(*source));
         }
-        self.with_own(sessions, number, clock)
+        self.with_own(number, clock)
     }
 
     /// The clock with the transaction itself.
-    fn with_own(&self, sessions: &Sessions, number: u32, clock: Clock) -> Clock {
+    fn with_own(&self, number: u32, clock: Clock) -> Clock {
         let mut clock = clock;
-        if let Some(own) = self.column(sessions, number) {
+        if let Some(own) = self.column(number) {
             clock[own] = number;
         }
         clock
     }
 
     /// Where the block has the session of a transaction.
-    pub(crate) fn column(&self, sessions: &Sessions, number: u32) -> Option<usize>
+    pub(crate) fn column(&self, number: u32) -> Option<usize>
         ensures { IfSome result (λ column. column < WIDTH) }
     {
-        let column = sessions.owner(number).checked_sub(self.first)? as usize;
+        let column = self.pairs.owner(number).checked_sub(self.first)? as usize;
         if number > 0 && column < WIDTH {
             Some(column)
         } else {
@@ -97,9 +101,9 @@ impl Clocks {
     }
 
     /// The clock of a transaction, without itself.
-    pub(crate) fn before(&self, sessions: &Sessions, number: u32) -> Clock {
+    pub(crate) fn before(&self, number: u32) -> Clock {
         let mut clock = self.get(number);
-        if let Some(own) = self.column(sessions, number) {
+        if let Some(own) = self.column(number) {
             if clock[own] == number {
                 clock[own] = number.saturating_sub(1);
             }

@@ -1,6 +1,6 @@
 //! Which transactions of each session a search backwards has taken in.
 use crate::cells::Cells;
-use crate::sessions::Sessions;
+use crate::pairs::Pairs;
 use std::alloc::Global;
 use tcc_txn::NoMemory;
 
@@ -21,9 +21,9 @@ impl Covering {
     }
 
     /// From which number on those before this one in its session weren't taken in yet; from now on they are.
-    pub(crate) fn take(&mut self, sessions: &Sessions, number: u32, turn: u32) -> u32 {
-        let owner = sessions.owner(number);
-        let mut low = sessions.first(owner);
+    pub(crate) fn take(&mut self, pairs: &Pairs<'_>, number: u32, turn: u32) -> u32 {
+        let owner = pairs.owner(number);
+        let mut low = pairs.first(owner);
         if self.turns.get(owner) == turn {
             low = low.max(self.ends.get(owner));
         }

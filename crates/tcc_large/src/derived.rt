@@ -1,9 +1,9 @@
 //! The derived links that say something new: what stands before a transaction by a link and not by pairs.
-use crate::asking::{readings, reads, span, writers, writes};
 use crate::clocks::{Clock, Clocks, WIDTH, raise};
-use crate::sessions::Sessions;
+use crate::pairs::{Pairs, span};
+use crate::placing::Relation;
 use std::alloc::{AllocError, Global};
-use tcc_graph::{LargeGraph, Level};
+use tcc_graph::Level;
 use tcc_txn::NoMemory;
 
 /// Derived links, by their ends, and the indices of keys by which one leads to `init`.
@@ -16,10 +16,10 @@ pub(crate) struct Derived {
 /// The indices of the keys that are read from a transaction, ascending, each with a reader.
 pub(crate) fn readers_by_key(
     alloc: Global,
-    graph: &LargeGraph,
+    pairs: &Pairs<'_>,
     source: u32,
 ) -> Result<Vec<(u32, u32)>, AllocError> {
-    let (readers, key_indices) = readings(graph, source);
+    let (readers, key_indices) = pairs.readings(source);
     let mut found = Vec::new(alloc);
     for (index, reader) in readers.iter().enumerate() {
         if let Some(key_index) = key_indices.get(index) {
@@ -41,12 +41,10 @@ impl Derived {
         &self.into_init
     }
 
-    /// Those of a history at a level; an order in which all pairs lead onward is given.
+    /// Those of a history at a level, by its pairs, of which none is left out by their order.
     pub(crate) fn of(
         alloc: Global,
-        graph: &LargeGraph,
-        sessions: &Sessions,
-        order: &[u32],
+        relation: &Relation<'_>,
         level: Level,
     ) -> Result<Derived, NoMemory> {
         let mut derived = Derived {
@@ -54,8 +52,8 @@ impl Derived {
             into_init: Vec::new(alloc),
         };
         match level {
-            Level::Causal => derived.add_blocks(alloc, graph, sessions, order)?,
-            Level::Atomic => derived.add_steps(graph, sessions)?,
+            Level::Causal => derived.add_blocks(alloc, relation)?,
+            Level::Atomic => derived.add_steps(relation.pairs())?,
         }
         derived.links.sort_unstable();
         Ok(derived)
@@ -72,18 +70,24 @@ impl Derived {
     }
 
     /// Adds the links by walks of one step.
-    fn add_steps(&mut self, graph: &LargeGraph, sessions: &Sessions) -> Result<(), AllocError> {
-        for reader in 1..graph.count() {
-            let first = sessions.first(sessions.owner(reader));
-            let read = reads(graph, reader);
-            for (key_index, source) in read {
-                if let Some(own) = span(writers(graph, *key_index), first, reader).last() {
-                    if own != source {
-                        self.add(*own, *source, *key_index)?;
-                    }
+    fn add_steps(&mut self, pairs: &Pairs<'_>) -> Result<(), AllocError> {
+        for reader in 1..pairs.count() {
+            self.add_steps_to(pairs, reader)?;
+        }
+        Ok(())
+    }
+
+    /// Adds those whose step leads to this reader.
+    fn add_steps_to(&mut self, pairs: &Pairs<'_>, reader: u32) -> Result<(), AllocError> {
+        let first = pairs.first(pairs.owner(reader));
+        let reads = pairs.reads(reader);
+        for (key_index, source) in reads {
+            if let Some(own) = span(pairs.writers(*key_index), first, reader).last() {
+                if own != source {
+                    self.add(*own, *source, *key_index)?;
                 }
-                self.add_sources(graph, read, *source, *key_index)?;
             }
+            self.add_sources(pairs, reads, *source, *key_index)?;
         }
         Ok(())
     }
@@ -91,13 +95,13 @@ impl Derived {
     /// Adds the links from the sources of a reader that write the key that it reads from another.
     fn add_sources(
         &mut self,
-        graph: &LargeGraph,
-        read: &[(u32, u32)],
+        pairs: &Pairs<'_>,
+        reads: &[(u32, u32)],
         source: u32,
         key_index: u32,
     ) -> Result<(), AllocError> {
-        for (_key_index, other) in read {
-            if *other != 0 && *other != source && writes(graph, *other).contains(&key_index) {
+        for (_key_index, other) in reads {
+            if *other != 0 && *other != source && pairs.writes(*other).contains(&key_index) {
                 self.add(*other, source, key_index)?;
             }
         }
@@ -105,44 +109,42 @@ impl Derived {
     }
 
     /// Adds the links by walks of any steps, for a block of sessions after the other.
-    fn add_blocks(
-        &mut self,
-        alloc: Global,
-        graph: &LargeGraph,
-        sessions: &Sessions,
-        order: &[u32],
-    ) -> Result<(), NoMemory> {
-        for block in 0..graph.sessions().len() / WIDTH + 1 {
-            let Some(first) = block.checked_mul(WIDTH) else {
+    fn add_blocks(&mut self, alloc: Global, relation: &Relation<'_>) -> Result<(), NoMemory> {
+        for block in 0..relation.pairs().session_count() / WIDTH + 1 {
+            let Ok(first) = u32::try_from(block.saturating_mul(WIDTH)) else {
                 break;
             };
-            let clocks = Clocks::of(alloc, graph, sessions, order, first as u32)?;
-            for source in 0..graph.count() {
-                self.add_block(alloc, graph, sessions, &clocks, source)?;
-            }
+            let clocks = Clocks::of(alloc, relation, first)?;
+            self.add_block(alloc, &clocks)?;
+        }
+        Ok(())
+    }
+
+    /// Adds the links from a block of sessions.
+    fn add_block(&mut self, alloc: Global, clocks: &Clocks<'_>) -> Result<(), NoMemory> {
+        for source in 0..clocks.pairs().count() {
+            self.add_block_to(alloc, clocks, source)?;
         }
         Ok(())
     }
 
     /// Adds the links to a transaction from a block of sessions.
-    fn add_block(
+    fn add_block_to(
         &mut self,
         alloc: Global,
-        graph: &LargeGraph,
-        sessions: &Sessions,
-        clocks: &Clocks,
+        clocks: &Clocks<'_>,
         source: u32,
     ) -> Result<(), NoMemory> {
-        let readers = readers_by_key(alloc, graph, source)?;
+        let readers = readers_by_key(alloc, clocks.pairs(), source)?;
         let mut known = [0; WIDTH];
         for (index, (key_index, reader)) in readers.iter().enumerate() {
-            raise(&mut known, &clocks.before(sessions, *reader));
+            raise(&mut known, &clocks.before(*reader));
             let more = match readers.get(index.saturating_add(1)) {
                 Some(next) => next.0 == *key_index,
                 None => false,
             };
             if !more {
-                self.add_last(graph, sessions, clocks, source, *key_index, &known)?;
+                self.add_last(clocks, source, *key_index, &known)?;
                 known = [0; WIDTH];
             }
         }
@@ -152,9 +154,7 @@ impl Derived {
     /// Adds the links from the last writers of a key that its readers know of, unless the source knows of them itself.
     fn add_last(
         &mut self,
-        graph: &LargeGraph,
-        sessions: &Sessions,
-        clocks: &Clocks,
+        clocks: &Clocks<'_>,
         source: u32,
         key_index: u32,
         known: &Clock,
@@ -162,17 +162,20 @@ impl Derived {
         let own = clocks.get(source);
         for (column, last) in known.iter().enumerate() {
             if *last > own[column] {
-                if let Some(session) = clocks.session(column) {
-                    let low = sessions.first(session);
-                    let found = span(writers(graph, key_index), low, last.saturating_add(1)).last();
-                    if let Some(writer) = found {
-                        if *writer > own[column] {
-                            self.add(*writer, source, key_index)?;
-                        }
+                if let Some(writer) = last_writer(clocks, key_index, column, *last) {
+                    if writer > own[column] {
+                        self.add(writer, source, key_index)?;
                     }
                 }
             }
         }
         Ok(())
     }
+}
+
+/// The last writer of a key in the session at a column of a block, up to this number.
+fn last_writer(clocks: &Clocks<'_>, key_index: u32, column: usize, last: u32) -> Option<u32> {
+    let low = clocks.pairs().first(clocks.session(column)?);
+    let writers = clocks.pairs().writers(key_index);
+    span(writers, low, last.saturating_add(1)).last().copied()
 }

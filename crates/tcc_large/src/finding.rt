@@ -1,12 +1,12 @@
 //! A search for a short cycle. What it finds is trusted by nobody, and not always the least.
-use crate::asking::{reads, reads_from, session, span, writers};
-use crate::cells::Cells;
+use crate::among::Among;
 use crate::circling::Circling;
 use crate::derived::{Derived, readers_by_key};
 use crate::heading::back_links;
+use crate::judging::ends;
 use crate::linking::Linker;
+use crate::pairs::{Pairs, span};
 use crate::placing::Relation;
-use crate::sessions::Sessions;
 use std::alloc::{AllocError, Global};
 use tcc_graph::{LargeGraph, Level, Link};
 use tcc_txn::NoMemory;
@@ -49,8 +49,8 @@ impl Cheapest {
 
 /// Where a search for cycles goes on.
 #[derive(Drop)]
-struct Finder {
-    sessions: Sessions,
+struct Finder<'a> {
+    pairs: &'a Pairs<'a>,
     linker: Linker,
     circling: Circling,
     cheapest: Cheapest,
@@ -79,61 +79,43 @@ fn readers_at(
     Ok(found)
 }
 
-/// The reads of marked transactions from marked ones: source and reader of each.
-fn marked_reads(
-    alloc: Global,
-    graph: &LargeGraph,
-    marked: &Cells,
-) -> Result<Vec<(u32, u32)>, AllocError> {
-    let mut found = Vec::new(alloc);
-    for reader in 1..graph.count() {
-        if marked.get(reader) != 0 {
-            for (_key, source) in reads(graph, reader) {
-                if marked.get(*source) != 0 {
-                    found.push((*source, reader))?;
-                }
-            }
-        }
-    }
-    Ok(found)
+/// What a pair is by.
+#[derive(Clone, Copy)]
+enum Kind {
+    Session,
+    Read,
 }
 
-/// Of these links those against a session pair.
-fn against_sessions(
+/// Whether a pair of this kind leads from one transaction to another.
+fn is_pair(pairs: &Pairs<'_>, kind: Kind, from: u32, to: u32) -> bool {
+    match kind {
+        Kind::Session => pairs.is_session(from, to),
+        Kind::Read => !pairs.reads_from(from, to).is_empty(),
+    }
+}
+
+/// Of these links those against a pair of this kind.
+fn against(
     alloc: Global,
-    graph: &LargeGraph,
+    pairs: &Pairs<'_>,
+    kind: Kind,
     links: &[(u32, u32)],
 ) -> Result<Vec<(u32, u32)>, AllocError> {
     let mut found = Vec::new(alloc);
     for (from, to) in links {
-        if session(graph, *to, *from) {
+        if is_pair(pairs, kind, *to, *from) {
             found.push((*from, *to))?;
         }
     }
     Ok(found)
 }
 
-/// Of these links those against a read.
-fn against_reads(
-    alloc: Global,
-    graph: &LargeGraph,
-    links: &[(u32, u32)],
-) -> Result<Vec<(u32, u32)>, AllocError> {
-    let mut found = Vec::new(alloc);
-    for (from, to) in links {
-        if !reads_from(graph, *to, *from).is_empty() {
-            found.push((*from, *to))?;
-        }
-    }
-    Ok(found)
-}
-
-impl Finder {
-    fn new(alloc: Global, graph: &LargeGraph, level: Level) -> Result<Finder, NoMemory> {
+impl<'a> Finder<'a> {
+    fn new(alloc: Global, pairs: &'a Pairs<'a>, level: Level) -> Result<Finder<'a>, NoMemory> {
         Ok(Finder {
-            sessions: Sessions::of(alloc, graph)?,
-            linker: Linker::new(alloc, graph, level)?,
-            circling: Circling::new(alloc, graph)?,
+            pairs,
+            linker: Linker::new(alloc, pairs, level)?,
+            circling: Circling::new(alloc, pairs)?,
             cheapest: Cheapest {
                 links: None,
                 cost: 0,
@@ -141,52 +123,47 @@ impl Finder {
         })
     }
 
+    /// Offers the cycle of a session pair from a transaction and of a link back.
+    fn offer_back(&mut self, alloc: Global, source: u32, back: Link) -> Result<(), AllocError> {
+        let (from, _to) = ends(&back);
+        let mut links = Vec::new(alloc);
+        links.push(Link::Session {
+            from: source,
+            to: from,
+        })?;
+        links.push(back)?;
+        self.cheapest.offer(links);
+        Ok(())
+    }
+
     /// A cycle of two links, from a transaction to a later one in session order and back by the key at an index; these are
     /// the readings from it.
     fn try_back(
         &mut self,
         alloc: Global,
-        graph: &LargeGraph,
         source: u32,
         readings: &[(u32, u32)],
         key_index: u32,
     ) -> Result<(), NoMemory> {
-        if source >= graph.count() {
-            return Ok(());
-        }
         let readers = readers_at(alloc, readings, key_index)?;
-        let (low, high) = graph.later(source);
-        let wanted = span(writers(graph, key_index), low, high);
-        let found = self
+        let (low, high) = self.pairs.later(source);
+        let wanted = span(self.pairs.writers(key_index), low, high);
+        let back = self
             .linker
-            .derived(alloc, graph, &self.sessions, wanted, source, &readers)?;
-        let Some(back) = found else {
-            return Ok(());
-        };
-        if let Link::Derived { from, .. } = back {
-            let mut links = Vec::new(alloc);
-            links.push(Link::Session {
-                from: source,
-                to: from,
-            })?;
-            links.push(back)?;
-            self.cheapest.offer(links);
+            .derived(alloc, self.pairs, wanted, source, &readers)?;
+        if let Some(back) = back {
+            self.offer_back(alloc, source, back)?;
         }
         Ok(())
     }
 
     /// Such cycles by each key that is read from a transaction.
-    fn try_all_back(
-        &mut self,
-        alloc: Global,
-        graph: &LargeGraph,
-        source: u32,
-    ) -> Result<(), NoMemory> {
-        let readings = readers_by_key(alloc, graph, source)?;
+    fn try_all_back(&mut self, alloc: Global, source: u32) -> Result<(), NoMemory> {
+        let readings = readers_by_key(alloc, self.pairs, source)?;
         let mut last = None;
         for (key_index, _reader) in &readings {
             if last != Some(*key_index) {
-                self.try_back(alloc, graph, source, &readings, *key_index)?;
+                self.try_back(alloc, source, &readings, *key_index)?;
             }
             last = Some(*key_index);
         }
@@ -194,98 +171,126 @@ impl Finder {
     }
 
     /// Such cycles for some of the links that lead back in a session.
-    fn through_sessions(
-        &mut self,
-        alloc: Global,
-        graph: &LargeGraph,
-        links: &[(u32, u32)],
-    ) -> Result<(), NoMemory> {
-        let back = against_sessions(alloc, graph, links)?;
+    fn through_sessions(&mut self, alloc: Global, links: &[(u32, u32)]) -> Result<(), NoMemory> {
+        let back = against(alloc, self.pairs, Kind::Session, links)?;
         for (index, (_from, to)) in back.iter().enumerate() {
             if is_tried(index, back.len()) {
-                self.try_all_back(alloc, graph, *to)?;
+                self.try_all_back(alloc, *to)?;
             }
         }
         Ok(())
     }
 
     /// Cycles through `init`, by some of the keys by which a link leads there.
-    fn through_init(
-        &mut self,
-        alloc: Global,
-        graph: &LargeGraph,
-        key_indices: &[u32],
-    ) -> Result<(), NoMemory> {
+    fn through_init(&mut self, alloc: Global, key_indices: &[u32]) -> Result<(), NoMemory> {
         if key_indices.is_empty() {
             return Ok(());
         }
-        let readings = readers_by_key(alloc, graph, 0)?;
+        let readings = readers_by_key(alloc, self.pairs, 0)?;
         for (index, key_index) in key_indices.iter().enumerate() {
             if is_tried(index, key_indices.len()) {
-                self.try_back(alloc, graph, 0, &readings, *key_index)?;
+                self.try_back(alloc, 0, &readings, *key_index)?;
             }
         }
         Ok(())
     }
 
     /// The links along transactions that stand in a circle.
-    fn along(&mut self, alloc: Global, graph: &LargeGraph, circle: &[u32]) -> Result<(), NoMemory> {
-        if let Some(links) = self.linker.links(alloc, graph, &self.sessions, circle)? {
+    fn along(&mut self, alloc: Global, circle: &[u32]) -> Result<(), NoMemory> {
+        if let Some(links) = self.linker.links(alloc, self.pairs, circle)? {
             self.cheapest.offer(links);
         }
         Ok(())
     }
 
-    /// Shortest cycles, by links, through some of these pairs or links, of which both ends are marked.
+    /// A shortest cycle, by links, through a pair or link with these ends, which are marked.
+    fn through_one(
+        &mut self,
+        alloc: Global,
+        among: &Among<'_>,
+        ends: (u32, u32),
+    ) -> Result<(), NoMemory> {
+        if let Some(circle) = self.circling.way(alloc, among, (ends.1, ends.0))? {
+            self.along(alloc, &circle)?;
+        }
+        Ok(())
+    }
+
+    /// Such cycles through some of these pairs or links.
     fn through(
         &mut self,
         alloc: Global,
-        graph: &LargeGraph,
-        relation: &Relation,
-        marked: &Cells,
+        among: &Among<'_>,
         ends: &[(u32, u32)],
     ) -> Result<(), NoMemory> {
-        for (index, (from, to)) in ends.iter().enumerate() {
+        for (index, one) in ends.iter().enumerate() {
             if is_tried(index, ends.len()) && self.circling.looked() < ENOUGH {
-                let ends = (*to, *from);
-                let way = self
-                    .circling
-                    .way(alloc, graph, &self.sessions, relation, marked, ends)?;
-                if let Some(circle) = way {
-                    self.along(alloc, graph, &circle)?;
-                }
+                self.through_one(alloc, among, *one)?;
             }
         }
         Ok(())
     }
 
+    /// Cycles of pairs among marked transactions.
+    fn through_pairs(&mut self, alloc: Global, among: &Among<'_>) -> Result<(), NoMemory> {
+        let reads = among.reads(alloc)?;
+        self.through(alloc, among, &reads)
+    }
+
+    /// Cycles of pairs and links among marked transactions.
+    fn through_links(&mut self, alloc: Global, among: &Among<'_>) -> Result<(), NoMemory> {
+        let links = among.relation().links();
+        self.through_sessions(alloc, links)?;
+        let short = against(alloc, self.pairs, Kind::Read, links)?;
+        self.through(alloc, among, &short)?;
+        let back = back_links(alloc, among)?;
+        self.through(alloc, among, &back)
+    }
+
+    /// A cycle of pairs and links, whatever it costs.
+    fn anywhere(&mut self, alloc: Global, relation: &Relation<'_>) -> Result<(), NoMemory> {
+        if let Some(circle) = relation.circle(alloc)? {
+            self.along(alloc, &circle)?;
+        }
+        Ok(())
+    }
+
     /// Cycles of pairs and links where the order leaves some transactions out.
-    fn around(
-        &mut self,
-        alloc: Global,
-        graph: &LargeGraph,
-        relation: &Relation,
-        links: &[(u32, u32)],
-        order: &[u32],
-    ) -> Result<(), NoMemory> {
-        if (order.len() as u64) + 1 >= graph.count() as u64 {
+    fn around(&mut self, alloc: Global, relation: &Relation<'_>) -> Result<(), NoMemory> {
+        if !relation.is_circular() {
             return Ok(());
         }
-        let marked = relation.core(alloc, graph, &self.sessions, order)?;
-        if links.is_empty() {
-            let ends = marked_reads(alloc, graph, &marked)?;
-            self.through(alloc, graph, relation, &marked, &ends)?;
+        let among = Among::circles(alloc, relation)?;
+        if relation.links().is_empty() {
+            self.through_pairs(alloc, &among)?;
         } else {
-            self.through_sessions(alloc, graph, links)?;
-            let short = against_reads(alloc, graph, links)?;
-            self.through(alloc, graph, relation, &marked, &short)?;
-            let back = back_links(alloc, graph, &self.sessions, relation, &marked)?;
-            self.through(alloc, graph, relation, &marked, &back)?;
+            self.through_links(alloc, &among)?;
         }
         if self.cheapest.links.is_none() {
-            if let Some(circle) = relation.circle(alloc, graph, &self.sessions, order)? {
-                self.along(alloc, graph, &circle)?;
-            }
+            self.anywhere(alloc, relation)?;
+        }
+        Ok(())
+    }
+
+    /// Cycles of pairs and derived links, where pairs alone are in no circle.
+    fn by_links(
+        &mut self,
+        alloc: Global,
+        level: Level,
+        pairs: &Relation<'_>,
+    ) -> Result<(), NoMemory> {
+        let derived = Derived::of(alloc, pairs, level)?;
+        self.through_init(alloc, derived.into_init())?;
+        let relation = Relation::of(alloc, self.pairs, derived.links())?;
+        self.around(alloc, &relation)
+    }
+
+    /// Cycles of pairs, and where none was found others.
+    fn find(&mut self, alloc: Global, level: Level) -> Result<(), NoMemory> {
+        let pairs = Relation::of(alloc, self.pairs, &[])?;
+        self.around(alloc, &pairs)?;
+        if self.cheapest.links.is_none() {
+            self.by_links(alloc, level, &pairs)?;
         }
         Ok(())
     }
@@ -299,17 +304,8 @@ pub(crate) fn found_cycle(
     graph: &LargeGraph,
     level: Level,
 ) -> Result<Option<Vec<Link>>, NoMemory> {
-    let mut finder = Finder::new(alloc, graph, level)?;
-    let pairs = Relation::of(alloc, &[])?;
-    let order = pairs.order(alloc, graph, &finder.sessions)?;
-    finder.around(alloc, graph, &pairs, &[], &order)?;
-    if finder.cheapest.links.is_some() {
-        return Ok(finder.cheapest.links);
-    }
-    let derived = Derived::of(alloc, graph, &finder.sessions, &order, level)?;
-    finder.through_init(alloc, graph, derived.into_init())?;
-    let relation = Relation::of(alloc, derived.links())?;
-    let order = relation.order(alloc, graph, &finder.sessions)?;
-    finder.around(alloc, graph, &relation, derived.links(), &order)?;
-    Ok(finder.cheapest.links)
+    let pairs = Pairs::of(alloc, graph)?;
+    let mut finder = Finder::new(alloc, &pairs, level)?;
+    finder.find(alloc, level)?;
+    Ok(finder.cheapest.links.take())
 }

@@ -9,7 +9,7 @@ ghost use Rattle.tcc_large.specs.private.Ranked.{IsFollowed};
 ghost use Rattle.tcc_graph.specs.Levels.{judged};
 
 use crate::cells::Cells;
-use crate::judging::to;
+use crate::judging::ends;
 use crate::onward::link_on;
 use std::alloc::Global;
 use tcc_graph::{LargeGraph, Level, Link};
@@ -48,7 +48,7 @@ fn follow(
         let Some(link) = link_on(alloc, graph, level, ranks, at)? else {
             return Ok(Followed::End(at));
         };
-        at = to(&link);
+        at = ends(&link).1;
         trail.push(link)?;
     }
     unreachable!()

@@ -1,10 +1,7 @@
 //! Links that lead back in an order of transactions that keeps all pairs: each cycle has one, unless it is one of pairs.
-use crate::asking::{readings, reads};
+use crate::among::Among;
 use crate::cells::Cells;
-use crate::placing::Relation;
-use crate::sessions::Sessions;
 use std::alloc::{AllocError, Global};
-use tcc_graph::LargeGraph;
 use tcc_txn::NoMemory;
 
 /// An order of marked transactions as far as it was made: each behind all pairs that lead to it, and behind all links where
@@ -21,51 +18,38 @@ pub(crate) struct Heading {
 
 impl Heading {
     /// Nothing is placed yet; how many pairs and links each marked transaction waits for.
-    fn new(
-        alloc: Global,
-        graph: &LargeGraph,
-        sessions: &Sessions,
-        relation: &Relation,
-        marked: &Cells,
-    ) -> Result<Heading, NoMemory> {
-        let count = graph.count() as usize;
+    fn new(alloc: Global, among: &Among<'_>) -> Result<Heading, NoMemory> {
+        let count = among.pairs().count();
         let mut heading = Heading {
-            pairs: Cells::new(alloc, count, 0)?,
-            links: Cells::new(alloc, count, 0)?,
-            placed: Cells::new(alloc, count, 0)?,
+            pairs: Cells::new(alloc, count as usize, 0)?,
+            links: Cells::new(alloc, count as usize, 0)?,
+            placed: Cells::new(alloc, count as usize, 0)?,
             free: Vec::new(alloc),
             held: Vec::new(alloc),
             taken: 0,
         };
-        for number in 1..graph.count() {
-            if marked.get(number) != 0 {
-                heading.wait(graph, sessions, relation, marked, number)?;
+        for number in 1..count {
+            if among.has(number) {
+                heading.wait(among, number)?;
             }
         }
         Ok(heading)
     }
 
     /// Counts what a transaction waits for.
-    fn wait(
-        &mut self,
-        graph: &LargeGraph,
-        sessions: &Sessions,
-        relation: &Relation,
-        marked: &Cells,
-        number: u32,
-    ) -> Result<(), AllocError> {
-        for (_to, from) in relation.into(number) {
-            if marked.get(*from) != 0 {
+    fn wait(&mut self, among: &Among<'_>, number: u32) -> Result<(), AllocError> {
+        for (_to, from) in among.relation().into(number) {
+            if among.has(*from) {
                 self.links.add_one(number);
             }
         }
-        for (_key, source) in reads(graph, number) {
-            if marked.get(*source) != 0 {
+        for (_key, source) in among.pairs().reads(number) {
+            if among.has(*source) {
                 self.pairs.add_one(number);
             }
         }
-        if let Some(previous) = sessions.previous(number) {
-            if marked.get(previous) != 0 {
+        if let Some(previous) = among.pairs().previous(number) {
+            if among.has(previous) {
                 self.pairs.add_one(number);
             }
         }
@@ -95,25 +79,19 @@ impl Heading {
     }
 
     /// Puts a transaction next; what waits for it waits for one less.
-    fn put(
-        &mut self,
-        graph: &LargeGraph,
-        sessions: &Sessions,
-        relation: &Relation,
-        number: u32,
-    ) -> Result<(), AllocError> {
+    fn put(&mut self, among: &Among<'_>, number: u32) -> Result<(), AllocError> {
         self.placed.set(number, 1);
-        for reader in readings(graph, number).0 {
+        for reader in among.pairs().readings(number).0 {
             if self.pairs.less_one(*reader) {
                 self.open(*reader)?;
             }
         }
-        for (_from, to) in relation.out_of(number) {
+        for (_from, to) in among.relation().out_of(number) {
             if self.links.less_one(*to) {
                 self.open(*to)?;
             }
         }
-        if let Some(next) = sessions.next(number) {
+        if let Some(next) = among.pairs().next(number) {
             if self.pairs.less_one(next) {
                 self.open(next)?;
             }
@@ -125,12 +103,11 @@ impl Heading {
     fn add_back(
         &self,
         found: &mut Vec<(u32, u32)>,
-        relation: &Relation,
-        marked: &Cells,
+        among: &Among<'_>,
         number: u32,
     ) -> Result<(), AllocError> {
-        for (_to, from) in relation.into(number) {
-            if marked.get(*from) != 0 && self.placed.get(*from) == 0 {
+        for (_to, from) in among.relation().into(number) {
+            if among.has(*from) && self.placed.get(*from) == 0 {
                 found.push((*from, number))?;
             }
         }
@@ -139,22 +116,16 @@ impl Heading {
 }
 
 /// The links among marked transactions that lead back in an order that keeps all pairs.
-pub(crate) fn back_links(
-    alloc: Global,
-    graph: &LargeGraph,
-    sessions: &Sessions,
-    relation: &Relation,
-    marked: &Cells,
-) -> Result<Vec<(u32, u32)>, NoMemory> {
-    let mut heading = Heading::new(alloc, graph, sessions, relation, marked)?;
+pub(crate) fn back_links(alloc: Global, among: &Among<'_>) -> Result<Vec<(u32, u32)>, NoMemory> {
+    let mut heading = Heading::new(alloc, among)?;
     let mut found = Vec::new(alloc);
-    for _turn in 0..(graph.count() as u64) * 2 {
+    for _turn in 0..(among.pairs().count() as u64) * 2 {
         let Some(number) = heading.next() else {
             break;
         };
         if heading.placed.get(number) == 0 {
-            heading.add_back(&mut found, relation, marked, number)?;
-            heading.put(graph, sessions, relation, number)?;
+            heading.add_back(&mut found, among, number)?;
+            heading.put(among, number)?;
         }
     }
     Ok(found)

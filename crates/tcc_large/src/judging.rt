@@ -7,25 +7,15 @@ ghost use Rattle.tcc_graph.specs.Levels.{judged};
 
 use tcc_graph::{LargeGraph, Level, Link};
 
-/// Where a link starts.
-pub(crate) fn from(link: &Link) -> u32
-    ensures { result ≡ link_from link.now }
+/// Where a link starts, and where it ends.
+pub(crate) fn ends(link: &Link) -> (u32, u32)
+    ensures from { result.0 ≡ link_from link.now }
+    ensures to { result.1 ≡ link_to link.now }
 {
     match link {
-        Link::Session { from, .. } => *from,
-        Link::Reads { from, .. } => *from,
-        Link::Derived { from, .. } => *from,
-    }
-}
-
-/// Where a link ends.
-pub(crate) fn to(link: &Link) -> u32
-    ensures { result ≡ link_to link.now }
-{
-    match link {
-        Link::Session { to, .. } => *to,
-        Link::Reads { to, .. } => *to,
-        Link::Derived { to, .. } => *to,
+        Link::Session { from, to }
+        | Link::Reads { from, to, .. }
+        | Link::Derived { from, to, .. } => (*from, *to),
     }
 }
 
@@ -35,10 +25,11 @@ fn lead(graph: &LargeGraph, level: Level, start: u32, end: u32, links: &[Link]) 
 {
     let mut at = start;
     for link in links {
-        if from(link) != at || !graph.is_link(level, link) {
+        let (from, to) = ends(link);
+        if from != at || !graph.is_link(level, link) {
             return false;
         }
-        at = to(link);
+        at = to;
     }
     at == end
 }
@@ -50,7 +41,7 @@ pub fn is_cycle(graph: &LargeGraph, level: Level, links: &[Link]) -> bool
 {
     match links.first() {
         Some(first) => {
-            let start = from(first);
+            let (start, _end) = ends(first);
             lead(graph, level, start, start, links)
         }
         None => false,

@@ -2,8 +2,9 @@
 //! each link of what it finds is judged by itself, and where that isn't a cycle, a plain search, which is complete, finds one.
 #![tactic(auto)]
 
+mod among;
 mod answer;
-mod asking;
+mod backwards;
 mod carrying;
 mod cells;
 mod circling;
@@ -22,9 +23,9 @@ mod leaving;
 mod linking;
 mod needs;
 mod onward;
+mod pairs;
 mod placing;
 mod reaching;
-mod sessions;
 mod slicing;
 mod texts;
 mod walking;

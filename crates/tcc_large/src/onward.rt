@@ -15,7 +15,7 @@ use tcc_graph::{LargeGraph, Level, Link, Step, Walk};
 use tcc_txn::{Name, NoMemory};
 
 /// Whether a transaction writes the key: `init` writes each.
-fn is_writer(graph: &LargeGraph, writer: u32, key: &Name) -> bool
+pub(crate) fn is_writer(graph: &LargeGraph, writer: u32, key: &Name) -> bool
     ensures { IsTrue result ↔ IsWriter graph.now writer key.now }
 {
     writer < graph.count() && (writer == 0 || graph.writes(writer).contains(key))
@@ -99,25 +99,6 @@ fn derived_by_step(
     Ok(None)
 }
 
-/// A derived link of the level from a transaction to one without a rank.
-fn derived_on(
-    alloc: Global,
-    graph: &LargeGraph,
-    level: Level,
-    ranks: &Cells,
-    from: u32,
-) -> Result<Option<Link>, NoMemory>
-    requires { from < count graph.now }
-    ensures { IfOk result (λ found. MatchOption found
-        (AreReasonsPast (judged graph.now level) ranks.now from)
-        (IsOnward (judged graph.now level) ranks.now from)) }
-{
-    match level {
-        Level::Causal => derived_by_walk(alloc, graph, ranks, from),
-        Level::Atomic => derived_by_step(alloc, graph, ranks, from),
-    }
-}
-
 /// Whether a pair leads from a transaction to another, which has no rank.
 fn is_next(graph: &LargeGraph, ranks: &Cells, from: u32, to: u32) -> bool
     requires from { from < count graph.now }
@@ -144,7 +125,7 @@ fn pair_on(graph: &LargeGraph, ranks: &Cells, from: u32) -> Option<Step>
 }
 
 /// The link by the pair of a step.
-fn link_of(step: Step) -> Link
+pub(crate) fn link_of(step: Step) -> Link
     ensures from { link_from result ≡ step_from step }
     ensures to { link_to result ≡ step_to step }
     ensures link { (j : Judged) → IsStep j.history step → IsLink j result }
@@ -171,5 +152,8 @@ pub(crate) fn link_on(
     if let Some(step) = pair_on(graph, ranks, from) {
         return Ok(Some(link_of(step)));
     }
-    derived_on(alloc, graph, level, ranks, from)
+    match level {
+        Level::Causal => derived_by_walk(alloc, graph, ranks, from),
+        Level::Atomic => derived_by_step(alloc, graph, ranks, from),
+    }
 }

@@ -1,16 +1,17 @@
 //! An order of transactions by what has to stand before each, as far as it goes, and the circle where it stops.
-use crate::asking::{readings, reads};
 use crate::cells::Cells;
-use crate::sessions::Sessions;
+use crate::pairs::Pairs;
 use std::alloc::{AllocError, Global};
-use tcc_graph::LargeGraph;
 use tcc_txn::NoMemory;
 
-/// The pairs of a history, and further links, by their ends.
+/// The pairs of a history, and further links, by their ends; and the transactions but `init` in an order, each behind all from
+/// which a pair or link leads to it, as far as that goes.
 #[derive(Drop)]
-pub(crate) struct Relation {
+pub(crate) struct Relation<'a> {
+    pairs: &'a Pairs<'a>,
     onward: Vec<(u32, u32)>,
     back: Vec<(u32, u32)>,
+    order: Vec<u32>,
 }
 
 /// Of pairs that ascend, those that begin with a number.
@@ -24,18 +25,53 @@ fn beginning(pairs: &[(u32, u32)], number: u32) -> &[(u32, u32)] {
     }
 }
 
-impl Relation {
+impl<'a> Relation<'a> {
     /// The pairs and these links, each once or more often.
-    pub(crate) fn of(alloc: Global, links: &[(u32, u32)]) -> Result<Relation, NoMemory> {
-        let mut onward = Vec::new(alloc);
-        let mut back = Vec::new(alloc);
+    pub(crate) fn of(
+        alloc: Global,
+        pairs: &'a Pairs<'a>,
+        links: &[(u32, u32)],
+    ) -> Result<Relation<'a>, NoMemory> {
+        let mut relation = Relation {
+            pairs,
+            onward: Vec::new(alloc),
+            back: Vec::new(alloc),
+            order: Vec::new(alloc),
+        };
+        relation.add(links)?;
+        relation.place(alloc)?;
+        Ok(relation)
+    }
+
+    /// Adds these links.
+    fn add(&mut self, links: &[(u32, u32)]) -> Result<(), AllocError> {
         for (from, to) in links {
-            onward.push((*from, *to))?;
-            back.push((*to, *from))?;
+            self.onward.push((*from, *to))?;
+            self.back.push((*to, *from))?;
         }
-        onward.sort_unstable();
-        back.sort_unstable();
-        Ok(Relation { onward, back })
+        self.onward.sort_unstable();
+        self.back.sort_unstable();
+        Ok(())
+    }
+
+    /// The pairs.
+    pub(crate) fn pairs(&self) -> &'a Pairs<'a> {
+        self.pairs
+    }
+
+    /// The order.
+    pub(crate) fn order(&self) -> &[u32] {
+        &self.order
+    }
+
+    /// Whether the order leaves some transactions out.
+    pub(crate) fn is_circular(&self) -> bool {
+        (self.order.len() as u64) + 1 < self.pairs.count() as u64
+    }
+
+    /// The further links, first those from the lowest numbers.
+    pub(crate) fn links(&self) -> &[(u32, u32)] {
+        &self.onward
     }
 
     /// The further links to a transaction, the other way round.
@@ -48,143 +84,63 @@ impl Relation {
         beginning(&self.onward, number)
     }
 
-    /// How many pairs and links lead to each transaction from others than `init`; of the session pairs the nearest alone.
-    fn waiting(
-        &self,
-        alloc: Global,
-        graph: &LargeGraph,
-        sessions: &Sessions,
-    ) -> Result<Cells, NoMemory> {
-        let mut waiting = Cells::new(alloc, graph.count() as usize, 0)?;
-        for number in 1..graph.count() {
-            let mut left = self.into(number).len();
-            if sessions.previous(number).is_some() {
+    /// How many pairs and links lead to a transaction from others than `init`; of the session pairs the nearest alone.
+    fn waits_for(&self, number: u32) -> u32 {
+        let mut left = self.into(number).len();
+        if self.pairs.previous(number).is_some() {
+            left = left.saturating_add(1);
+        }
+        for (_key, source) in self.pairs.reads(number) {
+            if *source != 0 {
                 left = left.saturating_add(1);
             }
-            for (_key, source) in reads(graph, number) {
-                if *source != 0 {
-                    left = left.saturating_add(1);
-                }
-            }
-            waiting.set(number, left.min(1 << 30) as u32);
+        }
+        left.min(1 << 30) as u32
+    }
+
+    /// The same of each transaction but `init`.
+    fn waiting(&self, alloc: Global) -> Result<Cells, NoMemory> {
+        let mut waiting = Cells::new(alloc, self.pairs.count() as usize, 0)?;
+        for number in 1..self.pairs.count() {
+            waiting.set(number, self.waits_for(number));
         }
         Ok(waiting)
     }
 
-    /// The transactions but `init`, each behind all from which a pair or link leads to it, as far as that goes.
-    pub(crate) fn order(
-        &self,
-        alloc: Global,
-        graph: &LargeGraph,
-        sessions: &Sessions,
-    ) -> Result<Vec<u32>, NoMemory> {
-        let mut waiting = self.waiting(alloc, graph, sessions)?;
-        let mut placed = Vec::new(alloc);
-        for number in 1..graph.count() {
+    /// Makes the order.
+    fn place(&mut self, alloc: Global) -> Result<(), NoMemory> {
+        let mut waiting = self.waiting(alloc)?;
+        for number in 1..self.pairs.count() {
             if waiting.get(number) == 0 {
-                placed.push(number)?;
+                self.order.push(number)?;
             }
         }
-        for head in 0..graph.count() {
-            let Some(number) = placed.get(head as usize).copied() else {
+        for head in 0..self.pairs.count() {
+            let Some(number) = self.order.get(head as usize).copied() else {
                 break;
             };
-            for (_from, to) in self.out_of(number) {
-                release(&mut placed, &mut waiting, *to)?;
-            }
-            for reader in readings(graph, number).0 {
-                release(&mut placed, &mut waiting, *reader)?;
-            }
-            if let Some(next) = sessions.next(number) {
-                release(&mut placed, &mut waiting, next)?;
-            }
+            self.let_on(&mut waiting, number)?;
         }
-        Ok(placed)
+        Ok(())
     }
 
-    /// How many pairs and links lead from each transaction to one that is left; of the session pairs the nearest alone.
-    fn owed(
-        &self,
-        alloc: Global,
-        graph: &LargeGraph,
-        sessions: &Sessions,
-        left: &Cells,
-    ) -> Result<Cells, NoMemory> {
-        let mut owed = Cells::new(alloc, graph.count() as usize, 0)?;
-        for number in 1..graph.count() {
-            if left.get(number) != 0 {
-                for (_to, from) in self.into(number) {
-                    owed.add_one(*from);
-                }
-                for (_key, source) in reads(graph, number) {
-                    owed.add_one(*source);
-                }
-                if let Some(previous) = sessions.previous(number) {
-                    owed.add_one(previous);
-                }
-            }
+    /// Takes a transaction that is placed away from all that wait for it.
+    fn let_on(&mut self, waiting: &mut Cells, number: u32) -> Result<(), AllocError> {
+        for (_from, to) in beginning(&self.onward, number) {
+            release(&mut self.order, waiting, *to)?;
         }
-        Ok(owed)
-    }
-
-    /// Marks those that the order leaves out and from which others of them are reached again and again: what stands in a
-    /// circle, or between two.
-    pub(crate) fn core(
-        &self,
-        alloc: Global,
-        graph: &LargeGraph,
-        sessions: &Sessions,
-        order: &[u32],
-    ) -> Result<Cells, NoMemory> {
-        let mut left = left_by(alloc, graph, order)?;
-        let mut owed = self.owed(alloc, graph, sessions, &left)?;
-        let mut gone = Vec::new(alloc);
-        for number in 1..graph.count() {
-            if left.get(number) != 0 && owed.get(number) == 0 {
-                gone.push(number)?;
-            }
+        for reader in self.pairs.readings(number).0 {
+            release(&mut self.order, waiting, *reader)?;
         }
-        for head in 0..graph.count() {
-            let Some(number) = gone.get(head as usize).copied() else {
-                break;
-            };
-            left.set(number, 0);
-            self.let_go(graph, sessions, &left, &mut owed, &mut gone, number)?;
-        }
-        Ok(left)
-    }
-
-    /// Takes a transaction that leads to none that is left away from all that lead to it.
-    fn let_go(
-        &self,
-        graph: &LargeGraph,
-        sessions: &Sessions,
-        left: &Cells,
-        owed: &mut Cells,
-        gone: &mut Vec<u32>,
-        number: u32,
-    ) -> Result<(), AllocError> {
-        for (_to, from) in self.into(number) {
-            release_left(left, gone, owed, *from)?;
-        }
-        for (_key, source) in reads(graph, number) {
-            release_left(left, gone, owed, *source)?;
-        }
-        if let Some(previous) = sessions.previous(number) {
-            release_left(left, gone, owed, previous)?;
+        if let Some(next) = self.pairs.next(number) {
+            release(&mut self.order, waiting, next)?;
         }
         Ok(())
     }
 
     /// One from which a pair or link leads to this transaction, of those that are left.
-    fn before(
-        &self,
-        graph: &LargeGraph,
-        sessions: &Sessions,
-        left: &Cells,
-        number: u32,
-    ) -> Option<u32> {
-        for (_key, source) in reads(graph, number) {
+    fn before(&self, left: &Cells, number: u32) -> Option<u32> {
+        for (_key, source) in self.pairs.reads(number) {
             if left.get(*source) != 0 {
                 return Some(*source);
             }
@@ -194,7 +150,7 @@ impl Relation {
                 return Some(*from);
             }
         }
-        let previous = sessions.previous(number)?;
+        let previous = self.pairs.previous(number)?;
         if left.get(previous) != 0 {
             Some(previous)
         } else {
@@ -204,23 +160,17 @@ impl Relation {
 
     /// Transactions that stand in a circle, each before the next and the last before the first, where the order leaves some
     /// out: from one that is left, back over others that are left, until one comes again.
-    pub(crate) fn circle(
-        &self,
-        alloc: Global,
-        graph: &LargeGraph,
-        sessions: &Sessions,
-        order: &[u32],
-    ) -> Result<Option<Vec<u32>>, NoMemory> {
-        let left = left_by(alloc, graph, order)?;
-        let mut met = Cells::new(alloc, graph.count() as usize, 0)?;
+    pub(crate) fn circle(&self, alloc: Global) -> Result<Option<Vec<u32>>, NoMemory> {
+        let left = self.left(alloc)?;
+        let mut met = Cells::new(alloc, self.pairs.count() as usize, 0)?;
         let mut trail = Vec::new(alloc);
-        let Some(mut number) = (1..graph.count()).find(|number| left.get(*number) != 0) else {
+        let Some(mut number) = first_left(&left, self.pairs.count()) else {
             return Ok(None);
         };
-        for turn in 1..graph.count().saturating_add(1) {
+        for turn in 1..self.pairs.count().saturating_add(1) {
             trail.push(number)?;
             met.set(number, turn);
-            let Some(before) = self.before(graph, sessions, &left, number) else {
+            let Some(before) = self.before(&left, number) else {
                 return Ok(None);
             };
             number = before;
@@ -230,16 +180,26 @@ impl Relation {
         }
         Ok(Some(onward_from(alloc, &trail, met.get(number))?))
     }
+
+    /// Marks by 1 the transactions but `init` that the order leaves out.
+    pub(crate) fn left(&self, alloc: Global) -> Result<Cells, NoMemory> {
+        let mut left = Cells::new(alloc, self.pairs.count() as usize, 1)?;
+        left.set(0, 0);
+        for number in &self.order {
+            left.set(*number, 0);
+        }
+        Ok(left)
+    }
 }
 
-/// Marks by 1 the transactions but `init` that the order leaves out.
-fn left_by(alloc: Global, graph: &LargeGraph, order: &[u32]) -> Result<Cells, NoMemory> {
-    let mut left = Cells::new(alloc, graph.count() as usize, 1)?;
-    left.set(0, 0);
-    for number in order {
-        left.set(*number, 0);
+/// The first of so many that is left, but `init`.
+fn first_left(left: &Cells, count: u32) -> Option<u32> {
+    for number in 1..count {
+        if left.get(number) != 0 {
+            return Some(number);
+        }
     }
-    Ok(left)
+    None
 }
 
 /// A trail from this turn on, counted from 1, the other way round.
@@ -255,26 +215,17 @@ fn onward_from(alloc: Global, trail: &[u32], turn: u32) -> Result<Vec<u32>, Allo
 }
 
 /// One pair or link less is to be waited for; where it was the last, the transaction is placed.
-fn release(placed: &mut Vec<u32>, waiting: &mut Cells, number: u32) -> Result<(), AllocError> {
+pub(crate) fn release(
+    placed: &mut Vec<u32>,
+    waiting: &mut Cells,
+    number: u32,
+) -> Result<(), AllocError> {
     let left = waiting.get(number);
     if left > 0 {
         waiting.set(number, left - 1);
         if left == 1 {
             placed.push(number)?;
         }
-    }
-    Ok(())
-}
-
-/// The same of a transaction that is left; of others nothing is asked.
-fn release_left(
-    left: &Cells,
-    placed: &mut Vec<u32>,
-    waiting: &mut Cells,
-    number: u32,
-) -> Result<(), AllocError> {
-    if left.get(number) != 0 {
-        release(placed, waiting, number)?;
     }
     Ok(())
 }

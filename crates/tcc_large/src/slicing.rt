@@ -1,72 +1,47 @@
 //! A slice: a small snapshot with what the links of a cycle need, and nothing else.
-ghost use Rattle.std.specs.Prelude.{IfOk, IfSome, IsTrue};
+ghost use Rattle.std.specs.Prelude.{◌≡◌, [], IfOk, IfSome, IsTrue};
+ghost use Rattle.tcc_reads.specs.Faults.{read_faults};
+ghost use Rattle.tcc_reads.specs.Sources.{history};
 ghost use Rattle.tcc_large.specs.Cuts.{IsCutOf};
 ghost use Rattle.tcc_large.specs.Slices.{IsSliceOf};
 
 use crate::carrying::is_carried;
+use crate::cells::Cells;
 use crate::cutting::Whole;
 use crate::judging::is_cycle;
 use crate::leaving::is_cut;
 use crate::needs::Needs;
 use std::alloc::Global;
-use tcc_graph::{Graph, LargeGraph, Level, Link, Step, Walk};
+use tcc_graph::{Graph, LargeGraph, Level, Link};
 use tcc_reads::{ResolveFault, resolve};
 use tcc_txn::{LargeSnapshot, NoMemory, Snapshot};
 
-/// The number in the cut that a number of the whole has; one past the last where it has none.
-fn moved(numbers: &[u32], number: u32) -> u32 {
-    match numbers.binary_search(&number) {
-        Ok(place) => place.min(1 << 31) as u32,
-        Err(_) => u32::MAX,
+/// Of each number of a whole with so many the number in the cut of these; `u32::MAX` where it has none.
+fn in_cut(alloc: Global, count: u32, numbers: &[u32]) -> Result<Cells, NoMemory> {
+    let mut found = Cells::new(alloc, count as usize, u32::MAX)?;
+    for (index, number) in numbers.iter().enumerate() {
+        found.set(*number, index.min(1 << 31) as u32);
     }
+    Ok(found)
 }
 
-fn moved_walk(alloc: Global, numbers: &[u32], walk: &Walk) -> Result<Walk, NoMemory> {
-    let mut steps = Vec::new(alloc);
-    for step in walk.as_slice() {
-        steps.push(match step {
-            Step::Session { from, to } => Step::Session {
-                from: moved(numbers, *from),
-                to: moved(numbers, *to),
-            },
-            Step::Reads { from, to, key } => Step::Reads {
-                from: moved(numbers, *from),
-                to: moved(numbers, *to),
-                key: *key,
-            },
-        })?;
+/// These links in other numbers.
+fn moved(alloc: Global, numbers: &Cells, links: &[Link]) -> Result<Vec<Link>, NoMemory> {
+    let mut found = Vec::new(alloc);
+    for link in links {
+        found.push(link.renumbered(alloc, numbers)?)?;
     }
-    Ok(Walk::new(steps))
+    Ok(found)
 }
 
-/// A link of the whole in the numbers of the cut.
-fn moved_link(alloc: Global, numbers: &[u32], link: &Link) -> Result<Link, NoMemory> {
-    match link {
-        Link::Session { from, to } => Ok(Link::Session {
-            from: moved(numbers, *from),
-            to: moved(numbers, *to),
-        }),
-        Link::Reads { from, to, key } => Ok(Link::Reads {
-            from: moved(numbers, *from),
-            to: moved(numbers, *to),
-            key: *key,
-        }),
-        Link::Derived {
-            from,
-            to,
-            key,
-            reader,
-            walk,
-        } => {
-            let walk = moved_walk(alloc, numbers, walk)?;
-            Ok(Link::Derived {
-                from: moved(numbers, *from),
-                to: moved(numbers, *to),
-                key: *key,
-                reader: moved(numbers, *reader),
-                walk,
-            })
-        }
+/// The graph of a snapshot; none where some reads have faults.
+fn graph_of(alloc: Global, snapshot: &Snapshot) -> Result<Option<Graph>, NoMemory>
+    ensures { IfOk result (λ found. IfSome found (λ graph. (read_faults snapshot.now ≡ []) × (graph ≡ history snapshot.now))) }
+{
+    match resolve(alloc, snapshot) {
+        Ok(resolved) => Ok(Some(Graph::build(alloc, resolved)?)),
+        Err(ResolveFault::NoMemory) => Err(NoMemory),
+        Err(ResolveFault::Reads(_)) => Ok(None),
     }
 }
 
@@ -82,16 +57,10 @@ fn is_slice(
 ) -> Result<bool, NoMemory>
     ensures { IfOk result (λ found. IsTrue found → IsSliceOf level whole.now snapshot.now) }
 {
-    let resolved = match resolve(alloc, snapshot) {
-        Ok(resolved) => resolved,
-        Err(ResolveFault::NoMemory) => return Err(NoMemory),
-        Err(ResolveFault::Reads(_)) => return Ok(false),
+    let Some(graph) = graph_of(alloc, snapshot)? else {
+        return Ok(false);
     };
-    let graph = Graph::build(alloc, resolved)?;
-    let mut found = Vec::new(alloc);
-    for link in links {
-        found.push(moved_link(alloc, numbers, link)?)?;
-    }
+    let found = moved(alloc, &in_cut(alloc, whole.count(), numbers)?, links)?;
     Ok(is_cycle(graph.large(), level, &found) && is_carried(graph.large(), whole, numbers))
 }
 

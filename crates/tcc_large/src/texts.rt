@@ -1,45 +1,28 @@
 //! The records of a snapshot.
-ghost use Rattle.std.specs.Prelude.{◌≡◌, ◌++◌, IfOk, OnOk, flat_map};
+ghost use Rattle.std.specs.Prelude.{◌≡◌, ◌++◌, IfOk, OnOk, flat_map, string_bytes};
 ghost use Rattle.tcc_large.specs.Texts.{op_text, end_text, transaction_text, session_text, records_text};
 
 use std::alloc::Global;
 use tcc_txn::{Name, NoMemory, Op, Snapshot, Txn};
 
-/// The record of an operation, at the end of a text.
-fn add_operation(alloc: Global, text: &mut Vec<u8>, session: &Name, op: &Op) -> Result<(), NoMemory>
-    ensures { OnOk result (text.new.items ≡ text.old.items ++ op_text session.now op.now) }
+/// The record of an operation.
+fn op_record(alloc: Global, session: &Name, op: &Op) -> Result<String, NoMemory>
+    ensures { IfOk result (λ text. string_bytes text ≡ op_text session.now op.now) }
 {
     match op {
-        Op::Get { key, value } => {
-            let record = format!(in alloc; "{session},r,{key},{value}\n")?;
-            text.extend_from_slice(record.as_bytes())?;
-            Ok(())
-        }
-        Op::Put { key, value } => {
-            let record = format!(in alloc; "{session},w,{key},{value}\n")?;
-            text.extend_from_slice(record.as_bytes())?;
-            Ok(())
-        }
+        Op::Get { key, value } => Ok(format!(in alloc; "{session},r,{key},{value}\n")?),
+        Op::Put { key, value } => Ok(format!(in alloc; "{session},w,{key},{value}\n")?),
     }
 }
 
-/// The record that ends a transaction, at the end of a text.
-fn add_end(
-    alloc: Global,
-    text: &mut Vec<u8>,
-    session: &Name,
-    committed: bool,
-) -> Result<(), NoMemory>
-    ensures { OnOk result (text.new.items ≡ text.old.items ++ end_text session.now committed) }
+/// The record that ends a transaction.
+fn end_record(alloc: Global, session: &Name, committed: bool) -> Result<String, NoMemory>
+    ensures { IfOk result (λ text. string_bytes text ≡ end_text session.now committed) }
 {
     if committed {
-        let record = format!(in alloc; "{session},commit\n")?;
-        text.extend_from_slice(record.as_bytes())?;
-        Ok(())
+        Ok(format!(in alloc; "{session},commit\n")?)
     } else {
-        let record = format!(in alloc; "{session},abort\n")?;
-        text.extend_from_slice(record.as_bytes())?;
-        Ok(())
+        Ok(format!(in alloc; "{session},abort\n")?)
     }
 }
 
@@ -53,7 +36,8 @@ fn add_operations(
     ensures { OnOk result (text.new.items ≡ text.old.items ++ flat_map (op_text session.now) ops.now) }
 {
     for op in ops {
-        add_operation(alloc, text, session, op)?;
+        let record = op_record(alloc, session, op)?;
+        text.extend_from_slice(record.as_bytes())?;
     }
     Ok(())
 }
@@ -70,7 +54,9 @@ fn add_transaction(
     let begin = format!(in alloc; "{session},begin\n")?;
     text.extend_from_slice(begin.as_bytes())?;
     add_operations(alloc, text, session, transaction.ops())?;
-    add_end(alloc, text, session, transaction.committed())
+    let end = end_record(alloc, session, transaction.committed())?;
+    text.extend_from_slice(end.as_bytes())?;
+    Ok(())
 }
 
 /// The records of a session, at the end of a text.

@@ -1,61 +1,47 @@
 //! Shortest walks, searched backwards.
-use crate::asking::{key, reads, span};
+use crate::backwards::Backwards;
 use crate::cells::Cells;
-use crate::covering::Covering;
-use crate::sessions::Sessions;
+use crate::pairs::{Pairs, span};
 use std::alloc::{AllocError, Global};
-use tcc_graph::{LargeGraph, Step};
+use tcc_graph::Step;
 use tcc_txn::NoMemory;
 
 /// By a session pair, where other steps have the index of a key.
 const BY_SESSION: u32 = u32::MAX;
 
-/// What a search backwards has met: where each transaction leads on to, and by what. It serves for many searches, of which
-/// each has a turn of its own.
+/// Searches backwards by pairs, with what each transaction leads on by.
 #[derive(Drop)]
-pub(crate) struct Backwards {
-    turn: u32,
-    met: Cells,
-    next: Cells,
+pub(crate) struct Walking {
+    backwards: Backwards,
     by: Cells,
-    covering: Covering,
-    queue: Vec<u32>,
 }
 
-impl Backwards {
+impl Walking {
     /// Before the first search.
-    pub(crate) fn new(alloc: Global, graph: &LargeGraph) -> Result<Backwards, NoMemory> {
-        let count = graph.count() as usize;
-        Ok(Backwards {
-            turn: 0,
-            met: Cells::new(alloc, count, 0)?,
-            next: Cells::new(alloc, count, 0)?,
-            by: Cells::new(alloc, count, 0)?,
-            covering: Covering::new(alloc, graph.sessions().len())?,
-            queue: Vec::new(alloc),
-        })
+    pub(crate) fn new(alloc: Global, pairs: &Pairs<'_>) -> Result<Walking, NoMemory> {
+        let backwards = Backwards::new(alloc, pairs)?;
+        let by = Cells::new(alloc, pairs.count() as usize, 0)?;
+        Ok(Walking { backwards, by })
     }
 
     /// A shortest walk from one of the wanted transactions, which ascend, to one of these ends; none where there is none.
     pub(crate) fn walk(
         &mut self,
         alloc: Global,
-        graph: &LargeGraph,
-        sessions: &Sessions,
+        pairs: &Pairs<'_>,
         wanted: &[u32],
         ends: &[u32],
     ) -> Result<Option<Vec<Step>>, NoMemory> {
-        self.turn = self.turn.saturating_add(1);
-        self.queue.clear();
+        self.backwards.begin();
         for end in ends {
             self.meet(*end, *end, BY_SESSION)?;
         }
-        for head in 0..graph.count() {
-            let Some(number) = self.queue.get(head as usize).copied() else {
+        for head in 0..pairs.count() {
+            let Some(number) = self.backwards.at(head) else {
                 break;
             };
-            if let Some((start, by)) = self.search(graph, sessions, wanted, number)? {
-                return Ok(Some(self.steps(alloc, graph, start, number, by)?));
+            if let Some((start, by)) = self.search(pairs, wanted, number)? {
+                return Ok(Some(self.steps(alloc, pairs, start, number, by)?));
             }
         }
         Ok(None)
@@ -63,11 +49,8 @@ impl Backwards {
 
     /// Takes in a transaction that leads on to the next one, unless it was met before.
     fn meet(&mut self, number: u32, next: u32, by: u32) -> Result<(), AllocError> {
-        if self.met.get(number) != self.turn {
-            self.met.set(number, self.turn);
-            self.next.set(number, next);
+        if self.backwards.meet(number, next)? {
             self.by.set(number, by);
-            self.queue.push(number)?;
         }
         Ok(())
     }
@@ -75,15 +58,14 @@ impl Backwards {
     /// Looks at all that lead to a transaction by one step: a wanted one and the step, or else they are taken in.
     fn search(
         &mut self,
-        graph: &LargeGraph,
-        sessions: &Sessions,
+        pairs: &Pairs<'_>,
         wanted: &[u32],
         number: u32,
     ) -> Result<Option<(u32, u32)>, AllocError> {
-        if let Some(start) = self.search_session(sessions, wanted, number)? {
+        if let Some(start) = self.search_session(pairs, wanted, number)? {
             return Ok(Some((start, BY_SESSION)));
         }
-        for (key_index, source) in reads(graph, number) {
+        for (key_index, source) in pairs.reads(number) {
             if wanted.binary_search(source).is_ok() {
                 return Ok(Some((*source, *key_index)));
             }
@@ -97,11 +79,11 @@ impl Backwards {
     /// The same of those before it in its session, as far as they weren't taken in for a later one.
     fn search_session(
         &mut self,
-        sessions: &Sessions,
+        pairs: &Pairs<'_>,
         wanted: &[u32],
         number: u32,
     ) -> Result<Option<u32>, AllocError> {
-        let low = self.covering.take(sessions, number, self.turn);
+        let low = self.backwards.cover(pairs, number);
         if let Some(start) = span(wanted, low, number).first() {
             return Ok(Some(*start));
         }
@@ -115,7 +97,7 @@ impl Backwards {
     fn steps(
         &self,
         alloc: Global,
-        graph: &LargeGraph,
+        pairs: &Pairs<'_>,
         start: u32,
         number: u32,
         by: u32,
@@ -124,10 +106,10 @@ impl Backwards {
         let mut from = start;
         let mut to = number;
         let mut by = by;
-        for _step in 0..graph.count() {
-            steps.push(step(graph, from, to, by))?;
+        for _turn in 0..pairs.count() {
+            steps.push(step(pairs, from, to, by))?;
             from = to;
-            to = self.next.get(from);
+            to = self.backwards.next(from);
             by = self.by.get(from);
             if to == from {
                 break;
@@ -138,8 +120,8 @@ impl Backwards {
 }
 
 /// A step by a session pair, or by the key at an index.
-fn step(graph: &LargeGraph, from: u32, to: u32, by: u32) -> Step {
-    match key(graph, by) {
+fn step(pairs: &Pairs<'_>, from: u32, to: u32, by: u32) -> Step {
+    match pairs.key(by) {
         Some(key) => Step::Reads { from, to, key },
         None => Step::Session { from, to },
     }

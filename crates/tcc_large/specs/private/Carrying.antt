@@ -1,6 +1,6 @@
 -- What is asked of a map of numbers, transaction by transaction.
-use Rattle.std.specs.Prelude.{ℕ, ◌≡◌, ◌<◌, true, List, length, slice_index, slice_index_or}
-use Rattle.tcc_reads.specs.History.{History, entry_at}
+use Rattle.std.specs.Prelude.{ℕ, ◌≡◌, ◌<◌, true, List, length, slice_index}
+use Rattle.tcc_reads.specs.History.{History, count, entry_at}
 use Rattle.tcc_graph.specs.Relations.{IsReadsPair, IsSessionPair}
 use Rattle.tcc_graph.specs.Keys.{IsWriter, has_name}
 
@@ -21,3 +21,10 @@ KeepsSessions numbers small large a = (b : ℕ) → IsSessionPair small a b → 
 
 abbrev pub KeepsWrites : List ℕ → History → History → ℕ → Type 0
 KeepsWrites numbers small large b = (x : List ℕ) → has_name (entry_at small b).writes x ≡ true → IsWriter large (carry numbers b) x
+
+abbrev pub Keeps : List ℕ → History → History → ℕ → Type 0
+Keeps numbers small large a = KeepsReads numbers small large a × KeepsSessions numbers small large a × KeepsWrites numbers small large a
+
+-- one number for each of the first history, from 0 on, each above those before it; and the second history isn't empty
+abbrev pub Fits : List ℕ → History → History → Type 0
+Fits numbers small large = (length numbers ≡ count small) × (slice_index numbers 0 ≡ 0) × (0 < count large) × IsRising numbers

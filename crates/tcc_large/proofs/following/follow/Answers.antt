@@ -21,7 +21,7 @@ loop-position-preserved c =
     let l = c.loop-position in
     let on : IsOnward j c.args.ranks.now l.at c.in-Some.link = rw c.in-Some.is at c.in_ok-link.ensures in
     let new : slice_index l.positions l.at ≡ 0 = omega (arith, c.get-before.ensures, c.if-before-gt0.false) in
-    rw (c.set.ensures, c.to-at.ensures, c.in_ok-push.ensures.items)
+    rw (c.set.ensures, c.ends-at.ensures.to, c.in_ok-push.ensures.items)
     (trail_more j c.args.ranks.now l.positions c.args.start l.at l.position l.trail.items l.invariant new c.in-Some.link on)
 
 pub unreachable-requires : goal.unreachable-requires

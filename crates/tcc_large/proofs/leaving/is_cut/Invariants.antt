@@ -1,5 +1,3 @@
-use Rattle.std.proofs.Common.{◌<◌, ℕ}
-use Rattle.std.specs.Prelude.{slice_index_or, []}
 use Rattle.tcc_large.proofs.Left.{ArePartlyIn}
 use Rattle.tcc_large.proofs.leaving.is_cut.Given as goal
 

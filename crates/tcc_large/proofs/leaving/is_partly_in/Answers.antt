@@ -1,4 +1,3 @@
-use Rattle.std.proofs.Common.{◌≡◌, length, arith}
 use Rattle.std.proofs.lemmas.List.{get_or_read}
 use Rattle.tcc_large.specs.Cuts.{AreSomeOf}
 use Rattle.tcc_large.proofs.Left.{partly}

@@ -1,9 +1,6 @@
 use Rattle.std.proofs.Common.{ℕ, slice_index, ap, ◌∙◌}
-use Rattle.std.specs.Prelude.{MatchOption}
-use Rattle.std.proofs.lemmas.Result.{IfOk-weaker}
-use Rattle.tcc_graph.specs.Levels.{Judged, judged}
-use Rattle.tcc_large.specs.private.Ranked.{IsOnward, AreReasonsPast, AreLinksPast}
-use Rattle.tcc_large.proofs.Ranks.{found_past}
+use Rattle.tcc_graph.specs.Levels.{Judged, atomically, causally, judged}
+use Rattle.tcc_large.proofs.Ranks.{found_on}
 use Rattle.tcc_large.proofs.onward.link_on.Goals as goal
 
 pub returns-in-Some : goal.returns-in-Some
@@ -14,11 +11,12 @@ returns-in-Some c =
       ap (λ (z : ℕ). slice_index c.args.ranks.now z) c.link_of.ensures.to ∙ c.in-Some.ensures.2,
     )
 
-pub returns : goal.returns
-returns c =
-    let j : Judged = judged c.args.graph.now c.args.level in
-    let ranks = c.args.ranks.now in
-    let from = c.args.from in
-    IfOk-weaker c.derived_on.result (λ found. MatchOption found (AreReasonsPast j ranks from) (IsOnward j ranks from))
-    (λ found. MatchOption found (AreLinksPast j ranks from) (IsOnward j ranks from)) (λ found p. found_past j ranks from found c.in_default.ensures p)
-    c.derived_on.ensures
+pub returns-in-Causal : goal.returns-in-Causal
+returns-in-Causal c =
+    rw c.in-Causal.is
+    (found_on (causally c.args.graph.now) c.args.ranks.now c.args.from c.derived_by_walk.result c.in_default.ensures c.derived_by_walk.ensures)
+
+pub returns-in-Atomic : goal.returns-in-Atomic
+returns-in-Atomic c =
+    rw c.in-Atomic.is
+    (found_on (atomically c.args.graph.now) c.args.ranks.now c.args.from c.derived_by_step.result c.in_default.ensures c.derived_by_step.ensures)

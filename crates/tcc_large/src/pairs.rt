@@ -1,0 +1,157 @@
+//! The pairs of a history: what its graph says of any number, and of one past the last nothing; and where the numbers of each
+//! session stand.
+use crate::cells::Cells;
+use std::alloc::Global;
+use tcc_graph::LargeGraph;
+use tcc_txn::{Name, NoMemory};
+
+/// A graph, with the session of each number and the numbers of each session.
+#[derive(Drop)]
+pub(crate) struct Pairs<'a> {
+    graph: &'a LargeGraph,
+    owners: Cells,
+    firsts: Cells,
+    ends: Cells,
+}
+
+/// Of numbers that ascend, those from `low` to below `high`.
+pub(crate) fn span(numbers: &[u32], low: u32, high: u32) -> &[u32] {
+    let start = numbers.partition_point(|number| *number < low);
+    let end = numbers.partition_point(|number| *number < high);
+    if start < end && end <= numbers.len() {
+        &numbers[start..end]
+    } else {
+        &[]
+    }
+}
+
+impl<'a> Pairs<'a> {
+    /// Those of a graph.
+    pub(crate) fn of(alloc: Global, graph: &'a LargeGraph) -> Result<Pairs<'a>, NoMemory> {
+        let count = graph.sessions().len();
+        let mut pairs = Pairs {
+            graph,
+            owners: Cells::new(alloc, graph.count() as usize, 0)?,
+            firsts: Cells::new(alloc, count, 0)?,
+            ends: Cells::new(alloc, count, 0)?,
+        };
+        for number in 1..graph.count() {
+            if let Some((owner, _place)) = graph.at(number) {
+                pairs.add(number, owner);
+            }
+        }
+        Ok(pairs)
+    }
+
+    /// Notes the session of a number that is above all those noted before.
+    fn add(&mut self, number: u32, owner: u32) {
+        self.owners.set(number, owner);
+        if self.ends.get(owner) == 0 {
+            self.firsts.set(owner, number);
+        }
+        self.ends.set(owner, number.saturating_add(1));
+    }
+
+    /// How many transactions there are, `init` among them.
+    pub(crate) fn count(&self) -> u32 {
+        self.graph.count()
+    }
+
+    /// How many sessions there are.
+    pub(crate) fn session_count(&self) -> usize {
+        self.graph.sessions().len()
+    }
+
+    /// The index of a number's session.
+    pub(crate) fn owner(&self, number: u32) -> u32 {
+        self.owners.get(number)
+    }
+
+    /// The first number of a session.
+    pub(crate) fn first(&self, owner: u32) -> u32 {
+        self.firsts.get(owner)
+    }
+
+    /// The number right before this one in its session.
+    pub(crate) fn previous(&self, number: u32) -> Option<u32> {
+        if number > self.first(self.owner(number)) {
+            number.checked_sub(1)
+        } else {
+            None
+        }
+    }
+
+    /// The number right after this one in its session.
+    pub(crate) fn next(&self, number: u32) -> Option<u32> {
+        let next = number.checked_add(1)?;
+        if next < self.ends.get(self.owner(number)) {
+            Some(next)
+        } else {
+            None
+        }
+    }
+
+    /// Whether one transaction stands before the other in session order.
+    pub(crate) fn is_session(&self, from: u32, to: u32) -> bool {
+        from < self.graph.count() && to < self.graph.count() && self.graph.session(from, to)
+    }
+
+    /// Of those behind a transaction in session order the first, and one past the last.
+    pub(crate) fn later(&self, number: u32) -> (u32, u32) {
+        if number < self.graph.count() {
+            self.graph.later(number)
+        } else {
+            (0, 0)
+        }
+    }
+
+    /// Who reads from a transaction, and beside each the index of the key.
+    pub(crate) fn readings(&self, source: u32) -> (&'a [u32], &'a [u32]) {
+        if source < self.graph.count() {
+            self.graph.readings_at(source)
+        } else {
+            (&[], &[])
+        }
+    }
+
+    /// The indices of the keys that a transaction reads, each with its source.
+    pub(crate) fn reads(&self, reader: u32) -> &'a [(u32, u32)] {
+        if reader < self.graph.count() {
+            self.graph.reads_at(reader)
+        } else {
+            &[]
+        }
+    }
+
+    /// The indices of the keys that a transaction writes.
+    pub(crate) fn writes(&self, writer: u32) -> &'a [u32] {
+        if writer < self.graph.count() {
+            self.graph.writes_at(writer)
+        } else {
+            &[]
+        }
+    }
+
+    /// The keys that one transaction reads from another.
+    pub(crate) fn reads_from(&self, source: u32, reader: u32) -> &'a [Name] {
+        if source < self.graph.count() && reader < self.graph.count() {
+            self.graph.reads_from(source, reader)
+        } else {
+            &[]
+        }
+    }
+
+    /// Who writes the key at an index.
+    pub(crate) fn writers(&self, key_index: u32) -> &'a [u32] {
+        if (key_index as usize) < self.graph.keys().len() {
+            self.graph.writers_at(key_index)
+        } else {
+            &[]
+        }
+    }
+
+    /// The key at an index.
+    pub(crate) fn key(&self, key_index: u32) -> Option<Name> {
+        self.graph.keys().get(key_index as usize).copied()
+    }
+}
