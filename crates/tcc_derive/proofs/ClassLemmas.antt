@@ -1,18 +1,16 @@
 -- Links parted into classes with rows of marks and a rest.
-use Rattle.std.proofs.Common.{◌≡◌, ◌≢◌, ◌<◌, ◌≤◌, ◌+◌, zero, suc, ◌==◌, ◌||◌, ◌↔◌, ◌⊎◌, ℕ, inl, inr, true, List, [], ◌∷◌, ◌++◌, length, map, get_or, take, filter, refl, sym, ◌∙◌}
+use Rattle.std.proofs.Common.{◌≡◌, ◌<◌, ◌≤◌, ◌+◌, zero, suc, ◌==◌, ◌||◌, ◌⊎◌, ℕ, inl, inr, true, List, [], ◌∷◌, ◌++◌, length, map, get_or, filter, sym, ◌∙◌}
 use Rattle.std.proofs.Common.{ap, add-one, arith, subst}
 use Rattle.std.specs.Prelude.{All, Contains}
-use Rattle.std.specs.List.{AllPairs}
 use Rattle.std.proofs.Math.ListN.{get_or-map}
-use Rattle.std.proofs.lemmas.List.{length-map, length-replicate, get_or_default}
+use Rattle.std.proofs.lemmas.List.{length-map}
 use Rattle.std.proofs.lemmas.List.Elements.{Contains-get_or, Contains-push, Contains-push_cases, Contains-append_left, Contains-append_right}
 use Rattle.std.proofs.lemmas.List.Elements.{Contains-append_cases, All-append, All-filter}
 use Rattle.tcc_reads.specs.History.{count}
 use Rattle.tcc_graph.specs.Levels.{Judged}
-use Rattle.tcc_txn.proofs.Lists.{in_filter, from_filter}
+use Rattle.tcc_txn.proofs.Lists.{from_filter}
 use Rattle.tcc_bits.specs.Bits.{is_marked, words_for}
 use Rattle.tcc_derive.specs.Prices.{Tables, IsPricesOf, end_of, others_at}
-use Rattle.tcc_derive.specs.ByClass.{IsCheap}
 use Rattle.tcc_derive.specs.ByClass.{HasLinkAmong, IsByClass}
 use Rattle.tcc_derive.specs.private.CostBuckets.{costs_just, costs_below}
 use Rattle.tcc_derive.specs.private.Classes.{IsMarksOf, ArePartedBelow}

@@ -1,12 +1,12 @@
 -- What walks and derived links back cost: the lesser of two such costs is one.
-use Rattle.std.proofs.Common.{◌≡◌, ◌≢◌, ◌<◌, ◌≤◌, ◌+◌, ◌==◌, ℕ, ◌⊎◌, inl, inr, List, [], ◌∷◌, ◌++◌, length, take, get_or, min, Some, refl, sym, ◌∙◌, subst, arith}
+use Rattle.std.proofs.Common.{◌≡◌, ◌≢◌, ◌<◌, ◌≤◌, ◌+◌, ℕ, ◌⊎◌, inl, inr, List, length, take, get_or, min, Some, refl, ◌∙◌, subst, arith}
 use Rattle.std.specs.Prelude.{All, slice_index}
 use Rattle.std.proofs.lemmas.Bool.{cases_eq, cases_lt, ne_eqb}
 use Rattle.std.proofs.lemmas.Grind.{take_at_read}
 use Rattle.std.proofs.lemmas.List.{take_all}
 use Rattle.std.proofs.lemmas.List.Elements.{All-push}
 use Rattle.tcc_graph.specs.Tables.{row_of}
-use Rattle.tcc_near.specs.Distances.{least, least_in}
+use Rattle.tcc_near.specs.Distances.{least_in}
 use Rattle.tcc_near.specs.declared.distances.TheConstants.{NONE}
 use Rattle.tcc_derive.specs.Limits.{IsClosing}
 use Rattle.tcc_derive.specs.private.Closings.{IsBackOrNone, IsClosingOrNone}

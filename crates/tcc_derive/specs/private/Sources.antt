@@ -1,5 +1,5 @@
 -- From whom each transaction reads a key, as rows of marks; and the fewest steps to readers, which level after level lowers.
-use Rattle.std.specs.Prelude.{ℕ, ◌+◌, ◌<◌, ◌≤◌, ◌≡◌, ◌⊎◌, ◌↔◌, true, List, length, slice_index, Contains}
+use Rattle.std.specs.Prelude.{ℕ, ◌<◌, ◌≤◌, ◌≡◌, ◌⊎◌, ◌↔◌, true, List, length, slice_index, Contains}
 use Rattle.tcc_bits.specs.Bits.{is_marked, words_for}
 use Rattle.tcc_derive.specs.private.Buckets.{bucket}
 use Rattle.tcc_derive.specs.declared.read.Read.{Read}

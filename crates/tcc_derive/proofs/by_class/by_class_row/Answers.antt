@@ -1,6 +1,5 @@
-use Rattle.std.proofs.Common.{rules, ◌≡◌, ◌<◌, ◌≤◌, ◌+◌, ℕ, List, [], ◌∷◌, ◌++◌, length, get_or, refl, sym, ◌∙◌, ap, arith, subst, filter}
+use Rattle.std.proofs.Common.{rules, ◌≡◌, ◌<◌, ◌+◌, ℕ, List, [], length, get_or, refl, ◌∙◌, ap, arith, filter}
 use Rattle.std.proofs.lemmas.List.{get_or_read}
-use Rattle.tcc_derive.specs.private.Classes.{ArePartedBelow}
 use Rattle.tcc_derive.specs.private.CostBuckets.{costs_just}
 use Rattle.tcc_derive.proofs.ClassLemmas.{parted_none, parted_class, parted_rest, bucket_within}
 use Rattle.tcc_derive.proofs.by_class.by_class_row.Goals.{then-cost-le-DEAREST+then-links-many+in_ok-marks+in_ok-push, else-cost-le-DEAREST+in_ok-extend_from_slice}

@@ -1,4 +1,3 @@
-use Rattle.std.proofs.Common.{◌+◌}
 use Rattle.tcc_derive.specs.private.Classes.{ArePartedBelow}
 use Rattle.tcc_derive.proofs.by_class.by_class_row.Given as goal
 

@@ -1,4 +1,4 @@
-use Rattle.std.proofs.Common.{ℕ, ◌+◌, ◌<◌, ◌≤◌, ◌≡◌, List, [], length, slice_index, ◌∙◌, arith}
+use Rattle.std.proofs.Common.{ℕ, ◌+◌, ◌<◌, ◌≤◌, ◌≡◌, [], length, slice_index, ◌∙◌, arith}
 use Rattle.std.specs.Prelude.{All}
 use Rattle.rayon.proofs.ToStd.{nat_range-All}
 use Rattle.tcc_txn.specs.declared.limits.TheConstants.{MAX_COUNT}

@@ -1,4 +1,4 @@
-use Rattle.std.proofs.Common.{rules, ◌≡◌, ◌<◌, ◌≤◌, ◌↔◌, ◌⊎◌, ℕ, true, List, length, map, take, get_or, replicate, refl, sym, ◌∙◌, ap, arith, take_at}
+use Rattle.std.proofs.Common.{rules, ◌≡◌, ◌<◌, ◌↔◌, ◌⊎◌, ℕ, true, length, take, get_or, replicate, refl, sym, ◌∙◌, ap, arith, take_at}
 use Rattle.std.specs.Prelude.{Contains}
 use Rattle.std.proofs.lemmas.List.{take_all, length-replicate}
 use Rattle.tcc_bits.specs.Bits.{is_marked}

@@ -1,11 +1,9 @@
-use Rattle.std.proofs.Common.{rules, ◌≡◌, ◌<◌, ◌≤◌, ◌+◌, ◌∙◌, ℕ, true, length, replicate, refl, sym, ap, arith, subst, take_at, slice_index}
+use Rattle.std.proofs.Common.{rules, ◌≡◌, ◌<◌, ◌+◌, ◌∙◌, ℕ, length, replicate, refl, sym, ap, arith, subst, take_at}
 use Rattle.std.specs.Prelude.{Contains}
 use Rattle.std.proofs.lemmas.Bool.{false≢true}
 use Rattle.std.proofs.lemmas.List.{length-replicate}
-use Rattle.tcc_bits.specs.Bits.{is_marked}
-use Rattle.tcc_near.specs.declared.distances.TheConstants.{NONE}
 use Rattle.tcc_bits.proofs.BitLemmas.{none_marked}
-use Rattle.tcc_derive.specs.private.Sources.{IsCovered, LowersUpTo}
+use Rattle.tcc_derive.specs.private.Sources.{LowersUpTo}
 use Rattle.tcc_derive.specs.declared.read.Read.{Read}
 use Rattle.tcc_derive.proofs.LevelLemmas.{upto_none, upto_next, upto_whole, covered_later}
 use Rattle.tcc_derive.proofs.SourceLemmas.{of_all}

@@ -1,4 +1,4 @@
-use Rattle.std.proofs.Common.{◌≡◌, ◌<◌, ◌+◌, inl, inr, [], length, get_or, set, take, ap, arith}
+use Rattle.std.proofs.Common.{◌<◌, ◌+◌, [], length, get_or, set, take, ap, arith}
 use Rattle.std.specs.Prelude.{Contains}
 use Rattle.std.proofs.lemmas.List.{take_all}
 use Rattle.tcc_bits.proofs.Lists.{nothing_in, one_of_taken, still_taken, last_taken}

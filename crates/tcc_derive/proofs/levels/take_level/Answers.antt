@@ -1,11 +1,9 @@
-use Rattle.std.proofs.Common.{◌≡◌, ◌<◌, ◌∙◌, ℕ, [], true, length, arith}
+use Rattle.std.proofs.Common.{◌≡◌, ◌<◌, ◌∙◌, [], true, length, arith}
 use Rattle.std.proofs.lemmas.List.{get_or_read}
 use Rattle.tcc_bits.specs.Bits.{is_marked}
 use Rattle.tcc_derive.specs.private.Buckets.{bucket}
 use Rattle.tcc_derive.specs.private.Sources.{LowersEach}
-use Rattle.tcc_derive.specs.declared.read.Read.{Read}
 use Rattle.tcc_derive.proofs.LevelLemmas.{upto_skip, upto_row}
-use Rattle.tcc_derive.proofs.SourceLemmas.{of_all}
 use Rattle.tcc_derive.proofs.levels.take_level.Goals.{then-steps-reader+in_ok-take_reader, else-steps-reader}
 use Rattle.tcc_derive.proofs.levels.take_level.Goals as goal
 

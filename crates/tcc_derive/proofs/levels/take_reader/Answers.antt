@@ -1,4 +1,4 @@
-use Rattle.std.proofs.Common.{◌≡◌, ◌<◌, get_or, length}
+use Rattle.std.proofs.Common.{get_or}
 use Rattle.std.proofs.lemmas.List.Elements.{Contains-get_or}
 use Rattle.tcc_derive.proofs.LevelLemmas.{reader_lowered, reader_covered}
 use Rattle.tcc_derive.proofs.levels.take_reader.Goals as goal

@@ -1,4 +1,4 @@
-use Rattle.std.proofs.Common.{ℕ, ◌≤◌, ◌≡◌, ◌∙◌, List, get_or, refl, sym, subst, true≢false}
+use Rattle.std.proofs.Common.{ℕ, ◌≤◌, ◌∙◌, List, refl, sym, subst, true≢false}
 use Rattle.std.specs.Prelude.{All}
 use Rattle.tcc_derive.proofs.LimitLemmas.{all_next, all_end}
 use Rattle.tcc_derive.proofs.limits.are_within.Goals as goal

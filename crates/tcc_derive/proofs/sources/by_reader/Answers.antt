@@ -1,4 +1,4 @@
-use Rattle.std.proofs.Common.{rules, ◌≡◌, ◌<◌, ◌+◌, ◌∙◌, ℕ, List, [], ◌∷◌, ◌++◌, length, get_or, set, take, ap, arith}
+use Rattle.std.proofs.Common.{rules, ◌≡◌, ◌<◌, ◌+◌, ◌∙◌, ℕ, List, [], ◌∷◌, ◌++◌, length, get_or, set, take, ap}
 use Rattle.std.proofs.lemmas.List.{get_or_default, take_all}
 use Rattle.tcc_derive.specs.declared.read.Read.{Read}
 use Rattle.tcc_derive.proofs.BucketLemmas.{taken}

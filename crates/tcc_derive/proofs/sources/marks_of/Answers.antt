@@ -1,7 +1,7 @@
-use Rattle.std.proofs.Common.{rules, ◌≡◌, ◌<◌, ◌≤◌, ◌↔◌, ◌⊎◌, ℕ, true, length, get_or, replicate, sym, ◌∙◌, ap, arith, take_at}
+use Rattle.std.proofs.Common.{rules, ◌≡◌, ◌<◌, ◌↔◌, ◌⊎◌, ℕ, true, length, get_or, replicate, sym, ◌∙◌, ap, arith, take_at}
 use Rattle.std.specs.Prelude.{Contains}
 use Rattle.std.proofs.lemmas.List.{length-replicate}
-use Rattle.tcc_bits.specs.Bits.{is_marked, words_for}
+use Rattle.tcc_bits.specs.Bits.{is_marked}
 use Rattle.tcc_bits.proofs.BitLemmas.{none_marked}
 use Rattle.tcc_bits.proofs.MarkLemmas.{each_alone}
 use Rattle.tcc_derive.proofs.sources.marks_of.Goals as goal
