@@ -1,5 +1,4 @@
-use Rattle.std.proofs.Common.{◌≤◌, arith}
-use Rattle.tcc_derive.specs.Prices.{others_at}
+use Rattle.std.proofs.Common.{arith}
 use Rattle.tcc_core.specs.private.Offers.{IsOffered, IsWayBy}
 use Rattle.tcc_core.specs.private.Levels.{IsClassWay}
 use Rattle.tcc_core.proofs.LedOn.{classes_of, offered_classes, offered_others}
