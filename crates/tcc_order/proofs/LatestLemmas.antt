@@ -4,17 +4,15 @@ use Rattle.std.proofs.Common.{slice_index, refl, sym, ap, ◌∙◌, subst, arit
 use Rattle.std.specs.Prelude.{max}
 use Rattle.std.specs.List.{All, Contains}
 use Rattle.std.proofs.lemmas.Bool.{cases_lt, cases_eq, cases_Bool, and_parts, and_from, ltb-true, lt-ltb, eqb-true, eq-eqb, ne_eqb, false≢true}
-use Rattle.std.proofs.lemmas.List.{get_or_default, get_or-set_same, get_or-set_other, length-set}
-use Rattle.std.proofs.lemmas.List.Elements.{All-weaker, All-map, All-contains, All-contains_itself}
+use Rattle.std.proofs.lemmas.List.{get_or_default, length-set}
+use Rattle.std.proofs.lemmas.List.Elements.{All-weaker, All-map, All-contains}
 use Rattle.tcc_reads.specs.History.{History, IsBySession, count, entry_at, owner}
 use Rattle.tcc_graph.specs.Keys.{keys, key_at}
 use Rattle.tcc_graph.specs.Walks.{IsReached}
 use Rattle.tcc_graph.specs.Orders.{IsNumbering}
-use Rattle.tcc_graph.specs.Relations.{IsCausalPair}
 use Rattle.tcc_graph.specs.Tables.{row_of}
 use Rattle.tcc_graph.proofs.Numberings.{below_in}
-use Rattle.tcc_graph.proofs.Pairs.{pair_below}
-use Rattle.tcc_bits.proofs.Lists.{one_of_taken, still_taken, last_taken, nothing_in}
+use Rattle.tcc_bits.proofs.Lists.{nothing_in}
 use Rattle.tcc_order.specs.private.Parents.{HasSourcesAt, parents, sources, previous, previous_one}
 use Rattle.tcc_order.specs.private.Lasts.{IsOneOf, IsBefore, IsUpTo}
 use Rattle.tcc_order.specs.private.Latest.{AreOwners, IsLatestOf, AreLatestOf, HasLatest, AreClocks, IsLike, LeadsOnward, lifted}
