@@ -5,7 +5,7 @@ use Rattle.std.proofs.lemmas.Bool.{cases_eq, eq-eqb, ne_eqb}
 use Rattle.std.proofs.lemmas.List.{get_or_default}
 use Rattle.std.proofs.lemmas.List.Elements.{All-contains, Contains-get_or}
 use Rattle.tcc_graph.specs.Orders.{IsNumbering}
-use Rattle.tcc_world.specs.Events.{without}
+use Rattle.tcc_world.specs.Steps.{without}
 
 -- 1 where the numbers are one, else 0
 abbrev pub one_if : Bool → ℕ
@@ -45,7 +45,7 @@ in_times x (y ∷ xs) some = go (cases_eq y x) (λ rest. in_times x xs rest)
     go (inl same) rest = (0, omega arith, same)
     go (inr other) rest = let none : one_if (y == x) ≡ 0 = ap one_if (ne_eqb y x other) in later y x xs (rest (omega (arith, some, none)))
 
--- two indices
+-- two places
 pub times_twice : (x : ℕ) (xs : List ℕ) (i j : ℕ) → i < j → j < length xs → get_or xs i 0 ≡ x → get_or xs j 0 ≡ x → 2 ≤ times x xs
 times_twice x [] i j less within one two = absurd (omega arith)
 times_twice x (y ∷ xs) i zero less within one two = absurd (omega arith)
@@ -55,7 +55,7 @@ times_twice x (y ∷ xs) zero (suc j) less within one two =
     omega (arith, same, times_in x xs (j, inside, get_or_default xs j x 0 inside ∙ two))
 times_twice x (y ∷ xs) (suc i) (suc j) less within one two = omega (arith, times_twice x xs i j (omega arith) (omega arith) one two)
 
--- no two indices have the same
+-- no two places have the same
 abbrev AreApart : List ℕ → Type 0
 AreApart xs = (i j : ℕ) → i < j → j < length xs → get_or xs i 0 ≢ get_or xs j 0
 

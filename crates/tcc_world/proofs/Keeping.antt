@@ -11,7 +11,7 @@ use Rattle.tcc_graph.specs.Levels.{Judged}
 use Rattle.tcc_core.specs.Shares.{Share, Finished, Stop, IsNotAbove, IsFinished, IsCycleCost}
 use Rattle.tcc_txn.proofs.Lists.{in_flat_map}
 use Rattle.tcc_world.specs.Worlds.{Searching, Worker, World, new_worker, worker_at, search_of, offers_of, start_of, starts_with, all_starts}
-use Rattle.tcc_world.specs.Events.{IsEnabled, without, lowered, searching, seeing, offering, finishing, Takes, Looks, SettlesOne, Offers, Ends, Happens, Runs}
+use Rattle.tcc_world.specs.Steps.{IsEnabled, without, lowered, searching, seeing, offering, finishing, Takes, Looks, TakesStep, Offers, Ends, Happens, Runs}
 use Rattle.tcc_world.specs.Soundness.{IsLeastOf, IsBegun, IsBegunIfAny, IsWorking, IsSound}
 use Rattle.tcc_world.specs.declared.stage.Stage.TheVariants as stage
 use Rattle.tcc_world.specs.declared.event.Event.{Event}
@@ -139,8 +139,8 @@ look_kept j old new w is (search, has, e) =
 
 -- ---- Settle
 
-settle_kept : (j : Judged) (old new : World) (w : ℕ) → IsSound j old → SettlesOne j old w new → IsSound j new
-settle_kept j old new w is (search, has, going, row, to, grows, e) =
+step_kept : (j : Judged) (old new : World) (w : ℕ) → IsSound j old → TakesStep j old w new → IsSound j new
+step_kept j old new w is (search, has, going, row, to, grows, e) =
     let at = working_at j old w is (there old w search has) in
     let begun = begun_at j old w search is has in
     let a = searching (worker_at old w) (Some (record { start = search.start; row = row; stage = to })) in
@@ -295,7 +295,7 @@ offer_kept j old new w c is (search, has, returned, e) = subst (IsSound j) (sym 
 pub event_kept : (j : Judged) (old new : World) (e : Event) → IsSound j old → Happens j old e new → IsSound j new
 event_kept j old new (event.Take w s) is happens = take_kept j old new w s is happens
 event_kept j old new (event.Look w) is happens = look_kept j old new w is happens
-event_kept j old new (event.Settle w) is happens = settle_kept j old new w is happens
+event_kept j old new (event.Settle w) is happens = step_kept j old new w is happens
 event_kept j old new (event.Offer w c) is happens = offer_kept j old new w c is happens
 event_kept j old new (event.End w) is happens = end_kept j old new w is happens
 

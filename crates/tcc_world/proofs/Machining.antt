@@ -16,8 +16,8 @@ use Rattle.tcc_core.specs.Rows.{IsEmptyRow}
 use Rattle.tcc_core.specs.Shares.{Stop, Finished}
 use Rattle.tcc_core.specs.Searches.{Search, IsSearchOf}
 use Rattle.tcc_world.specs.Worlds.{Worker, World, new_worker, worker_at, search_of, seeds_of}
-use Rattle.tcc_world.specs.Events.{HasReturned, end_of, without, lowered, searching, seeing, offering, finishing, Takes, Looks, Grows, SettlesOne, Offers, Ends}
-use Rattle.tcc_world.specs.Events.{Happens, Runs}
+use Rattle.tcc_world.specs.Steps.{HasReturned, end_of, without, lowered, searching, seeing, offering, finishing, Takes, Looks, Grows, TakesStep, Offers, Ends}
+use Rattle.tcc_world.specs.Steps.{Happens, Runs}
 use Rattle.tcc_world.specs.Machines.{Machine, searching_by, finished_at, finished_by, worker_of, world_of, IsSearchingOf, IsMachineOf}
 use Rattle.tcc_world.specs.declared.desk.Begun.{Begun}
 use Rattle.tcc_world.specs.declared.desk.Desk.{Desk}
@@ -160,7 +160,7 @@ look_made {m} {w} {old} {b} holds = (
 
 pub settle_made : {m : Machine} {w : ℕ} {old : Desk} {b : Begun} (j : Judged) (new : Begun) → IsHeld m w old b → b.stage ≡ stage.Open
     → new.search.start ≡ b.search.start → Grows j b.search.start old.sight b.search.row new.search.row new.stage
-    → SettlesOne j (world_of m) w (world_of
+    → TakesStep j (world_of m) w (world_of
     (after m m.word m.left w (record { sight = old.sight; offers = old.offers; finished = old.finished; search = Some new })))
 settle_made {m} {w} {old} {b} j new holds going same grows =
     let a = searching (worker_at (world_of m) w) (Some (record { start = b.search.start; row = new.search.row; stage = new.stage })) in
@@ -244,8 +244,8 @@ runs_more : (j : Judged) (a b c : World) (events : List Event) (e : Event) → R
 runs_more j a b c [] e runs happens = (c, subst (λ (z : World). Happens j z e c) runs happens, refl)
 runs_more j a b c (d ∷ events) e (mid, first, runs) happens = (mid, first, runs_more j mid b c events e runs happens)
 
-pub event_more : (j : Judged) (a b c : World) (events : List Event) (at : ℕ) (e : Event) → at < length events → Runs j a (take at events) b → Happens j b e c
+pub step_more : (j : Judged) (a b c : World) (events : List Event) (at : ℕ) (e : Event) → at < length events → Runs j a (take at events) b → Happens j b e c
     → get_or events at e ≡ e → Runs j a (take (at + 1) events) c
-event_more j a b c events at e within runs happens here =
+step_more j a b c events at e within runs happens here =
     let next : take (at + 1) events ≡ take at events ++ e ∷ [] = take_more events at e within ∙ ap (λ (x : Event). take at events ++ x ∷ []) here in
     subst (λ (es : List Event). Runs j a es c) (sym next) (runs_more j a b c (take at events) e runs happens)

@@ -14,7 +14,7 @@ use Rattle.tcc_core.specs.Shares.{Share, IsNotAbove, IsFinished, IsCycleCost, Is
 use Rattle.tcc_core.proofs.Settlement.{word_or_cycle, least_cycle}
 use Rattle.tcc_txn.proofs.Lists.{in_flat_map}
 use Rattle.tcc_world.specs.Worlds.{Worker, World, new_worker, offers_of, start_of, starts_with, all_starts, seed_share, shares_of, seeds_of, first_world}
-use Rattle.tcc_world.specs.Events.{Runs}
+use Rattle.tcc_world.specs.Steps.{Runs}
 use Rattle.tcc_world.specs.Soundness.{IsLeastOf, IsWorking, IsSound, IsSeed, AllFinished}
 use Rattle.tcc_world.specs.declared.event.Event.{Event}
 use Rattle.tcc_world.proofs.Counting.{times, times_append, fewer}

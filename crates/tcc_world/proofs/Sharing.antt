@@ -11,9 +11,9 @@ use Rattle.tcc_graph.specs.declared.link.Link.{Link}
 use Rattle.tcc_core.specs.Rows.{in_row, IsSearchRow, IsEmptyRow, JoinsNearest}
 use Rattle.tcc_core.specs.Shares.{Share, Finished, Stop, Returned, Cut, IsNotAbove, IsStopped, IsFinished, IsCycleCost}
 use Rattle.tcc_graph.proofs.Pairs.{link_below}
-use Rattle.tcc_core.proofs.Joining.{in_set, out_set}
+use Rattle.tcc_core.proofs.Steps.{in_set, out_set}
 use Rattle.tcc_world.specs.Worlds.{Searching}
-use Rattle.tcc_world.specs.Events.{HasReturned, end_of, lowered, Grows}
+use Rattle.tcc_world.specs.Steps.{HasReturned, end_of, lowered, Grows}
 use Rattle.tcc_world.specs.Soundness.{IsAtStage, IsBegunIfAny}
 use Rattle.tcc_world.specs.declared.stage.Stage.{Stage}
 use Rattle.tcc_world.specs.declared.stage.Stage.TheVariants as stage
@@ -114,7 +114,7 @@ empty_row j s row is = record {
     none : (v d : ℕ) → in_row row v ≡ Some d → ⊥
     none v d e = none-some d (sym (is.empty v) ∙ e)
 
--- one more is settled by a search that goes on
+-- a step of a search that goes on
 pub grown : (j : Judged) (share : Share) (s : ℕ) (old new : List (Option ℕ)) (at : Stage) → IsSearchRow j s old → in_row old s ≡ None
     → Grows j s share.sight old new at → IsSearchRow j s new × IsAtStage j share s new at
 grown j share s old new stage.Open is out (v, d, other, joins) =

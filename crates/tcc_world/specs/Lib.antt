@@ -1,5 +1,5 @@
 pub mod Worlds
-pub mod Events
+pub mod Steps
 pub mod Soundness
 pub mod Machines
 pub mod Outcomes

@@ -7,7 +7,7 @@ use Rattle.tcc_graph.specs.Levels.{Judged}
 use Rattle.tcc_core.specs.Searches.{IsSearchOf}
 use Rattle.tcc_core.specs.Shares.{Stop, Finished}
 use Rattle.tcc_world.specs.Worlds.{Searching, Worker, World, seeds_of}
-use Rattle.tcc_world.specs.Events.{end_of}
+use Rattle.tcc_world.specs.Steps.{end_of}
 use Rattle.tcc_world.specs.declared.desk.Begun.{Begun}
 use Rattle.tcc_world.specs.declared.desk.Desk.{Desk}
 

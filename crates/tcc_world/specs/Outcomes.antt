@@ -1,15 +1,15 @@
--- What an event and a run of the machine answer.
+-- What a step and a run of the machine answer.
 use Rattle.std.specs.Prelude.{◌≡◌, List, take, slice_get, Some, Result, Ok, Err}
 use Rattle.tcc_graph.specs.Levels.{Judged}
-use Rattle.tcc_world.specs.Events.{IsEnabled, Runs}
+use Rattle.tcc_world.specs.Steps.{IsEnabled, Runs}
 use Rattle.tcc_world.specs.Machines.{Machine, world_of}
 use Rattle.tcc_world.specs.declared.event.Event.{Event}
-use Rattle.tcc_world.specs.declared.event.EventFault.{EventFault}
-use Rattle.tcc_world.specs.declared.event.EventFault.TheVariants as fault
+use Rattle.tcc_world.specs.declared.event.StepFault.{StepFault}
+use Rattle.tcc_world.specs.declared.event.StepFault.TheVariants as fault
 use Rattle.tcc_world.specs.declared.event.RunFault.{RunFault}
 
--- an event is done where it was enabled, and refused where it was not or memory was wanted; then nothing changes
-abbrev pub Answers : {U : Type 0} → Machine → Event → Result U EventFault → Machine → Type 0
+-- a step is done where the event was enabled, and refused where it was not or memory was wanted; then nothing changes
+abbrev pub Answers : {U : Type 0} → Machine → Event → Result U StepFault → Machine → Type 0
 Answers old e (Ok done) new = IsEnabled (world_of old) e
 Answers old e (Err fault.NotEnabled) new = (world_of new ≡ world_of old) × (IsEnabled (world_of old) e → ⊥)
 Answers old e (Err fault.NoMemory) new = world_of new ≡ world_of old

@@ -4,7 +4,7 @@ ghost use Rattle.tcc_graph.specs.Levels.{Judged};
 ghost use Rattle.tcc_derive.specs.Prices.{IsPricesOf};
 ghost use Rattle.tcc_core.specs.Rows.{cap_of};
 ghost use Rattle.tcc_core.specs.Searches.{IsSearchOf};
-ghost use Rattle.tcc_world.specs.Events.{Grows};
+ghost use Rattle.tcc_world.specs.Steps.{Grows};
 
 use crate::stage::Stage;
 use std::alloc::Global;
@@ -38,7 +38,7 @@ fn cap_from(sight: Option<u32>) -> u64
 }
 
 impl Begun {
-    /// One more is settled by a search that goes on.
+    /// One step of a search that goes on.
     pub fn settle(&mut self, prices: &Prices, sight: Option<u32>)
         requires { length self.old.search.row ≡ length prices.now.prices }
         ensures start { self.new.search.start ≡ self.old.search.start }

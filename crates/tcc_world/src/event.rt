@@ -8,7 +8,7 @@ pub enum Event {
     Take(u32, u32),
     /// The worker sees the word.
     Look(u32),
-    /// The worker's search settles one more.
+    /// The worker's search takes one step.
     Settle(u32),
     /// The worker offers the cost at which its search returned.
     Offer(u32, u32),
@@ -18,7 +18,7 @@ pub enum Event {
 
 /// Why an event did not happen; the world is then as it was.
 #[derive(Clone, Copy, Debug, PartialEq, Eq, Error)]
-pub enum EventFault {
+pub enum StepFault {
     /// The event is not enabled.
     #[error("the event is not enabled")]
     NotEnabled,
@@ -34,5 +34,5 @@ pub struct RunFault {
     /// How many events were done.
     pub at: usize,
     /// Why the next one was not.
-    pub fault: EventFault,
+    pub fault: StepFault,
 }

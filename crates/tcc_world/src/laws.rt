@@ -7,7 +7,7 @@ ghost use Rattle.tcc_graph.specs.Routes.{HasCycle, IsLeastCycle};
 ghost use Rattle.tcc_graph.specs.declared.link.Link.{Link};
 ghost use Rattle.tcc_core.specs.Shares.{SettleAt};
 ghost use Rattle.tcc_world.specs.Worlds.{World, shares_of, first_world};
-ghost use Rattle.tcc_world.specs.Events.{IsEnabled, Happens, Runs};
+ghost use Rattle.tcc_world.specs.Steps.{IsEnabled, Happens, Runs};
 ghost use Rattle.tcc_world.specs.Soundness.{IsSound, IsSeed, AllFinished};
 ghost use Rattle.tcc_world.specs.declared.event.Event.{Event};
 

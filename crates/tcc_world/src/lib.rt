@@ -8,5 +8,5 @@ pub mod laws;
 mod stage;
 mod world;
 
-pub use event::{Event, EventFault, RunFault};
+pub use event::{Event, RunFault, StepFault};
 pub use world::World;

@@ -4,14 +4,14 @@ ghost use Rattle.std.specs.List.{range_with_len};
 ghost use Rattle.tcc_graph.specs.Levels.{Judged};
 ghost use Rattle.tcc_derive.specs.Prices.{IsPricesOf};
 ghost use Rattle.tcc_world.specs.Worlds.{first_world, new_worker};
-ghost use Rattle.tcc_world.specs.Events.{Happens, HasReturned, end_of, without, lowered};
+ghost use Rattle.tcc_world.specs.Steps.{Happens, HasReturned, end_of, without, lowered};
 ghost use Rattle.tcc_world.specs.Machines.{world_of, worker_of, IsMachineOf};
 ghost use Rattle.tcc_world.specs.Outcomes.{Answers, HasRun, StopsAt};
 ghost use Rattle.tcc_world.specs.declared.event.Event.TheVariants as event;
 ghost use Rattle.tcc_world.specs.declared.stage.Stage.TheVariants as stages;
 
 use crate::desk::{Begun, Desk};
-use crate::event::{Event, EventFault, RunFault};
+use crate::event::{Event, RunFault, StepFault};
 use crate::stage::Stage;
 use std::alloc::Global;
 use std::marker::Model;
@@ -88,7 +88,7 @@ impl World {
     }
 
     /// One event, if it is enabled; else nothing changes. The prices are those that the world began with.
-    pub fn happen(&mut self, alloc: Global, prices: &Prices, event: Event) -> Result<(), EventFault>
+    pub fn step(&mut self, alloc: Global, prices: &Prices, event: Event) -> Result<(), StepFault>
         requires { self.old.starts ≡ length prices.now.prices }
         ensures starts { self.new.starts ≡ self.old.starts }
         ensures machine { (j : Judged) → IsPricesOf j prices.now → IsMachineOf j self.old → IsMachineOf j self.new }
@@ -112,7 +112,7 @@ impl World {
         prices: &Prices,
         worker: u32,
         start: u32,
-    ) -> Result<(), EventFault>
+    ) -> Result<(), StepFault>
         requires { self.old.starts ≡ length prices.now.prices }
         ensures starts { self.new.starts ≡ self.old.starts }
         ensures machine { (j : Judged) → IsPricesOf j prices.now → IsMachineOf j self.old → IsMachineOf j self.new }
@@ -121,16 +121,16 @@ impl World {
         ensures answers { Answers self.old (event.Take worker start) result self.new }
     {
         if !is_left(&self.left, start) {
-            return Err(EventFault::NotEnabled);
+            return Err(StepFault::NotEnabled);
         }
         let Some(desk) = self.desks.get_mut(worker as usize) else {
-            return Err(EventFault::NotEnabled);
+            return Err(StepFault::NotEnabled);
         };
         if desk.search.is_some() {
-            return Err(EventFault::NotEnabled);
+            return Err(StepFault::NotEnabled);
         }
         let Ok(search) = Search::begin(alloc, prices, start) else {
-            return Err(EventFault::NoMemory);
+            return Err(StepFault::NoMemory);
         };
         desk.search = Some(Begun {
             search,
@@ -141,24 +141,24 @@ impl World {
     }
 
     /// A worker sees the word.
-    fn look(&mut self, worker: u32) -> Result<(), EventFault>
+    fn look(&mut self, worker: u32) -> Result<(), StepFault>
         ensures starts { self.new.starts ≡ self.old.starts }
         ensures machine { (j : Judged) → IsMachineOf j self.old → IsMachineOf j self.new }
         ensures happens { (j : Judged) → IsMachineOf j self.old → OnOk result (Happens j (world_of self.old) (event.Look worker) (world_of self.new)) }
         ensures answers { Answers self.old (event.Look worker) result self.new }
     {
         let Some(desk) = self.desks.get_mut(worker as usize) else {
-            return Err(EventFault::NotEnabled);
+            return Err(StepFault::NotEnabled);
         };
         if desk.search.is_none() {
-            return Err(EventFault::NotEnabled);
+            return Err(StepFault::NotEnabled);
         }
         desk.sight = self.word;
         Ok(())
     }
 
-    /// A worker's search settles one more.
-    fn settle(&mut self, prices: &Prices, worker: u32) -> Result<(), EventFault>
+    /// A worker's search takes a step.
+    fn settle(&mut self, prices: &Prices, worker: u32) -> Result<(), StepFault>
         requires { self.old.starts ≡ length prices.now.prices }
         ensures starts { self.new.starts ≡ self.old.starts }
         ensures machine { (j : Judged) → IsPricesOf j prices.now → IsMachineOf j self.old → IsMachineOf j self.new }
@@ -167,16 +167,16 @@ impl World {
         ensures answers { Answers self.old (event.Settle worker) result self.new }
     {
         let Some(desk) = self.desks.get_mut(worker as usize) else {
-            return Err(EventFault::NotEnabled);
+            return Err(StepFault::NotEnabled);
         };
         let Some(begun) = &desk.search else {
-            return Err(EventFault::NotEnabled);
+            return Err(StepFault::NotEnabled);
         };
         if !is_open(begun.stage) {
-            return Err(EventFault::NotEnabled);
+            return Err(StepFault::NotEnabled);
         }
         let Some(mut begun) = desk.search.take() else {
-            return Err(EventFault::NotEnabled);
+            return Err(StepFault::NotEnabled);
         };
         begun.settle(prices, desk.sight);
         desk.search = Some(begun);
@@ -184,26 +184,26 @@ impl World {
     }
 
     /// A worker offers the cost at which its search returned.
-    fn offer(&mut self, worker: u32, cost: u32) -> Result<(), EventFault>
+    fn offer(&mut self, worker: u32, cost: u32) -> Result<(), StepFault>
         ensures starts { self.new.starts ≡ self.old.starts }
         ensures machine { (j : Judged) → IsMachineOf j self.old → IsMachineOf j self.new }
         ensures happens { (j : Judged) → IsMachineOf j self.old → OnOk result (Happens j (world_of self.old) (event.Offer worker cost) (world_of self.new)) }
         ensures answers { Answers self.old (event.Offer worker cost) result self.new }
     {
         let Some(desk) = self.desks.get_mut(worker as usize) else {
-            return Err(EventFault::NotEnabled);
+            return Err(StepFault::NotEnabled);
         };
         let Some(begun) = &desk.search else {
-            return Err(EventFault::NotEnabled);
+            return Err(StepFault::NotEnabled);
         };
         if !has_returned(begun.stage, cost) {
-            return Err(EventFault::NotEnabled);
+            return Err(StepFault::NotEnabled);
         }
         if desk.offers.push(cost).is_err() {
-            return Err(EventFault::NoMemory);
+            return Err(StepFault::NoMemory);
         }
         let Some(mut begun) = desk.search.take() else {
-            return Err(EventFault::NotEnabled);
+            return Err(StepFault::NotEnabled);
         };
         begun.stage = Stage::Offered(cost);
         desk.search = Some(begun);
@@ -214,26 +214,26 @@ impl World {
     }
 
     /// A worker has done with its start.
-    fn end(&mut self, worker: u32) -> Result<(), EventFault>
+    fn end(&mut self, worker: u32) -> Result<(), StepFault>
         ensures starts { self.new.starts ≡ self.old.starts }
         ensures machine { (j : Judged) → IsMachineOf j self.old → IsMachineOf j self.new }
         ensures happens { (j : Judged) → IsMachineOf j self.old → OnOk result (Happens j (world_of self.old) (event.End worker) (world_of self.new)) }
         ensures answers { Answers self.old (event.End worker) result self.new }
     {
         let Some(desk) = self.desks.get_mut(worker as usize) else {
-            return Err(EventFault::NotEnabled);
+            return Err(StepFault::NotEnabled);
         };
         let Some(begun) = &desk.search else {
-            return Err(EventFault::NotEnabled);
+            return Err(StepFault::NotEnabled);
         };
         if !is_over(begun.stage) {
-            return Err(EventFault::NotEnabled);
+            return Err(StepFault::NotEnabled);
         }
         if desk.finished.reserve(1).is_err() {
-            return Err(EventFault::NoMemory);
+            return Err(StepFault::NoMemory);
         }
         let Some(begun) = desk.search.take() else {
-            return Err(EventFault::NotEnabled);
+            return Err(StepFault::NotEnabled);
         };
         let Ok(()) = desk.finished.push(begun) else {
             unreachable!()
@@ -250,14 +250,14 @@ impl World {
         ensures stops { StopsAt events.now result self.new }
     {
         for at in 0..events.len() {
-            if let Err(fault) = self.happen(alloc, prices, events[at]) {
+            if let Err(fault) = self.step(alloc, prices, events[at]) {
                 return Err(RunFault { at, fault });
             }
         }
         Ok(())
     }
 
-    /// How many starts there are: as many as the prices have transactions, which `happen` and `run` want.
+    /// How many starts there are: as many as the prices have transactions, which `step` and `run` want.
     pub fn starts(&self) -> u32
         ensures { result ≡ self.now.starts }
     {

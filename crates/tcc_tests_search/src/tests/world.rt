@@ -6,7 +6,7 @@ use std::test::Fail;
 use tcc_derive::Prices;
 use tcc_graph::Level;
 use tcc_world::Event::{End, Look, Offer, Settle, Take};
-use tcc_world::{Event, EventFault, RunFault, World};
+use tcc_world::{Event, RunFault, StepFault, World};
 
 /// The stale read twice, in two sessions.
 const TWO_STALE_READS: &str = "a,begin\na,w,x,1\na,commit\na,begin\na,r,x,0\na,commit\n\
@@ -21,15 +21,15 @@ fn begin(rt: &impl Abort, alloc: Global, prices: &Prices, workers: u32) -> World
 }
 
 /// One event.
-fn happen(
+fn step(
     rt: &impl Abort,
     alloc: Global,
     world: &mut World,
     prices: &Prices,
     event: Event,
-) -> Result<(), EventFault> {
+) -> Result<(), StepFault> {
     assert!(rt; world.starts() == prices.count());
-    world.happen(alloc, prices, event)
+    world.step(alloc, prices, event)
 }
 
 /// Some events, all enabled.
@@ -53,8 +53,8 @@ fn assert_refused(
     events: &[Event],
 ) {
     for event in events {
-        let refused = happen(rt, alloc, world, prices, *event);
-        assert!(rt; refused == Err(EventFault::NotEnabled));
+        let refused = step(rt, alloc, world, prices, *event);
+        assert!(rt; refused == Err(StepFault::NotEnabled));
         assert!(rt; world.word().is_none());
     }
 }
@@ -123,7 +123,7 @@ fn stopped_run(rt: HostRuntime) {
     let stopped = world.run(alloc, &prices, &events);
     let wanted = RunFault {
         at: 1,
-        fault: EventFault::NotEnabled,
+        fault: StepFault::NotEnabled,
     };
     assert!(&rt; stopped == Err(wanted));
     assert_eq!(&rt; world.left(), 2);
@@ -166,19 +166,19 @@ type Choice = (u32, u32, u32);
 /// and number.
 fn act(rt: &impl Abort, alloc: Global, world: &mut World, prices: &Prices, choice: Choice) -> bool {
     let (worker, start, turn) = choice;
-    if happen(rt, alloc, world, prices, Take(worker, start)).is_ok() {
+    if step(rt, alloc, world, prices, Take(worker, start)).is_ok() {
         return true;
     }
     if turn == 0 {
-        return happen(rt, alloc, world, prices, Look(worker)).is_ok();
+        return step(rt, alloc, world, prices, Look(worker)).is_ok();
     }
     if turn == 1 {
-        return happen(rt, alloc, world, prices, Settle(worker)).is_ok()
-            || happen(rt, alloc, world, prices, End(worker)).is_ok();
+        return step(rt, alloc, world, prices, Settle(worker)).is_ok()
+            || step(rt, alloc, world, prices, End(worker)).is_ok();
     }
     if turn == 2 {
         for cost in 0..20 {
-            if happen(rt, alloc, world, prices, Offer(worker, cost)).is_ok() {
+            if step(rt, alloc, world, prices, Offer(worker, cost)).is_ok() {
                 return true;
             }
         }

@@ -8,7 +8,7 @@ abbrev pub HasRow : ℕ → Option Begun → Type 0
 HasRow n None = Unit {0}
 HasRow n (Some b) = length b.search.row ≡ n
 
--- the starts left are below so many and no more, and each row has a value for each
+-- the starts left are below so many and no more, and each row has a place for each
 pub record IsFit (starts : ℕ) (left : List ℕ) (desks : List Desk) : Type 0 where
   pub most : starts ≤ MAX_COUNT
   pub few : length left ≤ starts

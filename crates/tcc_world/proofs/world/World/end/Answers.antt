@@ -1,6 +1,6 @@
 use Rattle.std.proofs.Common.{rules, ◌≡◌, ◌∙◌, ◌++◌, ◌∷◌, [], Some, refl, sym, ap}
 use Rattle.tcc_core.specs.Shares.{Stop}
-use Rattle.tcc_world.specs.Events.{end_of}
+use Rattle.tcc_world.specs.Steps.{end_of}
 use Rattle.tcc_world.proofs.Machining.{IsHeld, machine_in, found, held, stop_is, same_world, finished_again, end_made, begun_search}
 use Rattle.tcc_world.proofs.world.World.end.Goals.{In-Some-take}
 use Rattle.tcc_world.proofs.world.World.end.Goals as goal

@@ -1,5 +1,5 @@
 use Rattle.std.proofs.Common.{rules, ◌≡◌, ◌++◌, ◌∷◌, [], refl, sym, subst}
-use Rattle.tcc_world.specs.Events.{HasReturned}
+use Rattle.tcc_world.specs.Steps.{HasReturned}
 use Rattle.tcc_world.specs.declared.desk.Begun.{Begun}
 use Rattle.tcc_world.proofs.Machining.{IsHeld, machine_in, found, held, same_world, offers_again, offer_made, begun_search}
 use Rattle.tcc_world.proofs.world.World.offer.Goals.{In-Some-take}

@@ -1,7 +1,7 @@
 use Rattle.std.proofs.Common.{◌≡◌, take}
 use Rattle.tcc_graph.specs.Levels.{Judged}
 use Rattle.tcc_derive.specs.Prices.{IsPricesOf}
-use Rattle.tcc_world.specs.Events.{Runs}
+use Rattle.tcc_world.specs.Steps.{Runs}
 use Rattle.tcc_world.specs.Machines.{world_of, IsMachineOf}
 use Rattle.tcc_world.proofs.world.World.run.Given as goal
 

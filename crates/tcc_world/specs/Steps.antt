@@ -108,9 +108,9 @@ Grows j s sight old new (stage.Returned distance) = JoinsNearest j s sight old n
 Grows j s sight old new (stage.Cut cap) = (cap ≡ sight) × (new ≡ old) × IsCutOff j s old sight
 Grows j s sight old new (stage.Offered c) = ⊥
 
--- the search of w, which goes on, settles one more
-abbrev pub SettlesOne : Judged → World → ℕ → World → Type 0
-SettlesOne j old w new =
+-- the search of w, which goes on, takes such a step
+abbrev pub TakesStep : Judged → World → ℕ → World → Type 0
+TakesStep j old w new =
     (search : Searching) × (search_of old w ≡ Some search) × (search.stage ≡ stage.Open)
     × (row : List (Option ℕ)) × (at : Stage) × Grows j search.start (worker_at old w).share.sight search.row row at
     × (new ≡ with_worker old w (searching (worker_at old w) (Some (record { start = search.start; row = row; stage = at }))))
@@ -136,7 +136,7 @@ Ends old w new =
 abbrev pub Happens : Judged → World → Event → World → Type 0
 Happens j old (event.Take w s) new = Takes j old w s new
 Happens j old (event.Look w) new = Looks old w new
-Happens j old (event.Settle w) new = SettlesOne j old w new
+Happens j old (event.Settle w) new = TakesStep j old w new
 Happens j old (event.Offer w c) new = Offers old w c new
 Happens j old (event.End w) new = Ends old w new
 
