@@ -1,5 +1,6 @@
 //! Answers for records, and their texts.
 use std::alloc::Global;
+use std::fmt::Display;
 use std::process::Abort;
 use std::thread::Threads;
 use tcc_answer::{Answer, write_text};
@@ -36,6 +37,11 @@ pub fn answer_of(
 ) -> Option<Answer> {
     let snapshot = snapshot_of(alloc, records.as_bytes()).ok()?;
     explain(rt, alloc, &snapshot, level, workers, &OpenGate).ok()
+}
+
+/// The value shows as this text.
+pub fn assert_shows(rt: &impl Abort, alloc: Global, value: &impl Display, text: &str) {
+    assert_eq!(rt; value.to_string(alloc).expect(rt, "room").as_str(), text);
 }
 
 /// The text of an answer.

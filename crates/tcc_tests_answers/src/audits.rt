@@ -1,5 +1,6 @@
 //! What no clause says: that there is an answer, which one it is, and which refusal comes.
 use crate::answers::{OWN_TEXT, text_of};
+use crate::books::{audited, opened, record, recorder};
 use std::alloc::Global;
 use std::process::Abort;
 use std::sync::Wait;
@@ -12,44 +13,6 @@ use tcc_book::{Book, Pass, WholeFault};
 use tcc_explain::{ExplainFault, OpenGate, Workers};
 use tcc_graph::Level;
 use tcc_txn::{MAX_SESSIONS, MAX_TRANSACTIONS, Name, Op, Txn};
-
-/// The key of a session's writes.
-fn key_of(session: &Name) -> Option<Name> {
-    let key = if session.bytes().first() == Some(&b'a') {
-        b"x"
-    } else {
-        b"y"
-    };
-    Name::read(key).ok()
-}
-
-/// Records a transaction of one operation.
-fn record(rt: &impl Wait, alloc: Global, book: &Book, pass: &mut Pass, op: Op) -> Option<()> {
-    let mut ops = Vec::new(alloc);
-    ops.push(op).ok()?;
-    let txn = Txn::new(ops, true).ok()?;
-    book.record(rt, alloc, pass, txn).ok()?;
-    Some(())
-}
-
-/// A recorder's whole life.
-fn recorder(rt: &impl Wait, alloc: Global, book: &Book, pass: Pass) -> Option<Pass> {
-    let mut pass = pass;
-    let key = key_of(pass.session())?;
-    record(rt, alloc, book, &mut pass, Op::Put { key, value: 1 })?;
-    record(rt, alloc, book, &mut pass, Op::Get { key, value: 0 })?;
-    Some(pass)
-}
-
-/// The passes of two sessions, opened in this order.
-fn opened(rt: &impl Wait, alloc: Global, book: &Book, sessions: &[&[u8]]) -> Option<Vec<Pass>> {
-    let mut passes = Vec::new(alloc);
-    for session in sessions {
-        let name = Name::read(session).ok()?;
-        passes.push(book.open(rt, alloc, name).ok()?).ok()?;
-    }
-    Some(passes)
-}
 
 /// Whether the audit gives the text.
 fn gives(
@@ -94,15 +57,7 @@ fn two_recorders(rt: HostRuntime) {
             let Some(pass) = end else {
                 panic!(rt; "a recorder was refused");
             };
-            let missed = audit(
-                &rt,
-                alloc,
-                &book,
-                &passes,
-                Level::Causal,
-                Workers::ONE,
-                &OpenGate,
-            );
+            let missed = audited(&rt, alloc, &book, &passes);
             assert!(rt;
                 matches!(
                     missed,
@@ -133,15 +88,7 @@ fn unresolved(rt: HostRuntime) {
             let done = record(&rt, alloc, &book, pass, Op::Get { key, value });
             assert!(rt; done.is_some());
         }
-        match audit(
-            &rt,
-            alloc,
-            &book,
-            &passes,
-            Level::Causal,
-            Workers::ONE,
-            &OpenGate,
-        ) {
+        match audited(&rt, alloc, &book, &passes) {
             Err(AuditFault::Explain(ExplainFault::Reads(faults))) => {
                 assert_eq!(rt; faults.len() as u64, value - 6);
             }
@@ -184,15 +131,7 @@ fn full_book(rt: HostRuntime) {
     assert_eq!(&rt; LETTERS.len(), MAX_SESSIONS);
     let book = Book::new(alloc).expect(&rt, "a book");
     let passes = full(&rt, alloc, &book).expect(&rt, "room");
-    match audit(
-        &rt,
-        alloc,
-        &book,
-        &passes,
-        Level::Causal,
-        Workers::ONE,
-        &OpenGate,
-    ) {
+    match audited(&rt, alloc, &book, &passes) {
         Ok(Answer::Commit(commit)) => {
             assert_eq!(&rt; commit.sessions(), 64);
             assert_eq!(&rt; commit.order().len(), 4096);

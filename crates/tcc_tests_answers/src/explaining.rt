@@ -1,12 +1,12 @@
 //! Worked histories at a level with their answers as text and as a certificate, worked out by hand.
-use crate::answers::{OWN, OWN_TEXT, STALE, TORN, answer_of, text_of, workers_of};
+use crate::answers::{OWN, OWN_TEXT, STALE, TORN, answer_of, assert_shows, text_of, workers_of};
 use std::alloc::Global;
 use std::process::Abort;
 use std::test::Fail;
 use std::thread::Threads;
 use tcc_answer::Answer;
 use tcc_explain::laws::{certificates, certified, one_answer};
-use tcc_explain::{ExplainFault, OpenGate, Workers, explain};
+use tcc_explain::{ExplainFault, NextFault, OpenGate, Workers, explain};
 use tcc_graph::Level;
 use tcc_reads::ReadFaultKind;
 use tcc_rows::snapshot_of;
@@ -159,18 +159,24 @@ fn read_faults(rt: HostRuntime) -> Result<(), Fail> {
     Ok(())
 }
 
+const UNEXPLAINED: &str = "some operations read or write what no source explains";
+
 #[test]
-fn faults_as_text(rt: HostRuntime) -> Result<(), Fail> {
+fn faults_as_text(rt: HostRuntime) {
     let alloc = rt.alloc();
-    let table = [
-        (
-            ExplainFault::Reads(Vec::new(alloc)),
-            "some operations read or write what no source explains",
-        ),
-        (ExplainFault::NoMemory, "out of memory"),
-    ];
-    for (fault, text) in table {
-        assert_eq!(&rt; fault.to_string(alloc)?.as_str(), text);
-    }
-    Ok(())
+    assert_shows(
+        &rt,
+        alloc,
+        &ExplainFault::Reads(Vec::new(alloc)),
+        UNEXPLAINED,
+    );
+    assert_shows(&rt, alloc, &ExplainFault::NoMemory, "out of memory");
+    assert_shows(&rt, alloc, &NextFault::Reads(Vec::new(alloc)), UNEXPLAINED);
+    assert_shows(&rt, alloc, &NextFault::NoMemory, "out of memory");
+    assert_shows(
+        &rt,
+        alloc,
+        &NextFault::NotNested { link: 2 },
+        "link 2 of the earlier anomaly is none of this history's",
+    );
 }

@@ -1,6 +1,7 @@
 //! Workers and gate reach the threads by every call that searches: a body fails that goes on with one worker, or with a gate
 //! of its own.
 use crate::answers::{OWN_TEXT, answer_of, text_of, workers_of};
+use crate::books::{opened, recorder};
 use std::alloc::Global;
 use std::process::Abort;
 use std::sync::Wait;
@@ -9,12 +10,12 @@ use std::thread::Threads;
 use std::{io, thread};
 use tcc_answer::Answer;
 use tcc_audit::audit;
-use tcc_book::{Book, Pass};
+use tcc_book::Book;
 use tcc_explain::{Workers, explain, explain_next};
 use tcc_graph::Level;
 use tcc_rows::snapshot_of;
 use tcc_run::{Gate, Options, explain_snapshot, run_explain};
-use tcc_txn::{Name, Op, Snapshot, Txn};
+use tcc_txn::Snapshot;
 
 /// A read of the initial value behind an own write, once in each of two sessions: five starts.
 const TWICE: &str = "a,begin\na,w,x,1\na,commit\na,begin\na,r,x,0\na,commit\n\
@@ -138,30 +139,13 @@ fn runs(rt: HostRuntime) {
     }
 }
 
-/// Records a transaction of one operation.
-fn record(rt: &impl Wait, alloc: Global, book: &Book, pass: &mut Pass, op: Op) -> Option<()> {
-    let mut ops = Vec::new(alloc);
-    ops.push(op).ok()?;
-    let txn = Txn::new(ops, true).ok()?;
-    book.record(rt, alloc, pass, txn).ok()?;
-    Some(())
-}
-
-/// The pass of a session that has recorded a write and a read of the initial value behind it.
-fn stale(rt: &impl Wait, alloc: Global, book: &Book, session: &[u8], key: &[u8]) -> Option<Pass> {
-    let mut pass = book.open(rt, alloc, Name::read(session).ok()?).ok()?;
-    let key = Name::read(key).ok()?;
-    record(rt, alloc, book, &mut pass, Op::Put { key, value: 1 })?;
-    record(rt, alloc, book, &mut pass, Op::Get { key, value: 0 })?;
-    Some(pass)
-}
-
 /// The answer for a book with the same history.
 fn audited(rt: &(impl Threads + Wait + Sync), alloc: Global, gate: &Holding) -> Option<Answer> {
     let book = Book::new(alloc).ok()?;
     let mut passes = Vec::new(alloc);
-    passes.push(stale(rt, alloc, &book, b"a", b"x")?).ok()?;
-    passes.push(stale(rt, alloc, &book, b"b", b"y")?).ok()?;
+    for pass in opened(rt, alloc, &book, &[b"a", b"b"])? {
+        passes.push(recorder(rt, alloc, &book, pass)?).ok()?;
+    }
     let two = Workers::new(2)?;
     audit(rt, alloc, &book, &passes, Level::Causal, two, gate).ok()
 }

@@ -141,23 +141,3 @@ fn order_after_no_cycle(rt: HostRuntime) -> Result<(), Fail> {
     }
     Ok(())
 }
-
-#[test]
-fn faults_as_text(rt: HostRuntime) -> Result<(), Fail> {
-    let alloc = rt.alloc();
-    let table = [
-        (
-            NextFault::Reads(Vec::new(alloc)),
-            "some operations read or write what no source explains",
-        ),
-        (NextFault::NoMemory, "out of memory"),
-        (
-            NextFault::NotNested { link: 2 },
-            "link 2 of the earlier anomaly is none of this history's",
-        ),
-    ];
-    for (fault, text) in table {
-        assert_eq!(&rt; fault.to_string(alloc)?.as_str(), text);
-    }
-    Ok(())
-}

@@ -6,6 +6,8 @@ mod answers;
 #[cfg(test)]
 mod audits;
 #[cfg(test)]
+mod books;
+#[cfg(test)]
 mod cycles;
 #[cfg(test)]
 mod explaining;

@@ -71,8 +71,8 @@ fn has_distances(row: &PackedRow, wanted: &[Option<u32>]) -> bool {
     if row.len() != wanted.len() {
         return false;
     }
-    for (place, distance) in wanted.iter().enumerate() {
-        if row.get(place) != *distance {
+    for (index, distance) in wanted.iter().enumerate() {
+        if row.get(index) != *distance {
             return false;
         }
     }
