@@ -13,8 +13,9 @@
 # redis-py, for `make demo-postgres` PostgreSQL and psycopg2. Nothing has to be done before.
 
 PREFIX ?= /usr/local
-# So many processors are used to prove the program.
+# So many processors are used to prove the program; a crate that waits for another one takes a lane too.
 JOBS ?= $(shell nproc)
+LANES = $(shell expr 2 '*' $(JOBS))
 
 TCC = crates/tcc/out/tcc
 DIST = out
@@ -39,7 +40,7 @@ run:
 # since is not proved again.
 build:
 	@cd crates/tcc_graph && rt lib --jobs $(JOBS) >&2
-	@cd crates/tcc && if ! $(IS_BUILT); then rt all test --jobs $(JOBS) >&2; fi
+	@cd crates/tcc && if ! $(IS_BUILT); then rt all test --jobs $(LANES) >&2; fi
 
 # What checks answers, and nothing that finds them. Nearly each of its crates waits for the one before it, so they are proved
 # one after the other, with several jobs each.
