@@ -11,7 +11,7 @@ use Rattle.tcc_graph.specs.declared.link.Link.{Link}
 use Rattle.tcc_core.specs.Rows.{in_row, IsSearchRow, IsEmptyRow, JoinsNearest}
 use Rattle.tcc_core.specs.Shares.{Share, Finished, Stop, Returned, Cut, IsNotAbove, IsStopped, IsFinished, IsCycleCost}
 use Rattle.tcc_graph.proofs.Pairs.{link_below}
-use Rattle.tcc_core.proofs.Steps.{in_set, out_set}
+use Rattle.tcc_core.proofs.Joining.{in_set, out_set}
 use Rattle.tcc_world.specs.Worlds.{Searching}
 use Rattle.tcc_world.specs.Steps.{HasReturned, end_of, lowered, Grows}
 use Rattle.tcc_world.specs.Soundness.{IsAtStage, IsBegunIfAny}
