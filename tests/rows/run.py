@@ -1,13 +1,13 @@
 #!/usr/bin/env python3
 """Runs a built `tcc` on the cases of this folder and compares what it does, byte by byte.
 
-    run.py [--tcc PATH] [--only TEXT] [--workers N | --checker [PATH]] [NAME ..]
+    run.py [--tcc PATH] [--only TEXT] [--workers N [--searched] | --checker [PATH]] [NAME ..]
 
 PATH is split into words, so that "env X=1 tcc" will do. Each difference is one
 line; the last line is `N passed, M failed`. README.md says what a case holds.
-With --workers each run of `explain` gets that number of workers, and has to do
-the same as without it; runs of other commands are left out. With --checker the runs of `check` alone are
-done, by the program that has nothing else, called `tcc` by a link.
+With --workers each run of `explain` gets that number of workers, unless it says one itself, and has to do
+the same as without it; with --searched only those are done that get it and show an anomaly, for which workers search. With
+--checker the runs of `check` alone are done, by the program that has nothing else, called `tcc` by a link.
 """
 import contextlib
 import functools
@@ -211,11 +211,20 @@ def seen_on(screen):
             yield os.read(screen, 1 << 16)
 
 
-def by_workers(run, workers):
-    """The run by so many workers; None where it is no explanation, or says the number itself."""
+def is_searched(run):
+    """Whether the run shows an anomaly, so that workers search for one of least cost."""
+    wanted = run.get("output", [])
+    return wanted != "some" and b"anomaly" in text(wanted)
+
+
+def by_workers(run, workers, searched):
+    """The run by so many workers, where it is an explanation and doesn't say the number itself; else as it is. None where
+    searches alone are wanted and it is none."""
     command, *others = run["arguments"] or [""]
     says = {word.split("=")[0] for word in others if isinstance(word, str)} & {"--workers", "--help", "-h"}
     if command != "explain" or says or run["status"] == COMMAND_LINE:
+        return None if searched else run
+    if searched and not is_searched(run):
         return None
     return {**run, "arguments": [command, "--workers", str(workers), *others]}
 
@@ -317,6 +326,7 @@ def main():
     ask.add_argument("--only", default="", help="only cases whose name holds this text")
     ask.add_argument("--seconds", type=float, default=120, help="for each run, by default 120")
     ask.add_argument("--workers", type=int, help="for each run of explain that doesn't say how many itself")
+    ask.add_argument("--searched", action="store_true", help="only runs that get these workers and show an anomaly")
     ask.add_argument("--checker", nargs="?", const=CHECKER, metavar="PATH", help="the program that has `check` alone, by default the built one")
     ask.add_argument("names", nargs="*", help="only these cases")
     asked = ask.parse_args()
@@ -325,7 +335,7 @@ def main():
     with tempfile.TemporaryDirectory() as folder:
         tcc, picked = asked.tcc, lambda run: run
         if asked.workers:
-            picked = functools.partial(by_workers, workers=asked.workers)
+            picked = functools.partial(by_workers, workers=asked.workers, searched=asked.searched)
         if asked.checker:
             picked, tcc = of_check, [os.path.join(folder, "tcc")]
             os.symlink(os.path.abspath(asked.checker), tcc[0])
