@@ -56,7 +56,7 @@ REGISTER = "register"
 # What tcc takes at most.
 LIMITS = {"sessions": 64, "transactions": 4095, "keys": 1024, "operations in a transaction": 256}
 # The same with `--large`.
-LARGE = {"sessions": 4096, "transactions": 1048575, "keys": 1048576, "operations in a transaction": 256}
+LARGE = {"sessions": 65535, "transactions": 1048575, "keys": 1048576, "operations in a transaction": 256}
 HINTS = {"value": "; if keys have it before they are written, say so with --initial"}
 
 

@@ -20,7 +20,7 @@ pub const MAX_SEALS: usize = 256;
 pub const MAX_INPUT_BYTES: u64 = 134_217_728;
 
 /// The sessions of a large input or snapshot.
-pub const LARGE_SESSIONS: usize = 4096;
+pub const LARGE_SESSIONS: usize = 65_535;
 /// The transactions of a large input or snapshot, aborted ones among them.
 pub const LARGE_TRANSACTIONS: usize = 1_048_575;
 /// The transactions of a large history: those of a snapshot and the initial one.

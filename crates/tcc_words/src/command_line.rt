@@ -132,7 +132,7 @@ fn with_large<'a>(alloc: Global, explain: Command<'a>) -> Result<Command<'a>, Al
     let large = flag(
         alloc,
         "large",
-        "Takes up to 1048575 transactions of 4096 sessions",
+        "Takes up to 1048575 transactions of 65535 sessions",
     );
     let slice = path_option(
         alloc,

@@ -28,7 +28,7 @@ The end of the input wants an answer too, unless nothing was finished since the 
 A write is known by any chain of sessions and reads at the level causal, by one step at atomic.
 What to mend, and why a file failed, is said on standard error.
 
-With '--large' a history has up to 1048575 transactions, 4096 sessions and 1048576 keys, in place of
+With '--large' a history has up to 1048575 transactions, 65535 sessions and 1048576 keys, in place of
 4095, 64 and 1024. Past those an anomaly needn't be a least one, which its first line says, and has no
 certificate: '--slice PATH' writes a small history that has an anomaly of this one; take the slice's.
 
