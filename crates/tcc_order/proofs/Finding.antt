@@ -3,7 +3,7 @@ use Rattle.std.proofs.Common.{◌≡◌, ◌≢◌, ◌<◌, ◌≤◌, ◌*◌,
 use Rattle.std.specs.Prelude.{Option, Some, None, MatchOption}
 use Rattle.std.specs.Global.{Vec}
 use Rattle.std.specs.Int.{div_ceil}
-use Rattle.tcc_order.specs.declared.latest.TheConstants.{WIDE}
+use Rattle.tcc_clocks.specs.declared.latest.TheConstants.{WIDE}
 use Rattle.std.specs.List.{Contains}
 use Rattle.std.proofs.lemmas.Bool.{cases_eq, cases_lt}
 use Rattle.std.proofs.lemmas.List.{get_or_append_left, get_or_at, get_or_past}
@@ -22,15 +22,16 @@ use Rattle.tcc_graph.specs.declared.link.Link.TheVariants as link
 use Rattle.tcc_graph.proofs.Pairs.{step_pair}
 use Rattle.tcc_graph.proofs.Linking.{link_route}
 use Rattle.tcc_graph.proofs.WriterLemmas.{writer_in, read_is_key}
-use Rattle.tcc_order.specs.private.Parents.{parents, previous, previous_one, sources}
+use Rattle.tcc_clocks.specs.Parents.{parents, previous, previous_one, sources}
 use Rattle.tcc_order.specs.private.Held.{holds}
-use Rattle.tcc_order.specs.private.Latest.{IsCovered, AreDerived, AreEnough, AreLinks, Derives, Overwrites, HasNone, LeadsOnward}
+use Rattle.tcc_order.specs.private.Keeping.{IsCovered, AreDerived, AreEnough, AreLinks, Derives, Overwrites, HasNone}
+use Rattle.tcc_clocks.specs.Clocks.{LeadsOnward}
 use Rattle.tcc_order.specs.private.Numbering.{IsOrderOf, IsFirstOf, Joins, HasCircle}
 use Rattle.tcc_order.proofs.Fronts.{holds_there, holds_parts}
 use Rattle.tcc_order.proofs.Kept.{IsLinked, has_link, linked_before}
 use Rattle.tcc_order.proofs.Links.{linked_by, IsFound}
 use Rattle.tcc_order.proofs.OrderOrCycle.{before_join}
-use Rattle.tcc_order.proofs.Reaching.{nearest, parent_before, parent_one, one_parent, parent_less, reads_source, source_reads, session_rises, session_init, session_ends}
+use Rattle.tcc_clocks.proofs.Reaching.{nearest, parent_before, parent_one, one_parent, parent_less, reads_source, source_reads, session_rises, session_init, session_ends}
 
 -- ---- what holds a transaction back does so by a link
 holds_linked : (j : Judged) → IsBySession j.history.entries → (kept : List (List ℕ)) → AreDerived (Derives j) kept → (b x : ℕ)

@@ -12,10 +12,10 @@ use Rattle.tcc_reads.specs.History.{History, count, entry_at}
 use Rattle.tcc_graph.specs.Keys.{keys, key_at}
 use Rattle.tcc_graph.specs.Tables.{row_of}
 use Rattle.tcc_bits.specs.Bits.{is_marked}
-use Rattle.tcc_order.specs.private.Parents.{ArePrevious, parents, previous, previous_one, sources}
+use Rattle.tcc_clocks.specs.Parents.{ArePrevious, parents, previous, previous_one, sources}
 use Rattle.tcc_order.specs.private.Held.{befores, AreInside, holds, IsFreeBy}
 use Rattle.tcc_order.proofs.Greedy.{has, IsFree, IsBelow, place_of, has_at}
-use Rattle.tcc_order.proofs.Reaching.{parent_or_init, parent_less, one_parent, parent_one}
+use Rattle.tcc_clocks.proofs.Reaching.{parent_or_init, parent_less, one_parent, parent_one}
 use Rattle.tcc_txn.proofs.Lists.{in_map, from_map}
 
 -- ---- what holds a transaction back

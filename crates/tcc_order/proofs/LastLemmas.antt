@@ -9,23 +9,18 @@ use Rattle.tcc_reads.specs.History.{History, IsBySession, count, owner, place}
 use Rattle.tcc_graph.specs.Walks.{IsReached}
 use Rattle.tcc_graph.specs.Levels.{causally}
 use Rattle.tcc_graph.specs.Orders.{IsCommitOrder}
-use Rattle.tcc_graph.specs.Relations.{IsCausalPair}
 use Rattle.tcc_graph.specs.Tables.{row_of}
 use Rattle.tcc_graph.proofs.Numberings.{below_in}
-use Rattle.tcc_graph.proofs.Walking.{pair_walk}
 use Rattle.tcc_order.specs.Clocks.{IsBehind, IsLast, IsClocksOf}
-use Rattle.tcc_bits.proofs.Lists.{one_of_taken, still_taken, last_taken, nothing_in}
-use Rattle.tcc_order.specs.private.Parents.{HasSourcesAt, parents}
-use Rattle.tcc_order.specs.private.Lasts.{IsOneOf, IsLastOf, AreLastsOf, IsBefore, IsUpTo, raised, HasLasts}
-use Rattle.tcc_order.specs.private.Latest.{LeadsOnward}
-use Rattle.tcc_order.proofs.Reaching.{reached_by, parents_all, parent_pair, IsBehindBy}
-use Rattle.tcc_order.proofs.Along.{rows_more, parents_below, parents_have}
+use Rattle.tcc_bits.proofs.Lists.{nothing_in}
+use Rattle.tcc_clocks.specs.Parents.{HasSourcesAt, parents}
+use Rattle.tcc_clocks.specs.Clocks.{IsOneOf, IsBefore, LeadsOnward}
+use Rattle.tcc_order.specs.private.Lasts.{IsLastOf, AreLastsOf, raised, HasLasts}
+use Rattle.tcc_clocks.specs.private.Rows.{IsUpTo}
+use Rattle.tcc_clocks.proofs.UpTo.{one_same, up_to_more}
+use Rattle.tcc_clocks.proofs.Along.{rows_more, parents_below, parents_have}
 
 -- ---- one session
--- others are meant, of which each is one of these and the other way round
-pub one_same : (h : History) (P Q : ℕ → Type 0) (session b : ℕ) → (P b → Q b) → IsOneOf h P session b → IsOneOf h Q session b
-one_same h P Q session b to is = record { committed = is.committed; below = is.below; owned = is.owned; meant = to is.meant }
-
 last_same : (h : History) (P Q : ℕ → Type 0) (session last : ℕ) → ((b : ℕ) → P b ↔ Q b) → IsLastOf h P session last → IsLastOf h Q session last
 last_same h P Q session last same is = record {
   attained = go is.attained;
@@ -100,22 +95,6 @@ lasts_none h row n numbers is long = rw is record {
   each = λ s of. record { attained = inl (get_or-replicate n s 0 0 (omega arith)); greatest = λ b one. absurd (nothing_in one.meant.0 one.meant.1) };
 }
 
--- what one more transaction is, and what reaches it
-pub up_to_more : (h : History) (numbers : List ℕ) (k p : ℕ) → k < length numbers → get_or numbers k 0 ≡ p → (b : ℕ)
-    → ((IsUpTo h (Contains (take k numbers)) b ⊎ IsReached h b p) ⊎ (b ≡ p)) ↔ IsUpTo h (Contains (take (k + 1) numbers)) b
-up_to_more h numbers k p inside here b = (there, λ w. by w.0 w.2 (one_of_taken numbers k inside w.0 w.1))
-  where
-    there : (IsUpTo h (Contains (take k numbers)) b ⊎ IsReached h b p) ⊎ (b ≡ p) → IsUpTo h (Contains (take (k + 1) numbers)) b
-    there (inl (inl (q, taken, way))) = (q, still_taken numbers k inside q taken, way)
-    there (inl (inr reached)) = (p, rw (← here) (last_taken numbers k inside), inr reached)
-    there (inr same) = (p, rw (← here) (last_taken numbers k inside), inl same)
-
-    by : (q : ℕ) → (b ≡ q) ⊎ IsReached h b q → Contains (take k numbers) q ⊎ (get_or numbers k 0 ≡ q)
-        → (IsUpTo h (Contains (take k numbers)) b ⊎ IsReached h b p) ⊎ (b ≡ p)
-    by q way (inl taken) = inl (inl (q, taken, way))
-    by q (inl same) (inr is) = inr (same ∙ (sym is ∙ here))
-    by q (inr reached) (inr is) = let at : q ≡ p = sym is ∙ here in inl (inr (rw at at reached))
-
 -- one more transaction, and what reaches it
 pub lasts_more : (h : History) (numbers : List ℕ) (k p : ℕ) (old mid new other : List ℕ) → k < length numbers → get_or numbers k 0 ≡ p → p < count h
     → AreLastsOf h (IsUpTo h (Contains (take k numbers))) old → AreLastsOf h (IsBefore h p) other
@@ -133,24 +112,6 @@ lasts_more h numbers k p old mid new other inside here below are before long_mid
         rw (each_new s (omega (arith, are.long)), each_mid s (omega (arith, are.long)))
         (last_one h (λ b. IsUpTo h (Contains (take k numbers)) b ⊎ IsReached h b p) s p (max (slice_index other s) (slice_index old s)) below
         (last_both h (IsBefore h p) (IsUpTo h (Contains (take k numbers))) s (slice_index other s) (slice_index old s) (before.each s of) (are.each s of)))
-
--- what reaches c is what its parents are, and what reaches them
-pub up_to_parents : (h : History) → IsBySession h.entries → (c : ℕ) → c < count h → HasSourcesAt h c → (b : ℕ)
-    → IsUpTo h (Contains (parents h c)) b ↔ IsBefore h c b
-up_to_parents h numbered c below all b =
-    (λ w. (reached_by h numbered b c below all).0 (there w.0 w.1 w.2), λ r. back ((reached_by h numbered b c below all).1 r))
-  where
-    there : (p : ℕ) → Contains (parents h c) p → (b ≡ p) ⊎ IsReached h b p → IsBehindBy h b c
-    there p parent (inl same) = inl (rw same (parent_pair h numbered c below all p parent))
-    there p parent (inr reached) = inr (p, parent, reached)
-
-    one : Contains (parents h c) b ⊎ ((p : ℕ) × Contains (parents h c) p × IsCausalPair h b p) → IsUpTo h (Contains (parents h c)) b
-    one (inl parent) = (b, parent, inl refl)
-    one (inr (p, parent, pair)) = (p, parent, inr (let w = pair_walk h b p pair in (w.0, w.1)))
-
-    back : IsBehindBy h b c → IsUpTo h (Contains (parents h c)) b
-    back (inl pair) = one (parents_all h numbered c below all b pair)
-    back (inr (p, parent, reached)) = (p, parent, inr reached)
 
 -- ---- tables
 pub table_none : (h : History) (table : List (List ℕ)) (order : List ℕ) → length table ≡ count h → HasLasts h (Contains (take 0 order)) table

@@ -5,17 +5,12 @@ pub mod Within
 pub mod Reached
 pub mod Linked
 pub mod OrderOrCycle
-pub mod Reaching
-pub mod SharedRows
 pub mod QueuedLemmas
-pub mod StepLemmas
 pub mod Fronts
 pub mod Links
-pub mod Along
 pub mod LastLemmas
 mod Worked
 mod WorkedClocks
-pub mod LatestLemmas
 pub mod Readings
 pub mod KeptRows
 pub mod Needing

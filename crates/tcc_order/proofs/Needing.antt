@@ -15,10 +15,10 @@ use Rattle.tcc_graph.proofs.Pairs.{lower_first}
 use Rattle.tcc_graph.proofs.Walking.{pair_walk, reached_append}
 use Rattle.tcc_graph.proofs.WriterLemmas.{writers_below}
 use Rattle.tcc_bits.proofs.Lists.{one_of_taken, still_taken, last_taken, nothing_in, zip_at, zip-long}
-use Rattle.tcc_order.specs.private.Lasts.{IsOneOf, IsBefore}
-use Rattle.tcc_order.specs.private.Latest.{AreOwners, IsLatestOf, AreLatestOf, IsLatestPast, AreLatestPast, AreClocks, TellsNothing, IsOverwritten, IsLiftable, IsLifted, lifted_by}
-use Rattle.tcc_order.specs.private.Latest.{IsCovered, AreDerived, AreEnough, Overwrites}
-use Rattle.tcc_order.specs.declared.latest.TheConstants.{WIDE}
+use Rattle.tcc_clocks.specs.Clocks.{IsOneOf, IsBefore, AreOwners, IsLatestOf, AreLatestOf, AreClocks}
+use Rattle.tcc_order.specs.private.Keeping.{IsLatestPast, AreLatestPast, TellsNothing, IsOverwritten, IsLiftable, IsLifted, lifted_by}
+use Rattle.tcc_order.specs.private.Keeping.{IsCovered, AreDerived, AreEnough, Overwrites}
+use Rattle.tcc_clocks.specs.declared.latest.TheConstants.{WIDE}
 use Rattle.tcc_order.proofs.KeptRows.{row_here, rows_wider, rows_derived}
 use Rattle.tcc_order.proofs.Readings.{IsTaken, named_long, named_each, named_at}
 

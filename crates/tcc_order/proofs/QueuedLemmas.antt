@@ -15,7 +15,7 @@ use Rattle.tcc_graph.specs.Tables.{row_of}
 use Rattle.tcc_bits.specs.Bits.{is_marked}
 use Rattle.tcc_bits.proofs.Lists.{one_of_taken, still_taken, last_taken, nothing_in}
 use Rattle.tcc_reads.specs.History.{History, count}
-use Rattle.tcc_order.specs.private.Parents.{ArePrevious}
+use Rattle.tcc_clocks.specs.Parents.{ArePrevious}
 use Rattle.tcc_order.specs.private.Held.{holds, IsFreeBy, AreRoots, onward}
 use Rattle.tcc_order.specs.private.Queued.{IsPopped, IsQueued, AreQueued, IsAny, IsNot}
 use Rattle.tcc_order.proofs.Fronts.{AreParentsBy, session_fronts}

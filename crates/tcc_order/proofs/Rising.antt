@@ -10,8 +10,8 @@ use Rattle.std.proofs.lemmas.List.Kept.{IsNonDecreasingBy-filter}
 use Rattle.std.proofs.lemmas.List.Sorted.{IsNonDecreasingBy-from_default, IsNonDecreasingBy-short}
 use Rattle.tcc_reads.specs.History.{History, IsBySession, count}
 use Rattle.tcc_graph.specs.Keys.{writers, writes, numbers, is_key}
-use Rattle.tcc_order.specs.private.Lasts.{IsBefore, IsOneOf}
-use Rattle.tcc_order.specs.private.Latest.{AreOwners, AreLatestOf, IsLiftable, IsLifted, IsLastUpTo, IsLastBut, AreOrdered, IsClock}
+use Rattle.tcc_clocks.specs.Clocks.{IsBefore, IsOneOf, AreOwners, AreLatestOf}
+use Rattle.tcc_order.specs.private.Keeping.{IsLiftable, IsLifted, IsLastUpTo, IsLastBut, AreOrdered, IsClock}
 
 numbers_rise : (h : History) → IsNonDecreasing (numbers h)
 numbers_rise h = IsNonDecreasingBy-from_default (λ n. n) (numbers h) 0 (λ i j upto below. go i j upto below)

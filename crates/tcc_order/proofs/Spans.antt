@@ -9,8 +9,9 @@ use Rattle.std.proofs.lemmas.List.Elements.{All-weaker, All-contains, All-contai
 use Rattle.std.proofs.lemmas.List.Sorted.{IsNonDecreasingBy-from_default, IsNonDecreasingBy-short}
 use Rattle.tcc_reads.specs.History.{History, IsBySession}
 use Rattle.tcc_graph.specs.Keys.{key_at, writers}
-use Rattle.tcc_order.specs.private.Latest.{AreOwners, IsLiftable, IsLifted, IsCountBelow, IsBetween, IsSpan, AreSpans, AreBounds}
-use Rattle.tcc_order.specs.declared.latest.TheConstants.{WIDE}
+use Rattle.tcc_clocks.specs.Clocks.{AreOwners}
+use Rattle.tcc_order.specs.private.Keeping.{IsLiftable, IsLifted, IsCountBelow, IsBetween, IsSpan, AreSpans, AreBounds}
+use Rattle.tcc_clocks.specs.declared.latest.TheConstants.{WIDE}
 
 pub counted : (xs : List ℕ) (bound end : ℕ) → end ≤ length xs → IsPartitionPoint (λ b. nat_lt b bound ≡ true) (λ b. nat_lt b bound ≡ false) xs end
     → IsCountBelow xs bound end

@@ -19,12 +19,13 @@ use Rattle.tcc_graph.proofs.Pairs.{step_pair, pair_below, pair_parts}
 use Rattle.tcc_graph.proofs.Walking.{pair_walk}
 use Rattle.tcc_graph.proofs.WriterLemmas.{writer_writes, writer_in, writers_below}
 use Rattle.tcc_bits.proofs.Lists.{one_of_taken, still_taken, last_taken, nothing_in}
-use Rattle.tcc_order.specs.private.Parents.{HasSourcesAt, parents, previous_one, sources}
-use Rattle.tcc_order.specs.private.Latest.{AreOwners, IsLiftable, IsLifted, IsCovered, AreLinks, HasNone, Derives}
+use Rattle.tcc_clocks.specs.Parents.{HasSourcesAt, parents, previous_one, sources}
+use Rattle.tcc_clocks.specs.Clocks.{AreOwners}
+use Rattle.tcc_order.specs.private.Keeping.{IsLiftable, IsLifted, IsCovered, AreLinks, HasNone, Derives}
 use Rattle.tcc_order.specs.private.Stepping.{IsOther, StepsOver, KeepsRead, AreStepped, IsReadSoFar}
 use Rattle.tcc_order.proofs.KeptRows.{row_here, rows_wider, rows_derived}
 use Rattle.tcc_order.proofs.Needing.{same_session, covered_wider}
-use Rattle.tcc_order.proofs.Reaching.{parent_pair, reads_source, session_rises}
+use Rattle.tcc_clocks.proofs.Reaching.{parent_pair, reads_source, session_rises}
 
 -- ---- the last own writer
 module _ (h : History) (numbered : IsBySession h.entries) (owners : List ℕ) (known : AreOwners h owners) (c : ℕ) (low : c < count h) (x : List ℕ) (a last : ℕ)

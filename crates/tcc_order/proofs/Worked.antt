@@ -9,7 +9,7 @@ use Rattle.tcc_graph.specs.Links.{IsReason}
 use Rattle.tcc_graph.specs.Orders.{IsCommitOrder}
 use Rattle.tcc_graph.specs.declared.step.Step.TheVariants as step
 use Rattle.tcc_order.specs.private.Numbering.{Joins, HasCircle}
-use Rattle.tcc_order.specs.private.Parents.{previous, parents}
+use Rattle.tcc_clocks.specs.Parents.{previous, parents}
 use Rattle.tcc_order.specs.private.Held.{holds}
 use Rattle.tcc_order.specs.private.Stepping.{StepsOver}
 use Rattle.tcc_order.proofs.Reached.{walks}

@@ -5,11 +5,13 @@ ghost use Rattle.tcc_graph.specs.Levels.{causally};
 ghost use Rattle.tcc_graph.specs.Orders.{IsCommitOrder};
 ghost use Rattle.tcc_graph.specs.Tables.{row_of};
 ghost use Rattle.tcc_order.specs.Clocks.{IsClocksOf};
-ghost use Rattle.tcc_order.specs.private.Lasts.{AreLastsOf, IsBefore, IsUpTo, raised};
+ghost use Rattle.tcc_order.specs.private.Lasts.{AreLastsOf, raised};
+ghost use Rattle.tcc_clocks.specs.Clocks.{IsBefore};
+ghost use Rattle.tcc_clocks.specs.private.Rows.{IsUpTo};
 
-use crate::parents::parents_of;
 use std::alloc::{AllocError, Global};
 use tcc_bits::Row;
+use tcc_clocks::{parents_of, raise_each};
 use tcc_graph::LargeGraph;
 use tcc_txn::NoMemory;
 
@@ -22,17 +24,6 @@ pub(crate) fn empty_rows<T: Copy>(alloc: Global, count: u32) -> Result<Vec<Row<T
         rows.push(Row::new(Vec::new(alloc)))?;
     }
     Ok(rows)
-}
-
-/// The greater of the two places of each session.
-pub(crate) fn raise_each(row: &mut [u32], other: &[u32])
-    requires { length row.old ≡ length other.now }
-    ensures same { length row.new ≡ length row.old }
-    ensures each { (s : ℕ) → s < length row.old → slice_index row.new s ≡ max (slice_index other.now s) (slice_index row.old s) }
-{
-    for (session, last) in row.iter_mut().enumerate() {
-        *last = other[session].max(*last);
-    }
 }
 
 /// Raises the place of a transaction's session to its own.

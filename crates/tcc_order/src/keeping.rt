@@ -3,22 +3,21 @@
 ghost use Rattle.std.specs.Prelude.{◌≡◌, ◌≢◌, ◌<◌, ◌≤◌, ◌+◌, ◌⊎◌, ◌↔◌, ℕ, length, slice_index, All, Contains, IfOk, OnOk};
 ghost use Rattle.tcc_reads.specs.History.{IsBySession, count, owner};
 ghost use Rattle.tcc_graph.specs.Relations.{IsReadsPair};
-ghost use Rattle.tcc_order.specs.private.Latest.{AreOwners, AreClocks, IsOverwritten, IsLifted, AreDerived, AreEnough, AreLinks, Overwrites, HasNone, LeadsOnward, lifted_by};
+ghost use Rattle.tcc_clocks.specs.Clocks.{AreOwners, AreClocks, LeadsOnward};
+ghost use Rattle.tcc_order.specs.private.Keeping.{IsOverwritten, IsLifted, AreDerived, AreEnough, AreLinks, Overwrites, HasNone, lifted_by};
 ghost use Rattle.tcc_graph.specs.Levels.{causally};
 ghost use Rattle.tcc_graph.specs.Keys.{keys};
 ghost use Rattle.tcc_graph.specs.Tables.{row_of};
 ghost use Rattle.tcc_graph.specs.Orders.{IsNumbering};
-ghost use Rattle.tcc_order.specs.private.Parents.{ArePrevious};
-ghost use Rattle.tcc_order.specs.private.Latest.{AreOrdered, CanLift, IsLastUpTo, IsLastBut, IsCountBelow, AreLatestPast, TellsNothing, IsSpan, AreSpans, AreBounds};
-ghost use Rattle.tcc_order.specs.declared.latest.TheConstants.{WIDE};
+ghost use Rattle.tcc_clocks.specs.Parents.{ArePrevious};
+ghost use Rattle.tcc_order.specs.private.Keeping.{AreOrdered, CanLift, IsLastUpTo, IsLastBut, IsCountBelow, AreLatestPast, TellsNothing, IsSpan, AreSpans, AreBounds};
+ghost use Rattle.tcc_clocks.specs.declared.latest.TheConstants.{WIDE};
 ghost use Rattle.std.specs.List.Sorted.{IsNonDecreasing, IsPartitionPoint};
 ghost use Rattle.std.specs.Prelude.{nat_le, true, false, ◌∷◌, []};
 
-use crate::latest::{WIDE, find_clocks, owners};
-use crate::parents::{between, steps_along};
-use crate::sharing::SharedRows;
 use std::alloc::Global;
 use tcc_bits::Row;
+use tcc_clocks::{SharedRows, WIDE, between, find_clocks, owners, steps_along};
 use tcc_graph::LargeGraph;
 use tcc_txn::NoMemory;
 

@@ -4,13 +4,10 @@
 
 mod clocking;
 mod keeping;
-mod latest;
 pub mod laws;
 mod ordering;
-mod parents;
 mod placing;
 mod ready;
-mod sharing;
 mod stepping;
 
 pub use clocking::clocks;

@@ -5,15 +5,15 @@ ghost use Rattle.tcc_graph.specs.Orders.{IsFirstOrder};
 ghost use Rattle.tcc_graph.specs.Routes.{HasCycle};
 ghost use Rattle.tcc_graph.specs.Levels.{causally, judged};
 ghost use Rattle.tcc_graph.specs.declared.level.Level.{Level};
-ghost use Rattle.tcc_order.specs.private.Parents.{ArePrevious};
-ghost use Rattle.tcc_order.specs.private.Latest.{AreLinks};
+ghost use Rattle.tcc_clocks.specs.Parents.{ArePrevious};
+ghost use Rattle.tcc_order.specs.private.Keeping.{AreLinks};
 
 use crate::keeping::{causal_links, no_links};
-use crate::parents::previous_of_each;
 use crate::placing::first_placing;
 use crate::stepping::atomic_links;
 use std::alloc::Global;
 use tcc_bits::Row;
+use tcc_clocks::previous_of_each;
 use tcc_graph::{LargeGraph, Level};
 use tcc_txn::NoMemory;
 

@@ -4,7 +4,7 @@ ghost use Rattle.tcc_reads.specs.History.{IsBySession, count};
 ghost use Rattle.tcc_graph.specs.Tables.{row_of};
 ghost use Rattle.tcc_bits.specs.Bits.{is_marked, words_for};
 ghost use Rattle.tcc_order.specs.private.Numbering.{IsFirstOf, HasCircle};
-ghost use Rattle.tcc_order.specs.private.Parents.{ArePrevious};
+ghost use Rattle.tcc_clocks.specs.Parents.{ArePrevious};
 ghost use Rattle.tcc_order.specs.private.Held.{holds, AreInside, IsFreeBy, AreRoots, onward};
 ghost use Rattle.tcc_order.specs.private.Queued.{AreQueued, IsAny, IsNot};
 

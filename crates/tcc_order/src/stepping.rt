@@ -4,15 +4,14 @@ ghost use Rattle.std.specs.Prelude.{◌≡◌, ◌≢◌, ◌<◌, ◌≤◌, �
 ghost use Rattle.tcc_reads.specs.History.{IsBySession, count};
 ghost use Rattle.tcc_graph.specs.Keys.{keys, key_at, writers, IsWriter};
 ghost use Rattle.tcc_graph.specs.Levels.{atomically};
-ghost use Rattle.tcc_order.specs.private.Parents.{ArePrevious};
-ghost use Rattle.tcc_order.specs.private.Latest.{IsLifted, AreLinks, lifted_by};
+ghost use Rattle.tcc_clocks.specs.Parents.{ArePrevious};
+ghost use Rattle.tcc_order.specs.private.Keeping.{IsLifted, AreLinks, lifted_by};
 ghost use Rattle.tcc_order.specs.private.Stepping.{IsOther, IsReader, KeepsRead, AreStepped};
 
 use crate::keeping::no_links;
-use crate::latest::owners;
-use crate::parents::find_parents;
 use std::alloc::Global;
 use tcc_bits::Row;
+use tcc_clocks::{find_parents, owners};
 use tcc_graph::LargeGraph;
 use tcc_txn::{Name, NoMemory};
 

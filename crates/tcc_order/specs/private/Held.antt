@@ -5,7 +5,7 @@ use Rattle.std.specs.List.{list_any}
 use Rattle.tcc_reads.specs.History.{History, count}
 use Rattle.tcc_graph.specs.Tables.{row_of}
 use Rattle.tcc_bits.specs.Bits.{is_marked}
-use Rattle.tcc_order.specs.private.Parents.{parents}
+use Rattle.tcc_clocks.specs.Parents.{parents}
 
 -- what stands before x: its parents, and the sources of links that are kept
 abbrev pub befores : History → List (List ℕ) → ℕ → List ℕ

@@ -2,14 +2,7 @@
 use Rattle.std.specs.Prelude.{ℕ, ◌<◌, ◌≤◌, ◌≡◌, ◌⊎◌, ◌==◌, ◌&&◌, nat_lt, if◌then◌else◌, max, List, length, slice_index}
 use Rattle.tcc_reads.specs.History.{History, count, owner, place}
 use Rattle.tcc_graph.specs.Tables.{row_of}
-use Rattle.tcc_graph.specs.Walks.{IsReached}
-
--- b is one of those meant, and a committed transaction of the session
-pub record IsOneOf (h : History) (Is : ℕ → Type 0) (session : ℕ) (b : ℕ) : Type 0 where
-  pub committed : 0 < b
-  pub below : b < count h
-  pub owned : owner h b ≡ session
-  pub meant : Is b
+use Rattle.tcc_clocks.specs.Clocks.{IsOneOf, IsBefore}
 
 -- the greatest place of one of those meant in the session, or 0 where there is none
 pub record IsLastOf (h : History) (Is : ℕ → Type 0) (session : ℕ) (last : ℕ) : Type 0 where
@@ -20,14 +13,6 @@ pub record IsLastOf (h : History) (Is : ℕ → Type 0) (session : ℕ) (last : 
 pub record AreLastsOf (h : History) (Is : ℕ → Type 0) (row : List ℕ) : Type 0 where
   pub long : length row ≡ length h.sessions
   pub each : (session : ℕ) → session < length h.sessions → IsLastOf h Is session (slice_index row session)
-
--- what reaches c
-abbrev pub IsBefore : History → ℕ → ℕ → Type 0
-IsBefore h c b = IsReached h b c
-
--- one of these, or what reaches one of them
-abbrev pub IsUpTo : History → (ℕ → Type 0) → ℕ → Type 0
-IsUpTo h Among b = (p : ℕ) × Among p × ((b ≡ p) ⊎ IsReached h b p)
 
 -- the last place of a session, raised by that of p where p is of the session
 abbrev pub raised : History → ℕ → ℕ → ℕ → ℕ

@@ -4,8 +4,9 @@ use Rattle.tcc_reads.specs.History.{History, IsBySession, count, entry_at}
 use Rattle.tcc_graph.specs.Relations.{IsCausalPair, IsReadsPair, IsSessionPair}
 use Rattle.tcc_graph.specs.Keys.{writers, IsWriter}
 use Rattle.tcc_graph.specs.Levels.{atomically}
-use Rattle.tcc_order.specs.private.Parents.{HasSourcesAt, parents}
-use Rattle.tcc_order.specs.private.Latest.{AreOwners, IsCovered, AreDerived, Derives}
+use Rattle.tcc_clocks.specs.Parents.{HasSourcesAt, parents}
+use Rattle.tcc_clocks.specs.Clocks.{AreOwners}
+use Rattle.tcc_order.specs.private.Keeping.{IsCovered, AreDerived, Derives}
 
 -- the committed transaction b, another than a, writes x
 abbrev pub IsOther : History → List ℕ → ℕ → ℕ → Type 0

@@ -1,6 +1,7 @@
 use Rattle.std.proofs.Common.{take}
 use Rattle.std.specs.Prelude.{Contains}
-use Rattle.tcc_order.specs.private.Lasts.{AreLastsOf, IsUpTo}
+use Rattle.tcc_order.specs.private.Lasts.{AreLastsOf}
+use Rattle.tcc_clocks.specs.private.Rows.{IsUpTo}
 use Rattle.tcc_order.proofs.clocking.clock_row.Given as goal
 
 abbrev pub invariant-loop-number : goal.invariant-loop-number

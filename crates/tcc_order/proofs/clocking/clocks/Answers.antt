@@ -3,9 +3,12 @@ use Rattle.std.proofs.lemmas.List.{take_all}
 use Rattle.std.specs.Prelude.{Contains}
 use Rattle.tcc_reads.specs.History.{count}
 use Rattle.tcc_graph.proofs.Numberings.{below_in}
-use Rattle.tcc_order.specs.private.Parents.{parents}
-use Rattle.tcc_order.specs.private.Lasts.{AreLastsOf, IsBefore, IsUpTo}
-use Rattle.tcc_order.proofs.LastLemmas.{all_below, all_done, lasts_same, up_to_parents, table_more, table_whole}
+use Rattle.tcc_clocks.specs.Parents.{parents}
+use Rattle.tcc_order.specs.private.Lasts.{AreLastsOf}
+use Rattle.tcc_clocks.specs.Clocks.{IsBefore}
+use Rattle.tcc_clocks.specs.private.Rows.{IsUpTo}
+use Rattle.tcc_order.proofs.LastLemmas.{all_below, all_done, lasts_same, table_more, table_whole}
+use Rattle.tcc_clocks.proofs.UpTo.{up_to_parents}
 use Rattle.tcc_order.proofs.clocking.clocks.Goals as goal
 
 pub clock_row-requires-clause-inside : goal.clock_row-requires-clause-inside

@@ -1,7 +1,7 @@
 use Rattle.std.proofs.Common.{rules, ◌≡◌, ◌<◌, ◌≤◌, ◌*◌, ◌∙◌, ◌++◌, ℕ, length, take, drop, sym, arith, take_at}
 use Rattle.tcc_reads.specs.History.{count, owner}
-use Rattle.tcc_order.specs.private.Latest.{Overwrites}
-use Rattle.tcc_order.specs.declared.latest.TheConstants.{WIDE}
+use Rattle.tcc_order.specs.private.Keeping.{Overwrites}
+use Rattle.tcc_clocks.specs.declared.latest.TheConstants.{WIDE}
 use Rattle.tcc_order.proofs.Finding.{none_derived, causal_links, blocks_cover}
 use Rattle.tcc_order.proofs.keeping.causal_links.Goals as goal
 

@@ -1,7 +1,7 @@
 use Rattle.std.proofs.Common.{◌≡◌, ◌<◌, ◌*◌, length}
 use Rattle.tcc_reads.specs.History.{count, owner}
-use Rattle.tcc_order.specs.private.Latest.{AreDerived, AreEnough, Overwrites}
-use Rattle.tcc_order.specs.declared.latest.TheConstants.{WIDE}
+use Rattle.tcc_order.specs.private.Keeping.{AreDerived, AreEnough, Overwrites}
+use Rattle.tcc_clocks.specs.declared.latest.TheConstants.{WIDE}
 use Rattle.tcc_order.proofs.keeping.causal_links.Given as goal
 
 abbrev pub invariant-loop-block : goal.invariant-loop-block

@@ -1,6 +1,6 @@
 use Rattle.std.proofs.Common.{rules, ◌≡◌, ◌∷◌, ◌++◌, []}
 use Rattle.tcc_graph.specs.Keys.{key_at, writers}
-use Rattle.tcc_order.specs.private.Latest.{IsSpan}
+use Rattle.tcc_order.specs.private.Keeping.{IsSpan}
 use Rattle.tcc_order.proofs.Rising.{writers_rise}
 use Rattle.tcc_order.proofs.Spans.{spans_more}
 use Rattle.tcc_order.proofs.keeping.find_spans.Goals as goal

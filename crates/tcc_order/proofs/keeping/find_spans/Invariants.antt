@@ -1,4 +1,4 @@
-use Rattle.tcc_order.specs.private.Latest.{AreSpans}
+use Rattle.tcc_order.specs.private.Keeping.{AreSpans}
 use Rattle.tcc_order.proofs.keeping.find_spans.Given as goal
 
 abbrev pub invariant-loop-index : goal.invariant-loop-index

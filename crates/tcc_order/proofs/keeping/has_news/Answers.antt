@@ -1,6 +1,6 @@
 use Rattle.std.proofs.Common.{◌≡◌, arith}
 use Rattle.tcc_graph.specs.Tables.{row_of}
-use Rattle.tcc_order.proofs.LatestLemmas.{each_more}
+use Rattle.tcc_clocks.proofs.LatestLemmas.{each_more}
 use Rattle.tcc_order.proofs.Readings.{reader_at, reader_below}
 use Rattle.tcc_order.proofs.keeping.has_news.Goals as goal
 

@@ -4,8 +4,8 @@ use Rattle.std.proofs.lemmas.List.{get_or_default, length-set}
 use Rattle.tcc_reads.specs.History.{History, count, owner}
 use Rattle.tcc_graph.specs.Relations.{IsReadsPair}
 use Rattle.tcc_graph.specs.Tables.{row_of}
-use Rattle.tcc_order.specs.private.Lasts.{IsBefore}
-use Rattle.tcc_order.specs.private.Latest.{AreLatestOf, AreLatestPast, IsOverwritten}
+use Rattle.tcc_clocks.specs.Clocks.{IsBefore, AreLatestOf}
+use Rattle.tcc_order.specs.private.Keeping.{AreLatestPast, IsOverwritten}
 use Rattle.tcc_order.proofs.Needing.{IsUpTo, kept_derived, kept_enough, passed_enough}
 use Rattle.tcc_order.proofs.Spans.{owners_rise}
 use Rattle.tcc_order.proofs.keeping.keep_block.Goals as goal

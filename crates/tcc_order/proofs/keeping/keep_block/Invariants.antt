@@ -1,6 +1,6 @@
 use Rattle.std.proofs.Common.{◌≡◌, length}
-use Rattle.tcc_order.specs.private.Latest.{AreDerived, AreEnough, Overwrites}
-use Rattle.tcc_order.specs.declared.latest.TheConstants.{WIDE}
+use Rattle.tcc_order.specs.private.Keeping.{AreDerived, AreEnough, Overwrites}
+use Rattle.tcc_clocks.specs.declared.latest.TheConstants.{WIDE}
 use Rattle.tcc_order.proofs.Needing.{IsUpTo}
 use Rattle.tcc_order.proofs.keeping.keep_block.Given as goal
 

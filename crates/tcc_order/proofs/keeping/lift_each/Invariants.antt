@@ -1,5 +1,5 @@
 use Rattle.std.proofs.Common.{◌≡◌, ◌<◌, ℕ, length, slice_index, take}
-use Rattle.tcc_order.specs.private.Latest.{IsLifted}
+use Rattle.tcc_order.specs.private.Keeping.{IsLifted}
 use Rattle.tcc_order.proofs.keeping.lift_each.Given as goal
 
 abbrev pub invariant-loop-writer : goal.invariant-loop-writer

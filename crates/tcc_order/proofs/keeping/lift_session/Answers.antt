@@ -1,8 +1,7 @@
 use Rattle.std.proofs.Common.{arith}
 use Rattle.tcc_order.proofs.Rising.{lifted_low, lifted_last, lifted_none_else}
 use Rattle.tcc_order.proofs.keeping.lift_session.Goals as goal
-use Rattle.tcc_order.proofs.keeping.lift_session.Goals.{else-last-number-via-then-last-number+else-owners-last}
-use Rattle.tcc_order.proofs.keeping.lift_session.Goals.{else-last-number-via-else-last-number}
+use Rattle.tcc_order.proofs.keeping.lift_session.Goals.{else-last-number-via-then-last-number+else-owners-last, else-last-number-via-else-last-number}
 
 pub returns-then-top-number : goal.returns-then-top-number
 returns-then-top-number c =

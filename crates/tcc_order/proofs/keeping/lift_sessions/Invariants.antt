@@ -1,5 +1,5 @@
 use Rattle.std.proofs.Common.{◌≡◌, ◌<◌, ◌≤◌, ℕ, length, slice_index}
-use Rattle.tcc_order.specs.private.Latest.{IsLifted}
+use Rattle.tcc_order.specs.private.Keeping.{IsLifted}
 use Rattle.tcc_order.proofs.keeping.lift_sessions.Given as goal
 
 abbrev pub invariant-loop-column : goal.invariant-loop-column

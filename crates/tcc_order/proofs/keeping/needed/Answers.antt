@@ -3,8 +3,8 @@ use Rattle.std.specs.Prelude.{zip}
 use Rattle.tcc_reads.specs.History.{count}
 use Rattle.tcc_graph.specs.Keys.{key_at, writers}
 use Rattle.tcc_graph.specs.Tables.{row_of}
-use Rattle.tcc_order.specs.private.Latest.{IsLifted, IsBetween}
-use Rattle.tcc_order.specs.declared.latest.TheConstants.{WIDE}
+use Rattle.tcc_order.specs.private.Keeping.{IsLifted, IsBetween}
+use Rattle.tcc_clocks.specs.declared.latest.TheConstants.{WIDE}
 use Rattle.tcc_order.proofs.Needing.{past_none, overwritten_next, overwritten_same, overwritten_all}
 use Rattle.tcc_order.proofs.Rising.{owners_ordered, writers_rise, latest_clock}
 use Rattle.tcc_order.proofs.Readings.{reader_below}

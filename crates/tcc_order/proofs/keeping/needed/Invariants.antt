@@ -2,7 +2,7 @@ use Rattle.std.proofs.Common.{map}
 use Rattle.std.specs.Prelude.{zip}
 use Rattle.tcc_graph.specs.Keys.{key_at}
 use Rattle.tcc_graph.specs.Tables.{row_of}
-use Rattle.tcc_order.specs.private.Latest.{AreLatestPast, IsOverwritten}
+use Rattle.tcc_order.specs.private.Keeping.{AreLatestPast, IsOverwritten}
 use Rattle.tcc_order.proofs.Readings.{IsTaken}
 use Rattle.tcc_order.proofs.keeping.needed.Given as goal
 

@@ -1,5 +1,5 @@
 use Rattle.std.proofs.Common.{◌≡◌, length}
-use Rattle.tcc_order.specs.private.Latest.{HasNone}
+use Rattle.tcc_order.specs.private.Keeping.{HasNone}
 use Rattle.tcc_order.proofs.keeping.no_links.Given as goal
 
 abbrev pub invariant-loop-row : goal.invariant-loop-row

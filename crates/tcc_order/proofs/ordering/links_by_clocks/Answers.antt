@@ -1,7 +1,7 @@
 use Rattle.tcc_reads.specs.History.{count}
 use Rattle.tcc_graph.specs.Levels.{causally}
 use Rattle.tcc_order.specs.private.Held.{holds}
-use Rattle.tcc_order.specs.private.Latest.{Derives}
+use Rattle.tcc_order.specs.private.Keeping.{Derives}
 use Rattle.tcc_order.specs.private.Numbering.{IsFirstOf}
 use Rattle.tcc_order.proofs.Finding.{none_derived, circle_cycle, pairs_first}
 use Rattle.tcc_order.proofs.ordering.links_by_clocks.Goals as goal

@@ -3,7 +3,7 @@ use Rattle.std.proofs.lemmas.Result.{IfOk-weaker}
 use Rattle.tcc_reads.specs.History.{count}
 use Rattle.tcc_graph.specs.Levels.{Judged, judged}
 use Rattle.tcc_order.specs.private.Held.{holds}
-use Rattle.tcc_order.specs.private.Latest.{AreLinks}
+use Rattle.tcc_order.specs.private.Keeping.{AreLinks}
 use Rattle.tcc_order.specs.private.Numbering.{HasCircle, IsFirstOf}
 use Rattle.tcc_order.proofs.Finding.{found_kept}
 use Rattle.tcc_order.proofs.Links.{IsFound}

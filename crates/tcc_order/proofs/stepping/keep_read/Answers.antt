@@ -2,9 +2,9 @@ use Rattle.std.proofs.Common.{rules, ◌≡◌, ◌<◌, ◌∷◌, ◌++◌, �
 use Rattle.std.specs.Prelude.{Contains}
 use Rattle.std.proofs.lemmas.List.{get_or_read}
 use Rattle.tcc_graph.specs.Keys.{keys, key_at}
-use Rattle.tcc_order.specs.private.Parents.{parents}
+use Rattle.tcc_clocks.specs.Parents.{parents}
 use Rattle.tcc_order.specs.private.Stepping.{IsOther}
-use Rattle.tcc_order.proofs.Along.{parents_below}
+use Rattle.tcc_clocks.proofs.Along.{parents_below}
 use Rattle.tcc_order.proofs.Stepped.{last_steps, last_covers, read_kept, put_one, put_none, writers_inside}
 use Rattle.tcc_order.proofs.stepping.keep_read.Goals as goal
 use Rattle.tcc_order.proofs.stepping.keep_read.Goals.{then-last-gt0+in_ok-push, else-last-gt0}

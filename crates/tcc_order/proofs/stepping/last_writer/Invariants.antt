@@ -1,5 +1,5 @@
 use Rattle.std.proofs.Common.{◌-◌, ◌∷◌, [], slice_index, take}
-use Rattle.tcc_order.specs.private.Latest.{IsLifted}
+use Rattle.tcc_order.specs.private.Keeping.{IsLifted}
 use Rattle.tcc_order.proofs.stepping.last_writer.Given as goal
 
 abbrev pub invariant-loop-writer : goal.invariant-loop-writer

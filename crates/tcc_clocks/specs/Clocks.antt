@@ -1,0 +1,48 @@
+-- Vector clocks of a block of sessions: the greatest number of each session that reaches a transaction.
+use Rattle.std.specs.Prelude.{ℕ, ◌<◌, ◌≤◌, ◌+◌, ◌≡◌, ◌⊎◌, List, length, slice_index}
+use Rattle.tcc_reads.specs.History.{History, count, owner}
+use Rattle.tcc_graph.specs.Relations.{IsCausalPair}
+use Rattle.tcc_graph.specs.Orders.{Before}
+use Rattle.tcc_graph.specs.Tables.{row_of}
+use Rattle.tcc_graph.specs.Walks.{IsReached}
+use Rattle.tcc_clocks.specs.declared.latest.TheConstants.{WIDE}
+
+-- the index of each transaction's session, 0 for `init`
+pub record AreOwners (h : History) (owners : List ℕ) : Type 0 where
+  pub long : length owners ≡ count h
+  pub init : slice_index owners 0 ≡ 0
+  pub each : (n : ℕ) → 0 < n → n < count h → slice_index owners n ≡ owner h n
+
+-- b is one of those meant, and a committed transaction of the session
+pub record IsOneOf (h : History) (Is : ℕ → Type 0) (session : ℕ) (b : ℕ) : Type 0 where
+  pub committed : 0 < b
+  pub below : b < count h
+  pub owned : owner h b ≡ session
+  pub meant : Is b
+
+-- the greatest number of one of those meant in the session, or 0 where there is none
+pub record IsLatestOf (h : History) (Is : ℕ → Type 0) (session : ℕ) (latest : ℕ) : Type 0 where
+  pub attained : (latest ≡ 0) ⊎ IsOneOf h Is session latest
+  pub greatest : (b : ℕ) → IsOneOf h Is session b → b ≤ latest
+
+-- of each session of the block that begins at `from`
+pub record AreLatestOf (h : History) (Is : ℕ → Type 0) (from : ℕ) (row : List ℕ) : Type 0 where
+  pub wide : length row ≡ WIDE
+  pub each : (k : ℕ) → k < WIDE → IsLatestOf h Is (from + k) (slice_index row k)
+
+-- what reaches c
+abbrev pub IsBefore : History → ℕ → ℕ → Type 0
+IsBefore h c b = IsReached h b c
+
+-- the rows of these are worked out
+pub record HasLatest (h : History) (from : ℕ) (IsDone : ℕ → Type 0) (table : List (List ℕ)) : Type 0 where
+  pub long : length table ≡ count h
+  pub each : (c : ℕ) → c < count h → IsDone c → AreLatestOf h (IsBefore h c) from (row_of table c)
+
+-- so for all of them
+abbrev pub AreClocks : History → ℕ → List (List ℕ) → Type 0
+AreClocks h from table = HasLatest h from (λ c. c < count h) table
+
+-- causal pairs lead onward in the order
+abbrev pub LeadsOnward : History → List ℕ → Type 0
+LeadsOnward h order = (b c : ℕ) → IsCausalPair h b c → Before order b c

@@ -1,0 +1,42 @@
+-- The transactions right before each one: in its session, and those that it reads from.
+use Rattle.std.specs.Prelude.{ℕ, ◌<◌, ◌≤◌, ◌-◌, ◌≡◌, ◌==◌, if◌then◌else◌, List, [], ◌∷◌, ◌++◌, length, map, All, take, drop, slice_index, slice_index_or}
+use Rattle.tcc_reads.specs.History.{History, count, entry_at}
+use Rattle.tcc_graph.specs.Relations.{session_pair}
+
+-- the transaction before c in its session, or else `init`
+abbrev pub previous : History → ℕ → ℕ
+previous h c = if session_pair h (c - 1) c then c - 1 else 0
+
+-- a list of them, 0 for `init`
+pub record ArePrevious (h : History) (parents : List ℕ) : Type 0 where
+  pub long : length parents ≡ count h
+  pub init : slice_index parents 0 ≡ 0
+  pub each : (c : ℕ) → 0 < c → c < count h → slice_index parents c ≡ previous h c
+
+-- and where that is one: none for `init`
+abbrev pub previous_one : History → ℕ → List ℕ
+previous_one h c = if c == 0 then [] else previous h c ∷ []
+
+-- the transactions that c reads from
+abbrev pub sources : History → ℕ → List ℕ
+sources h c = map (λ read. read.1) (entry_at h c).reads
+
+-- they are transactions of the history
+abbrev pub HasSourcesAt : History → ℕ → Type 0
+HasSourcesAt h c = All (λ read. read.1 < count h) (entry_at h c).reads
+
+-- the transactions of causal pairs into c from which all others of them reach c
+abbrev pub parents : History → ℕ → List ℕ
+parents h c = previous_one h c ++ sources h c
+
+-- the transactions right before c are these numbers from the one index to before the other
+pub record IsStep (h : History) (c : ℕ) (numbers : List ℕ) (start : ℕ) (end : ℕ) : Type 0 where
+  pub order : start ≤ end
+  pub within : end ≤ length numbers
+  pub is : take (end - start) (drop start numbers) ≡ parents h c
+  pub sources : HasSourcesAt h c
+
+-- so for each position of an order before `n`
+pub record AreSteps (h : History) (order : List ℕ) (spans : List (ℕ × ℕ)) (numbers : List ℕ) (n : ℕ) : Type 0 where
+  pub long : length spans ≡ n
+  pub each : (k : ℕ) → k < n → IsStep h (slice_index order k) numbers (slice_index_or spans k (0, 0)).0 (slice_index_or spans k (0, 0)).1

@@ -1,7 +1,0 @@
-use Rattle.std.proofs.Common.{take}
-use Rattle.std.specs.Prelude.{Contains}
-use Rattle.tcc_order.specs.private.Latest.{HasLatest}
-use Rattle.tcc_order.proofs.latest.find_clocks.Given as goal
-
-abbrev pub invariant-loop-position : goal.invariant-loop-position
-invariant-loop-position l = HasLatest l.graph l.from (Contains (take l.position l.order)) l.table

@@ -1,0 +1,135 @@
+-- The links that are kept, by the greatest numbers of the sessions of a block.
+use Rattle.std.specs.Prelude.{ℕ, ◌<◌, ◌≤◌, ◌+◌, ◌≡◌, ◌≢◌, ◌⊎◌, ◌==◌, ◌&&◌, nat_lt, nat_le, not, if◌then◌else◌, max, List, length, slice_index, slice_index_or, All, Contains}
+use Rattle.std.specs.List.Sorted.{IsNonDecreasing}
+use Rattle.tcc_reads.specs.History.{History, count}
+use Rattle.tcc_graph.specs.Relations.{IsReadsPair, IsSessionPair}
+use Rattle.tcc_graph.specs.Keys.{key_at, writers}
+use Rattle.tcc_graph.specs.Tables.{row_of}
+use Rattle.tcc_graph.specs.Walks.{IsReached}
+use Rattle.tcc_graph.specs.Levels.{Judged, IsAllowedWalk}
+use Rattle.tcc_graph.specs.declared.step.Step.{Step}
+use Rattle.tcc_clocks.specs.Clocks.{IsOneOf}
+use Rattle.tcc_clocks.specs.declared.latest.TheConstants.{WIDE}
+
+-- of those past a number that is known the greatest, if there are any
+pub record IsLatestPast (h : History) (Is : ℕ → Type 0) (session : ℕ) (known : ℕ) (latest : ℕ) : Type 0 where
+  pub attained : (latest ≡ 0) ⊎ IsOneOf h Is session latest
+  pub greatest : (b : ℕ) → IsOneOf h Is session b → b ≤ max latest known
+
+pub record AreLatestPast (h : History) (Is : ℕ → Type 0) (from : ℕ) (known : List ℕ) (row : List ℕ) : Type 0 where
+  pub wide : length row ≡ WIDE
+  pub each : (k : ℕ) → k < WIDE → IsLatestPast h Is (from + k) (slice_index known k) (slice_index row k)
+
+-- all that read from a have its row
+abbrev pub TellsNothing : History → List (List ℕ) → ℕ → Type 0
+TellsNothing h table a = (c : ℕ) (x : List ℕ) → IsReadsPair h a c x → row_of table c ≡ row_of table a
+
+-- b, another writer of a key that is read from a, reaches the reader
+abbrev pub IsOverwritten : History → (ℕ → List ℕ → Type 0) → ℕ → ℕ → Type 0
+IsOverwritten h IsReading a b = (c : ℕ) × (x : List ℕ) × IsReading c x × Contains (writers h x) b × (b ≢ a) × IsReached h b c
+
+-- b, one of these writers, is no other than a, is of session k of the block, and is reached by its clock
+abbrev pub IsLiftable : List ℕ → ℕ → List ℕ → List ℕ → ℕ → ℕ → ℕ → Type 0
+IsLiftable owners from clock writers a k b = (0 < b) × (b ≢ a) × Contains writers b × (slice_index owners b ≡ from + k) × (b ≤ slice_index clock k)
+
+-- the number of session k, raised to the greatest of these
+pub record IsLifted (owners : List ℕ) (from : ℕ) (clock : List ℕ) (writers : List ℕ) (a : ℕ) (k : ℕ) (old : ℕ) (new : ℕ) : Type 0 where
+  pub attained : (new ≡ old) ⊎ IsLiftable owners from clock writers a k new
+  pub kept : old ≤ new
+  pub greatest : (b : ℕ) → IsLiftable owners from clock writers a k b → b ≤ new
+
+-- the same by one writer
+abbrev pub lifted_by : List ℕ → ℕ → List ℕ → ℕ → ℕ → ℕ → ℕ → ℕ
+lifted_by owners from clock a b k latest =
+    if (nat_lt 0 b && not (b == a)) && ((slice_index owners b == from + k) && nat_le b (slice_index clock k)) then max b latest else latest
+
+-- b stands before a by what is kept: a later one of its session, or itself, is kept or reaches a
+abbrev pub IsCovered : History → List (List ℕ) → ℕ → ℕ → Type 0
+IsCovered h kept a b = (d : ℕ) × ((b ≡ d) ⊎ IsSessionPair h b d) × (Contains (row_of kept a) d ⊎ IsReached h d a)
+
+-- each link that is kept is a derived pair
+abbrev pub AreDerived : (ℕ → ℕ → Type 0) → List (List ℕ) → Type 0
+AreDerived Derives kept = (a b : ℕ) → Contains (row_of kept a) b → Derives a b
+
+-- each derived pair that is meant is covered
+abbrev pub AreEnough : History → (ℕ → ℕ → Type 0) → (ℕ → ℕ → Type 0) → List (List ℕ) → Type 0
+AreEnough h Derives IsMeant kept = (a b : ℕ) → Derives a b → 0 < b → IsMeant a b → IsCovered h kept a b
+
+-- the derived pairs at `Causal`
+abbrev pub Overwrites : History → ℕ → ℕ → Type 0
+Overwrites h a b = (a < count h) × (b < count h) × IsOverwritten h (IsReadsPair h a) a b
+
+-- a walk that the level allows leads from b to c
+abbrev pub IsAllowedFrom : Judged → ℕ → ℕ → Type 0
+IsAllowedFrom j b c = (walk : List Step) × IsAllowedWalk j b c walk
+
+-- the derived pairs at a level
+abbrev pub Derives : Judged → ℕ → ℕ → Type 0
+Derives j a b = (a < count j.history) × (b < count j.history)
+    × ((c : ℕ) × (x : List ℕ) × IsReadsPair j.history a c x × Contains (writers j.history x) b × (b ≢ a) × IsAllowedFrom j b c)
+
+-- no link is kept
+abbrev pub HasNone : List (List ℕ) → Type 0
+HasNone kept = (x b : ℕ) → Contains (row_of kept x) b → ⊥
+
+-- links that are kept at a level: each is a derived pair, and all are covered
+pub record AreLinks (j : Judged) (kept : List (List ℕ)) : Type 0 where
+  pub long : length kept ≡ count j.history
+  pub derived : AreDerived (Derives j) kept
+  pub enough : AreEnough j.history (Derives j) (λ a b. Unit {0}) kept
+
+-- the sessions' indices don't fall
+abbrev pub AreOrdered : List ℕ → Type 0
+AreOrdered owners = (m n : ℕ) → 0 < m → m < n → n < length owners → slice_index owners m ≤ slice_index owners n
+
+-- what a clock holds of a session is 0, or of the session
+abbrev pub IsClock : List ℕ → ℕ → List ℕ → Type 0
+IsClock owners from clock =
+    (k : ℕ) → k < length clock
+    → (slice_index clock k ≡ 0) ⊎ ((slice_index clock k < length owners) × (slice_index owners (slice_index clock k) ≡ from + k))
+
+-- numbers of the sessions of a block that a clock and writers may lift: each writer is a transaction, and they rise
+pub record CanLift (owners : List ℕ) (from : ℕ) (clock : List ℕ) (writers : List ℕ) (need : List ℕ) : Type 0 where
+  pub same : length need ≡ length clock
+  pub ordered : AreOrdered owners
+  pub owned : IsClock owners from clock
+  pub rising : IsNonDecreasing writers
+  pub inside : All (λ b. b < length owners) writers
+
+-- the greatest of these that is no greater than `top`, or 0 where there is none
+pub record IsLastUpTo (numbers : List ℕ) (top : ℕ) (last : ℕ) : Type 0 where
+  pub attained : (last ≡ 0) ⊎ (Contains numbers last × (last ≤ top))
+  pub greatest : (b : ℕ) → Contains numbers b → b ≤ top → b ≤ last
+
+-- the same but for a
+pub record IsLastBut (numbers : List ℕ) (top : ℕ) (a : ℕ) (last : ℕ) : Type 0 where
+  pub attained : (last ≡ 0) ⊎ (Contains numbers last × (last ≢ a) × (last ≤ top))
+  pub greatest : (b : ℕ) → Contains numbers b → b ≢ a → b ≤ top → b ≤ last
+
+-- so many of these are less than the bound, and stand before all others
+pub record IsCountBelow (numbers : List ℕ) (bound : ℕ) (end : ℕ) : Type 0 where
+  pub within : end ≤ length numbers
+  pub less : (k : ℕ) → k < end → slice_index numbers k < bound
+  pub others : (k : ℕ) → k < length numbers → slice_index numbers k < bound → k < end
+
+-- some of these, and all of those from `low` to below `high`
+pub record IsBetween (numbers : List ℕ) (low : ℕ) (high : ℕ) (found : List ℕ) : Type 0 where
+  pub among : (b : ℕ) → Contains found b → Contains numbers b
+  pub all : (b : ℕ) → Contains numbers b → low ≤ b → b < high → Contains found b
+  pub rising : IsNonDecreasing found
+
+-- those of these numbers from `low` to below `high` begin and end at these indices
+pub record IsSpan (numbers : List ℕ) (low : ℕ) (high : ℕ) (start : ℕ) (end : ℕ) : Type 0 where
+  pub first : IsCountBelow numbers low start
+  pub last : IsCountBelow numbers high end
+
+-- so for the writers of each key
+pub record AreSpans (h : History) (low : ℕ) (high : ℕ) (spans : List (ℕ × ℕ)) (end : ℕ) : Type 0 where
+  pub long : length spans ≡ end
+  pub each : (key_index : ℕ) → key_index < end
+      → IsSpan (writers h (key_at h key_index)) low high (slice_index_or spans key_index (0, 0)).0 (slice_index_or spans key_index (0, 0)).1
+
+-- the transactions of the sessions of a block stand from `low` to below `high`
+abbrev pub AreBounds : List ℕ → ℕ → ℕ → ℕ → Type 0
+AreBounds owners from low high =
+    (b : ℕ) → b < length owners → from ≤ slice_index owners b → slice_index owners b < from + WIDE → (low ≤ b) × (b < high)
