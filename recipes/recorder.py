@@ -1,5 +1,5 @@
-"""What the recorders of redis/ and postgres/ share: their command line, the servers that they start, the clients that work there,
-and how what these noted goes out."""
+"""What the recorders of redis/, postgres/ and galera/ share: their command line, the servers that they start, the clients that
+work there, and how what these noted goes out."""
 import abc
 import argparse
 import contextlib
@@ -11,15 +11,20 @@ import sys
 import threading
 import time
 from dataclasses import dataclass, field
-from typing import Callable, List, Sequence, Tuple, Type
+from typing import Any, Callable, Iterator, List, Optional, Sequence, Tuple, Type
 
-from noted import Transaction, records, session_name, settle, summary
+from noted import Transaction, annotations, records, session_name, settle, summary, warnings
+from notes import write_notes
 
-MOST_TRANSACTIONS = 4095
-MOST_KEYS = 1024
-# A value is a counter and the number of the client that wrote it.
-CLIENTS = 256
+MOST_TRANSACTIONS = 1048575
+MOST_KEYS = 1048576
+# A value is a counter and the number of the client that wrote it, which is less than this.
+CLIENTS = 4096
 LOOPBACK = "127.0.0.1"
+# So long a client waits before it connects again.
+PAUSE_SECONDS = 0.05
+
+Failures = Tuple[Type[Exception], ...]
 
 
 class NoServer(Exception):
@@ -35,19 +40,24 @@ def count(least: int, most: int) -> Callable[[str], int]:
     return number
 
 
-def command_line(about: str, example: str) -> argparse.ArgumentParser:
+def command_line(about: Optional[str], example: str) -> argparse.ArgumentParser:
     return argparse.ArgumentParser(description=about, epilog=example, formatter_class=argparse.RawDescriptionHelpFormatter)
 
 
 def arguments(ask: argparse.ArgumentParser) -> argparse.Namespace:
-    """What is asked for, with how much clients do, which is no more than `tcc` takes."""
-    ask.add_argument("--clients", type=count(1, 32), default=4, metavar="N", help="so many clients, 1 to 32, by default 4")
+    """What is asked for, with how much clients do, which is no more than `tcc --large` takes."""
+    ask.add_argument("--clients", type=count(1, CLIENTS - 1), default=4, metavar="N", help="so many clients, by default 4")
     ask.add_argument("--transactions", type=count(1, MOST_TRANSACTIONS), default=200, metavar="N",
                      help="so many for each, by default 200")
     ask.add_argument("--keys", type=count(1, MOST_KEYS), default=8, metavar="N",
                      help="so many keys, 1 to %d, by default 8" % MOST_KEYS)
-    ask.add_argument("--seconds", type=count(1, 600), default=20, metavar="N", help="clients stop after so many, by default 20")
+    ask.add_argument("--seconds", type=count(1, 86400), default=20, metavar="N", help="clients stop after so many, by default 20")
     ask.add_argument("--seed", type=int, default=1, metavar="N", help="which keys are picked follows from it, by default 1")
+    ask.add_argument("--keep-sessions", action="store_true",
+                     help="behind a broken connection a client's session goes on, where all its outcomes are known; so writes that "
+                     "the store said were committed, and then lost, show")
+    ask.add_argument("--notes", metavar="FILE", help="the file for annotations: of each transaction the node, the time, and why "
+                     "it didn't commit")
     asked = ask.parse_args()
     if asked.clients * asked.transactions > MOST_TRANSACTIONS:
         ask.error("that would be more than %d transactions in all, which is what tcc takes" % MOST_TRANSACTIONS)
@@ -56,16 +66,17 @@ def arguments(ask: argparse.ArgumentParser) -> argparse.Namespace:
 
 def free_port() -> int:
     with socket.create_server((LOOPBACK, 0)) as listening:
-        return listening.getsockname()[1]
+        port: int = listening.getsockname()[1]
+        return port
 
 
-def start(held: contextlib.ExitStack, words: List[str], ending: int, seconds: float, **where) -> None:
+def start(held: contextlib.ExitStack, words: List[str], ending: int, seconds: float, **where: Any) -> None:
     """Starts a server, to be stopped with `held` by a signal, or by force where that takes more than so many seconds."""
     running = subprocess.Popen(words, stdin=subprocess.DEVNULL, stdout=subprocess.DEVNULL, stderr=subprocess.DEVNULL, **where)
     held.callback(stop, running, ending, seconds)
 
 
-def stop(running: subprocess.Popen, ending: int, seconds: float) -> None:
+def stop(running: "subprocess.Popen[bytes]", ending: int, seconds: float) -> None:
     running.send_signal(ending)
     try:
         running.wait(seconds)
@@ -74,7 +85,7 @@ def stop(running: subprocess.Popen, ending: int, seconds: float) -> None:
         running.wait()
 
 
-def wait_until(is_so: Callable[[], bool], failing: Tuple[Type[Exception], ...], seconds: float, otherwise: str) -> None:
+def wait_until(is_so: Callable[[], bool], failing: Failures, seconds: float, otherwise: str) -> None:
     """Waits until it is so; each time that it is asked it may fail."""
     until = time.monotonic() + seconds
     while time.monotonic() < until:
@@ -89,29 +100,40 @@ class Store(abc.ABC):
     """The servers as clients see them."""
 
     @abc.abstractmethod
-    def broken(self) -> Tuple[Type[Exception], ...]:
-        """What is raised where a connection broke, or a transaction has an unknown outcome."""
+    def broken(self) -> Failures:
+        """What is raised where a connection breaks or is refused."""
 
     @abc.abstractmethod
-    def connections(self, held: contextlib.ExitStack) -> Sequence:
+    def connections(self, held: contextlib.ExitStack) -> Sequence[Any]:
         """Those of one session, to be closed with `held`."""
 
     @abc.abstractmethod
-    def turn(self, client: "Client", connections: Sequence) -> None:
+    def turn(self, client: "Client", connections: Sequence[Any]) -> None:
         """The transactions of one turn, which the client notes."""
+
+
+def told(error: Exception) -> str:
+    """An error in a word or two: its type, and its number where it has one."""
+    number = [str(error.args[0])] if error.args and isinstance(error.args[0], int) else []
+    return " ".join([type(error).__name__, *number])
 
 
 @dataclass
 class Client:
-    """A client: its number, its share of chance, and what it did; a session lasts as long as its connections."""
+    """A client: its number, its share of chance, and what it did. A session lasts as long as its connections, or where sessions
+    are kept, until an outcome is unknown."""
 
     store: Store
     number: int
     keys: int
     chance: random.Random
+    keeps_session: bool = False
+    begun: float = field(default_factory=time.monotonic)
     done: List[Transaction] = field(default_factory=list)
     sessions: int = 0
     written: int = 0
+    has_session: bool = False
+    failed: Optional[str] = None
 
     def session(self) -> str:
         return session_name(self.number, self.sessions)
@@ -120,49 +142,98 @@ class Client:
         return "k%d" % self.chance.randrange(self.keys)
 
     def new_value(self) -> int:
-        """A counter, and the client's number in the lowest byte."""
+        """A counter, and the client's number in the lowest bits."""
         self.written += 1
         return self.written * CLIENTS + self.number
 
+    @contextlib.contextmanager
+    def transaction(self, node: str = "", refused: Failures = ()) -> Iterator[Transaction]:
+        """A transaction, noted once it has ended. It committed where nothing is raised. What the store raises where it refuses a
+        transaction makes it an abort, and so does whatever breaks before its COMMIT goes out; behind that the outcome is unknown.
+        Of what didn't commit the reads, which nobody judges, are left out, and so is what only read."""
+        mine = Transaction(self.session(), [], False, node)
+        try:
+            yield mine
+            mine.committed = True
+        except refused as error:
+            mine.committed, mine.note = False, told(error)
+            raise
+        except Exception as error:
+            mine.note = told(error)
+            raise
+        finally:
+            self.note(mine)
+
+    def note(self, mine: Transaction) -> None:
+        mine.time = time.monotonic() - self.begun
+        if not mine.committed:
+            mine.operations = [step for step in mine.operations if step[0] == "w"]
+        if mine.committed or mine.operations:
+            self.done.append(mine)
+            self.has_session = self.has_session and mine.committed is not None
+
     def work(self, transactions: int, until: float) -> None:
-        """Makes so many transactions, in a new session behind each connection that broke."""
+        """Makes so many transactions, over new connections behind each one that broke; those that are refused are asked for
+        again, and use up no name of a session."""
         while len(self.done) < transactions and time.monotonic() < until:
-            self.sessions += 1
-            with contextlib.ExitStack() as held, contextlib.suppress(*self.store.broken()):
+            with contextlib.suppress(*self.store.broken()), contextlib.ExitStack() as held:
                 connections = self.store.connections(held)
+                if not (self.has_session and self.keeps_session):
+                    self.sessions += 1
+                    self.has_session = True
                 while len(self.done) < transactions and time.monotonic() < until:
                     self.store.turn(self, connections)
                 return
-            time.sleep(0.05)
+            time.sleep(PAUSE_SECONDS)
+
+    def run(self, transactions: int, until: float) -> None:
+        """Works; of what nobody expected it is kept why the client ended."""
+        try:
+            self.work(transactions, until)
+        except Exception as error:
+            self.failed = "client %d ended early, %s: %s" % (self.number, told(error), error)
 
 
-def run_clients(store: Store, asked: argparse.Namespace) -> List[Transaction]:
+@dataclass
+class Recorded:
+    """What all clients did, and what ended some of them before their time."""
+
+    done: List[Transaction]
+    failures: List[str] = field(default_factory=list)
+
+
+def run_clients(store: Store, asked: argparse.Namespace) -> Recorded:
     """Lets clients work side by side, and gives all that they did."""
-    clients = [Client(store, number, asked.keys, random.Random("%d %d" % (asked.seed, number)))
+    begun = time.monotonic()
+    clients = [Client(store, number, asked.keys, random.Random("%d %d" % (asked.seed, number)), asked.keep_sessions, begun)
                for number in range(1, asked.clients + 1)]
-    until = time.monotonic() + asked.seconds
-    working = [threading.Thread(target=one.work, args=(asked.transactions, until), daemon=True) for one in clients]
+    until = begun + asked.seconds
+    working = [threading.Thread(target=one.run, args=(asked.transactions, until), daemon=True) for one in clients]
     for thread in working:
         thread.start()
     for thread in working:
         thread.join()
-    return [one for client in clients for one in client.done]
+    return Recorded([one for client in clients for one in client.done], [one.failed for one in clients if one.failed])
 
 
-def write_records(recorded: Callable[[argparse.Namespace], List[Transaction]], asked: argparse.Namespace, library: str,
+def write_records(recorded: Callable[[argparse.Namespace], Recorded], asked: argparse.Namespace, library: str,
                   package: str) -> int:
     """Writes the records of what clients did, and on standard error what was left out; the exit status. Where there is no
     such library, it names the package of Debian that has it."""
     signal.signal(signal.SIGTERM, lambda *_: sys.exit(1))
     try:
-        done = recorded(asked)
+        all_of_them = recorded(asked)
     except ImportError:
         print("record.py: no %s; in Debian the package %s has it, for /usr/bin/python3" % (library, package), file=sys.stderr)
         return 1
     except (NoServer, OSError, subprocess.SubprocessError) as error:
         print("record.py: %s" % error, file=sys.stderr)
         return 1
+    done = all_of_them.done
     unknown = settle(done)
     sys.stdout.writelines(record + "\n" for record in records(done))
-    print("record.py: " + summary(done, unknown), file=sys.stderr)
-    return 0
+    if asked.notes:
+        write_notes(asked.notes, annotations(done))
+    for line in (*warnings(done), *all_of_them.failures, summary(done, unknown)):
+        print("record.py: " + line, file=sys.stderr)
+    return 1 if all_of_them.failures else 0

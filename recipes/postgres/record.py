@@ -6,15 +6,16 @@ of some keys and writes of others, at the level of isolation that --isolation sa
 streaming replica too, which applies what the primary did half a second later: each transaction that writes is then followed
 by one that reads the same keys at the replica. With `--kill N` a client's backend is ended N times while they work.
 
-A transaction that the server refuses (a conflict of two writers) is noted as aborted; one whose COMMIT broke off as of
-unknown outcome, and then the client goes on in a new session with a connection of its own, as behind any broken connection.
+A transaction that the server refuses (a conflict of two writers) is noted as aborted, and so is one that broke off before its
+COMMIT went out; one that broke off in its COMMIT is of unknown outcome. Then the client goes on in a new session with a
+connection of its own, as behind any broken connection; with --keep-sessions in the one that it has, if no outcome is unknown.
 
 Standard output has the records, standard error what was left out. The servers are stopped and their folder goes in the end,
 whatever comes. Where the script runs as root, the servers run as the user of --user, since PostgreSQL doesn't run as root;
 that needs Python 3.9.
 
 Needs PostgreSQL's programs (in Debian the package postgresql; they are looked for on the path and in /usr/lib/postgresql) and
-the library psycopg2 (python3-psycopg2), and noted.py and recorder.py in the folder above.
+the library psycopg2 (python3-psycopg2), and noted.py, notes.py and recorder.py in the folder above.
 """
 import argparse
 import contextlib
@@ -35,8 +36,7 @@ from typing import Dict, Iterator, List, Optional, Sequence, Tuple, Type
 
 sys.path.insert(0, str(pathlib.Path(__file__).resolve().parent.parent))
 import recorder  # noqa: E402
-from noted import Transaction  # noqa: E402
-from recorder import LOOPBACK, Client, NoServer, Store, count, run_clients  # noqa: E402
+from recorder import LOOPBACK, Client, NoServer, Recorded, Store, count, run_clients  # noqa: E402
 
 EXAMPLE = """example: reads of two states within one transaction, and the rows of what they saw
   $ record.py --isolation read-committed > records.csv
@@ -102,15 +102,15 @@ class Host:
         recorder.wait_until(answered, (driver.OperationalError,), START_SECONDS, "the %s didn't answer" % what)
 
 
-def start_primary(driver, host: Host, held: contextlib.ExitStack) -> int:
-    """A new server with the table of registers, and its port."""
+def start_primary(driver, host: Host, held: contextlib.ExitStack, clients: int) -> int:
+    """A new server with the table of registers, and its port; it has room for so many clients."""
     secret = host.folder / "password"
     secret.write_text(host.password + "\n")
     if host.user:
         shutil.chown(secret, host.user)
     secret.chmod(0o600)
     host.run("initdb", "-D", "primary", "-U", "tcc", "-A", "scram-sha-256", "--pwfile", str(secret), "--no-sync", "-E", "UTF8")
-    port = host.start(held, "primary", "wal_level=replica", "max_wal_senders=4")
+    port = host.start(held, "primary", "wal_level=replica", "max_wal_senders=4", "max_connections=%d" % (clients + 20))
     host.wait_for(driver, port, "primary")
     with contextlib.closing(host.connect(driver, port, "making")) as server:
         with server, server.cursor() as cursor:
@@ -118,11 +118,12 @@ def start_primary(driver, host: Host, held: contextlib.ExitStack) -> int:
     return port
 
 
-def start_replica(driver, host: Host, held: contextlib.ExitStack, primary: int, delay: int) -> int:
-    """A replica that follows the primary with a delay of so many milliseconds, and its port."""
+def start_replica(driver, host: Host, held: contextlib.ExitStack, primary: int, asked: argparse.Namespace) -> int:
+    """A replica that follows the primary with the delay that is asked for, and its port."""
     host.run("pg_basebackup", "-D", "replica", "-h", LOOPBACK, "-p", str(primary), "-U", "tcc", "-R", "-X", "stream",
              "-c", "fast", "--no-sync")
-    port = host.start(held, "replica", "hot_standby=on", "recovery_min_apply_delay=%dms" % delay)
+    port = host.start(held, "replica", "hot_standby=on", "recovery_min_apply_delay=%dms" % asked.delay,
+                      "max_connections=%d" % (asked.clients + 20))
     host.wait_for(driver, port, "replica")
     return port
 
@@ -155,37 +156,29 @@ class Servers(Store):
         return server
 
     def turn(self, client: Client, connections: Sequence) -> None:
-        keys = self.transact(client, connections[0], some_keys(client), some_keys(client))
+        keys = self.transact(client, connections[0], "primary", some_keys(client), some_keys(client))
         if len(connections) > 1:
-            self.transact(client, connections[1], keys, [])
+            self.transact(client, connections[1], "replica", keys, [])
 
-    def transact(self, client: Client, server, reads: List[str], writes: List[str]) -> List[str]:
+    def transact(self, client: Client, server, node: str, reads: List[str], writes: List[str]) -> List[str]:
         """One transaction, noted as it goes, of reads and then writes; gives the keys of both."""
-        mine = Transaction(client.session(), [], False)
-        committing = False
+        refused = self.driver.extensions.TransactionRollbackError
         try:
-            with server.cursor() as cursor:
+            with client.transaction(node, (refused,)) as mine, server.cursor() as cursor:
                 for key in reads:
                     cursor.execute(READ, (key,))
                     found = cursor.fetchone()
-                    mine.operations.append(("r", key, found[0] if found else 0))
+                    mine.read(key, found[0] if found else 0)
                     time.sleep(PAUSE_SECONDS)
                 for key in writes:
                     value = client.new_value()
-                    mine.operations.append(("w", key, value))
+                    mine.write(key, value)
                     cursor.execute(WRITE, (key, value))
                     time.sleep(PAUSE_SECONDS)
-            committing = True
-            server.commit()
-            mine.committed = True
-        except self.driver.extensions.TransactionRollbackError:
+                mine.committing()
+                server.commit()
+        except refused:
             server.rollback()
-        except self.broken():
-            if committing:
-                mine = Transaction(mine.session, [step for step in mine.operations if step[0] == "w"], None)
-            raise
-        finally:
-            client.done.append(mine)
         return reads + writes
 
 
@@ -216,7 +209,7 @@ def end_backends(servers: Servers, times: int, ended: threading.Event) -> None:
                 cursor.execute(KILL)
 
 
-def recorded(asked: argparse.Namespace) -> List[Transaction]:
+def recorded(asked: argparse.Namespace) -> Recorded:
     """Starts the servers, lets the clients work, stops the servers."""
     import psycopg2
     import psycopg2.extensions
@@ -226,8 +219,8 @@ def recorded(asked: argparse.Namespace) -> List[Transaction]:
         if user:
             shutil.chown(folder, user)
         host = Host(folder, user)
-        primary = start_primary(psycopg2, host, held)
-        replica = start_replica(psycopg2, host, held, primary, asked.delay) if asked.read_at == "replica" else None
+        primary = start_primary(psycopg2, host, held, asked.clients)
+        replica = start_replica(psycopg2, host, held, primary, asked) if asked.read_at == "replica" else None
         servers = Servers(psycopg2, host, primary, replica, asked.isolation)
         with ending_backends(servers, asked.kill) if asked.kill else contextlib.nullcontext():
             return run_clients(servers, asked)

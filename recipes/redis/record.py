@@ -9,8 +9,8 @@ the replica, whose link to the primary is held for the first second: so clients 
 Standard output has the records, standard error what was left out. Both servers are stopped in the end, whatever comes, and
 the whole takes no more than the seconds of --seconds and those in which a server starts and stops.
 
-Needs redis-server on the path and the library redis-py (in Debian the packages redis-server and python3-redis), and noted.py
-and recorder.py in the folder above.
+Needs redis-server on the path and the library redis-py (in Debian the packages redis-server and python3-redis), and noted.py,
+notes.py and recorder.py in the folder above.
 """
 import argparse
 import contextlib
@@ -22,12 +22,11 @@ import sys
 import tempfile
 import threading
 from dataclasses import dataclass, field
-from typing import Callable, List, Sequence, Tuple, Type
+from typing import Callable, Sequence, Tuple, Type
 
 sys.path.insert(0, str(pathlib.Path(__file__).resolve().parent.parent))
 import recorder  # noqa: E402
-from noted import Transaction  # noqa: E402
-from recorder import LOOPBACK, Client, NoServer, Store, run_clients  # noqa: E402
+from recorder import LOOPBACK, Client, NoServer, Recorded, Store, run_clients  # noqa: E402
 
 EXAMPLE = """example: clients that read at a replica, and the rows of what they saw
   $ record.py --read-at replica > records.csv
@@ -110,31 +109,31 @@ class Servers(Store):
 
     def turn(self, client: Client, connections: Sequence) -> None:
         write_at, read_at = connections
-        read(client, read_at, write(client, write_at))
+        read(client, read_at, write(client, write_at), "primary" if self.read_at == self.write_at else "replica")
 
 
 def write(client: Client, server) -> str:
-    """Writes a new value at a key, which it gives."""
+    """Writes a new value at a key, which it gives; all goes out in one step, so what breaks there is of unknown outcome."""
     key, value = client.some_key(), client.new_value()
-    mine = Transaction(client.session(), [("w", key, value)], None)
-    client.done.append(mine)
-    with server.pipeline(transaction=True) as steps:
-        steps.set(key, value).execute()
-    mine.committed = True
+    with client.transaction("primary") as mine, server.pipeline(transaction=True) as steps:
+        steps.set(key, value)
+        mine.write(key, value)
+        mine.committing()
+        steps.execute()
     return key
 
 
-def read(client: Client, server, key: str) -> None:
+def read(client: Client, server, key: str, node: str) -> None:
     """Reads the key and another one; what can't be read isn't recorded."""
     keys = [key, client.some_key()]
-    with server.pipeline(transaction=True) as steps:
+    with client.transaction(node) as mine, server.pipeline(transaction=True) as steps:
         for one in keys:
             steps.get(one)
-        values = steps.execute()
-    client.done.append(Transaction(client.session(), [("r", one, int(value or 0)) for one, value in zip(keys, values)], True))
+        for one, value in zip(keys, steps.execute()):
+            mine.read(one, int(value or 0))
 
 
-def recorded(asked: argparse.Namespace) -> List[Transaction]:
+def recorded(asked: argparse.Namespace) -> Recorded:
     """Starts the servers, lets the clients work, stops the servers."""
     import redis.exceptions
     if not shutil.which("redis-server"):

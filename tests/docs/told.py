@@ -41,7 +41,10 @@ HELD = {
         "up to {MAX_TRANSACTIONS} transactions, or a million with `--large`",
         "Names of sessions and keys have 1 to {MAX_NAME_BYTES} bytes",
         "lets N threads search for an anomaly, 1 to {MAX_WORKERS}."),
-    "recipes/recorder.py": ("MOST_TRANSACTIONS = {!MAX_TRANSACTIONS}", "MOST_KEYS = {!MAX_KEYS}"),
+    "recipes/recorder.py": ("MOST_TRANSACTIONS = {!LARGE_TRANSACTIONS}", "MOST_KEYS = {!LARGE_KEYS}"),
+    "recipes/noted.py": (
+        'LIMITS = {"sessions": {!MAX_SESSIONS}, "transactions": {!MAX_TRANSACTIONS}, "keys": {!MAX_KEYS}}',
+        'LARGE = {"sessions": {!LARGE_SESSIONS}, "transactions": {!LARGE_TRANSACTIONS}, "keys": {!LARGE_KEYS}}'),
     "recipes/jepsen.py": (
         'LIMITS = {"sessions": {!MAX_SESSIONS}, "transactions": {!MAX_TRANSACTIONS}, "keys": {!MAX_KEYS}, '
         '"operations in a transaction": {!MAX_OPERATIONS}}',),

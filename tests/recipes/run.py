@@ -20,13 +20,13 @@ A case is a JSON object:
     runs       several runs, each with fields of its own over those of the case
 
 Behind the cases, the help of each script has to show an example, the clients in Python that README and RECORDING show have
-to write what they saw, and the demos of recipes/redis and recipes/postgres have to find what they show;
-where their server or its library for Python isn't there, they are passed over, which is said.
+to write what they saw, also where their connections are cut at every call (`clients.py`), and the demos of recipes/redis and
+recipes/postgres have to find what they show; where their server or its library for Python isn't there, they are passed over,
+which is said.
 
 The wanted texts were worked out by hand from the definitions. Each difference is one line; the last line is
 `N passed, M failed`.
 """
-import importlib.util
 import io
 import json
 import os
@@ -42,6 +42,7 @@ from typing import Dict, Iterator, List, Optional, Tuple
 HERE = pathlib.Path(__file__).resolve().parent
 TOP = HERE.parent.parent
 sys.path.insert(0, str(TOP / "tests"))
+import clients  # noqa: E402
 from arguments import ask_for_tcc  # noqa: E402
 from compared import first_difference, shown  # noqa: E402
 from counted import Outcome, status_of  # noqa: E402
@@ -165,10 +166,7 @@ def demo(server: str, tcc: List[str]) -> Iterator[Outcome]:
 
 def unknown_outcomes() -> Iterator[Outcome]:
     """What recorders make of outcomes that nobody told: a commit where somebody read a value at its key, else an abort."""
-    spec = importlib.util.spec_from_file_location("noted", RECIPES / "noted.py")
-    record = importlib.util.module_from_spec(spec)
-    sys.modules["noted"] = record
-    spec.loader.exec_module(record)
+    import noted as record  # which clients.py put on the path
     done = [record.Transaction("a", [("w", "x", 1)], None), record.Transaction("b", [("w", "x", 2)], None),
             record.Transaction("c", [("w", "y", 2)], True), record.Transaction("c", [("r", "x", 1), ("r", "y", 2)], True)]
     counts = record.settle(done)
@@ -180,46 +178,21 @@ def unknown_outcomes() -> Iterator[Outcome]:
 
 
 class Store:
-    """A store of one map, for the clients of the documents; at the calls named it refuses, or breaks off when it is done."""
+    """A store of one map, for the client of README."""
 
-    def __init__(self, refused: type, refuses: int, breaks_off: int):
-        self.refused, self.refuses, self.breaks_off = refused, refuses, breaks_off
+    def __init__(self):
         self.values: Dict[str, int] = {}
-        self.calls = 0
 
     def transact(self, reads: list, written: list) -> list:
-        self.calls += 1
-        if self.calls == self.refuses:
-            raise self.refused()
         values = [self.values.get(key) for key in reads]
-        self.values.update(step[-2:] for step in written)
-        if self.calls == self.breaks_off:
-            raise OSError()
+        self.values.update(written)
         return values
 
 
-def example(document: str) -> dict:
-    """The names that the Python of a document defines."""
-    names: dict = {}
-    exec(re.search("```python\n(.*?)```", (TOP / document).read_text(), re.DOTALL).group(1), names)
-    return names
-
-
-def documented_clients() -> Iterator[Outcome]:
-    """The clients that the documents show: what they write is what they saw, with each way in which a commit may end."""
-    names, done, out = example("docs/RECORDING.md"), [], io.StringIO()
-    store = Store(names["Refused"], 2, 3)
-    names["client"](1, lambda: store, [([], ["x"]), (["x"], ["y"]), (["x"], ["x", "z"]), ([], ["x"])], done)
-    names["client"](2, lambda: store, [(["x", "y", "z"], [])], done)
-    names["client"](3, lambda: Store(names["Refused"], 0, 1), [([], ["x"])], done)
-    names["write_records"](done, out)
-    wanted = ["c1.1,begin", "c1.1,w,x,65", "c1.1,commit", "c1.1,begin", "c1.1,w,y,129", "c1.1,abort",
-              "c1.1,begin", "c1.1,w,x,193", "c1.1,w,z,257", "c1.1,commit", "c1.2,begin", "c1.2,w,x,321", "c1.2,commit",
-              "c2.1,begin", "c2.1,r,x,321", "c2.1,r,y,0", "c2.1,r,z,257", "c2.1,commit",
-              "c3.1,begin", "c3.1,w,x,67", "c3.1,abort"]
-    yield "client of RECORDING", None if out.getvalue().split() == wanted else "wrote %s" % out.getvalue().split()
-    short, out = example("README.md"), io.StringIO()
-    short["client"]("a", Store(OSError, 0, 0), [(["x"], [("x", 5)]), (["x"], [])], out)
+def short_client() -> Iterator[Outcome]:
+    """The client that README shows: what it writes is what it saw."""
+    short, out = clients.example("README.md"), io.StringIO()
+    short["client"]("a", Store(), [(["x"], [("x", 5)]), (["x"], [])], out)
     wanted = ["a,begin", "a,r,x,0", "a,w,x,5", "a,commit", "a,begin", "a,r,x,5", "a,commit"]
     yield "client of README", None if out.getvalue().split() == wanted else "wrote %s" % out.getvalue().split()
 
@@ -263,7 +236,8 @@ def outcomes(names: List[str], tcc: List[str]) -> Iterator[Outcome]:
         yield from outcomes_of(CASES / (name + ".json"), tcc)
     if not names:
         yield from helps()
-        yield from documented_clients()
+        yield from short_client()
+        yield from clients.outcomes(tcc)
         yield from unknown_outcomes()
         yield from packed(tcc)
         yield from demo("redis", tcc)

@@ -1,0 +1,265 @@
+"""The clients that the documents show, and the one that recorders use: their connections are cut at every call.
+
+A store of one map counts the calls of its connections, those that open one too. At the calls of `cuts` a connection breaks
+before the call was done or behind it, or the store refuses the transaction; a connection that broke takes what it hasn't
+committed with it. Whatever was cut, the whole work has to be done, what is recorded as committed or aborted has to be what
+happened, names of sessions are used one after the other, and `tcc` has to find an order.
+"""
+import contextlib
+import io
+import pathlib
+import random
+import re
+import subprocess
+import sys
+import tempfile
+import time
+import types
+from typing import Dict, Iterator, List, Set, Tuple
+
+TOP = pathlib.Path(__file__).resolve().parent.parent.parent
+sys.path.insert(0, str(TOP / "tests"))
+sys.path.insert(0, str(TOP / "recipes"))
+from counted import Outcome  # noqa: E402
+
+SECONDS = 60
+WORK = [(["x"], ["x", "y"]), (["x", "y"], []), ([], ["y"]), (["z"], ["x"])]
+LAST = "read z"
+KINDS = ("before", "behind", "refused")
+
+
+class Refused(Exception):
+    """The store refuses a transaction."""
+
+
+class Server:
+    """The map, what was committed, and at which calls what happens."""
+
+    def __init__(self, cuts: Dict[int, str], refusal: type = Refused):
+        self.cuts, self.refusal = cuts, refusal
+        self.calls: List[str] = []
+        self.opened = 0
+        self.values: Dict[str, int] = {}
+        self.committed: Set[Tuple[str, int]] = set()
+
+    @contextlib.contextmanager
+    def call(self, what: str) -> Iterator[None]:
+        self.calls.append(what)
+        cut = self.cuts.get(len(self.calls))
+        if cut == "before":
+            raise ConnectionResetError()
+        if cut == "refused":
+            raise self.refusal()
+        yield
+        if cut == "behind":
+            raise ConnectionResetError()
+
+    def connect(self) -> "Connection":
+        with self.call("connect"):
+            pass
+        self.opened += 1
+        return Connection(self)
+
+    def loses_all(self) -> None:
+        """Every write is lost, those that were committed too."""
+        self.values.clear()
+
+
+class Connection:
+    """A connection, with what its transaction has written so far; behind a cut nothing may be asked of it."""
+
+    def __init__(self, server: Server):
+        self.server, self.pending, self.is_cut = server, {}, False
+
+    @contextlib.contextmanager
+    def call(self, what: str) -> Iterator[None]:
+        assert not self.is_cut, "a call over a connection that broke"
+        try:
+            with self.server.call(what):
+                yield
+        except ConnectionResetError:
+            self.is_cut = True
+            raise
+        except self.server.refusal:
+            self.pending.clear()
+            raise
+
+    def read(self, key: str):
+        with self.call("read " + key):
+            return self.pending.get(key, self.server.values.get(key))
+
+    def write(self, key: str, value: int) -> None:
+        with self.call("write " + key):
+            self.pending[key] = value
+
+    def commit(self) -> None:
+        with self.call("commit"):
+            self.server.values.update(self.pending)
+            self.server.committed.update(self.pending.items())
+            self.pending.clear()
+
+    def close(self) -> None:
+        self.pending.clear()
+
+
+def example(document: str) -> dict:
+    """The names that the Python of a document defines; what waits there doesn't wait here."""
+    names: dict = {}
+    exec(re.search("```python\n(.*?)```", (TOP / document).read_text(), re.DOTALL).group(1), names)
+    names["time"] = types.SimpleNamespace(monotonic=time.monotonic, sleep=lambda _: None)
+    return names
+
+
+# What a client noted: session, operations, and how it ended.
+Done = List[Tuple[str, List[Tuple[str, str, int]], str]]
+
+
+def documented(cuts: Dict[int, str], keeps: bool) -> Tuple[Server, Done]:
+    """What the client of RECORDING notes, and behind it another one that reads all."""
+    names, done = example("docs/RECORDING.md"), []
+    server, until = Server(cuts, names["Refused"]), time.monotonic() + SECONDS
+    names["client"](1, server.connect, WORK, done, until, keeps)
+    server.cuts = {}
+    names["client"](2, server.connect, [(["x", "y"], [])], done, until, keeps)
+    return server, done
+
+
+def recorded(cuts: Dict[int, str], keeps: bool) -> Tuple[Server, Done]:
+    """What the client of the recorders notes, and behind it another one that reads all."""
+    import recorder
+
+    recorder.PAUSE_SECONDS = 0.0
+    server = Server(cuts)
+
+    class Store(recorder.Store):
+        def __init__(self, work):
+            self.work = iter(work)
+
+        def broken(self):
+            return (OSError,)
+
+        def connections(self, held):
+            return [held.enter_context(contextlib.closing(server.connect()))]
+
+        def turn(self, client, connections):
+            reads, writes = next(self.work, (["x"], []))
+            with contextlib.suppress(Refused), client.transaction(refused=(Refused,)) as mine:
+                for key in reads:
+                    mine.read(key, connections[0].read(key) or 0)
+                for key in writes:
+                    value = client.new_value()
+                    mine.write(key, value)
+                    connections[0].write(key, value)
+                mine.committing()
+                connections[0].commit()
+
+    clients = []
+    for number, work in ((1, WORK), (2, [(["x", "y"], [])])):
+        clients.append(recorder.Client(Store(work), number, 2, random.Random(1), keeps))
+        clients[-1].work(len(work), time.monotonic() + SECONDS)
+        server.cuts = {}
+    ends = {True: "commit", False: "abort", None: "unknown"}
+    return server, [(one.session, one.operations, ends[one.committed]) for client in clients for one in client.done]
+
+
+def untrue(server: Server, done: Done, keeps: bool) -> Iterator[str]:
+    """What of the notes isn't what happened."""
+    for session, steps, end in done:
+        writes = {(key, value) for does, key, value in steps if does == "w"}
+        if end != "unknown" and writes and (end == "commit") != (writes <= server.committed):
+            yield "%s of %s: noted as %s" % (sorted(writes), session, end)
+        if end != "commit" and len(writes) != len(steps):
+            yield "a read of a transaction that didn't commit is noted"
+    mine = [(session, end) for session, _, end in done if session.startswith("c1")]
+    last = int((mine[-1][0].split(".") + ["1"])[1])
+    unknown = sum(end == "unknown" for _, end in mine[:-1])
+    if last != (1 + unknown if keeps else server.opened - 1):
+        yield "%d connections, sessions and ends %s" % (server.opened, mine)
+    if LAST not in server.calls or not done[-1][0].startswith("c2"):
+        yield "the work wasn't done"
+
+
+def answer(done: Done, tcc: List[str]) -> int:
+    """The status of `tcc explain` for what was noted, once it is settled."""
+    out = io.StringIO()
+    example("docs/RECORDING.md")["write_records"](done, out)
+    asked = subprocess.run([*tcc, "explain", "--require", "1"], input=out.getvalue().encode(), capture_output=True,
+                           timeout=SECONDS, check=False)
+    return asked.returncode
+
+
+def cut_everywhere(client, tcc: List[str]) -> Iterator[str]:
+    """What goes wrong where a client's connections are cut at every call, at one and at three in a row."""
+    whole, _ = client({}, False)
+    for keeps in (False, True):
+        for first in range(1, len(whole.calls) + 1):
+            for cuts in [{first: kind} for kind in KINDS] + [dict.fromkeys(range(first, first + 3), kind) for kind in KINDS[:2]]:
+                if cuts == {1: "refused"}:
+                    continue  # a connection that opens is no transaction
+                server, done = client(cuts, keeps)
+                wrong = next(untrue(server, done, keeps), None)
+                status = 0 if wrong else answer(done, tcc)
+                if wrong or status:
+                    yield "cut %s, sessions %s: %s" % (cuts, "kept" if keeps else "new", wrong or "status %d" % status)
+
+
+def lost(keeps: bool) -> Done:
+    """What RECORDING's client notes where all commits are lost while it works."""
+    names, done = example("docs/RECORDING.md"), []
+    server = Server({6: "before"}, names["Refused"])  # a connection and two transactions of two calls are before it
+
+    def connect():
+        if server.opened:
+            server.loses_all()
+        return server.connect()
+
+    work = [([], ["x"]), ([], ["y"]), (["x"], []), (["x"], [])]
+    names["client"](1, connect, work, done, time.monotonic() + SECONDS, keeps)
+    return done
+
+
+def as_shown() -> Iterator[Outcome]:
+    """The clients that the documents show: what they write is what they saw, with each way in which a commit may end."""
+    names, done, out = example("docs/RECORDING.md"), [], io.StringIO()
+    # The second transaction is refused in its COMMIT, the third breaks before it, the fourth breaks in it and happened.
+    server = Server({6: "refused", 8: "before", 12: "behind"}, names["Refused"])
+    work = [([], ["x"]), (["x"], ["y"]), (["x"], ["z"]), ([], ["x", "z"]), (["z"], [])]
+    names["client"](1, server.connect, work, done, time.monotonic() + SECONDS)
+    names["client"](2, server.connect, [(["x", "y", "z"], [])], done, time.monotonic() + SECONDS)
+    # One that nobody read: a write of w that breaks in its COMMIT.
+    server = Server({3: "behind"}, names["Refused"])
+    names["client"](3, server.connect, [([], ["w"])], done, time.monotonic() + SECONDS)
+    names["write_records"](done, out)
+    wanted = ["c1.1,begin", "c1.1,w,x,65", "c1.1,commit", "c1.1,begin", "c1.1,w,y,129", "c1.1,abort",
+              "c1.1,begin", "c1.1,w,z,193", "c1.1,abort", "c1.2,begin", "c1.2,w,x,257", "c1.2,w,z,321", "c1.2,commit",
+              "c1.3,begin", "c1.3,r,z,321", "c1.3,commit", "c2.1,begin", "c2.1,r,x,257", "c2.1,r,y,0", "c2.1,r,z,321", "c2.1,commit",
+              "c3.1,begin", "c3.1,w,w,67", "c3.1,abort"]
+    yield "client of RECORDING", None if out.getvalue().split() == wanted else "wrote %s" % out.getvalue().split()
+
+
+def annotated() -> Iterator[Outcome]:
+    """The annotations that recorders write are read as they were written."""
+    from noted import Transaction, annotations
+    from notes import Note, read_notes, write_notes
+    done = [Transaction("c1", [], True, "n0", 0.5), Transaction("c2", [], True), Transaction("c1", [], False, "n2", 1.25, "a, b")]
+    with tempfile.TemporaryDirectory() as folder:
+        path = pathlib.Path(folder, "notes.csv")
+        write_notes(path, annotations(done))
+        text, read = path.read_text(), read_notes(path)
+    wanted = 'transaction,node,time,note\nc1/1,n0,0.500000,\nc2/1,,,\nc1/2,n2,1.250000,"a, b"\n'
+    yield "annotations", None if text == wanted else "wrote %r" % text
+    wanted = {"c1/1": Note("n0", "0.500000"), "c2/1": Note(), "c1/2": Note("n2", "1.250000", note="a, b")}
+    yield "annotations, read", None if read == wanted else "read %s" % read
+    said = [one.text() for one in read.values()]
+    yield "annotations, said", None if said == ["at n0, 0.500000 s", "", "at n2, 1.250000 s: a, b"] else str(said)
+
+
+def outcomes(tcc: List[str]) -> Iterator[Outcome]:
+    yield from as_shown()
+    yield from annotated()
+    for name, client in (("RECORDING", documented), ("recorders", recorded)):
+        yield "client of %s, cut at every call" % name, next(cut_everywhere(client, tcc), None)
+    for keeps, wanted in ((False, 0), (True, 1)):
+        status = answer(lost(keeps), tcc)
+        name = "commits that are lost, sessions %s" % ("kept" if keeps else "new")
+        yield name, None if status == wanted else "status %d" % status
