@@ -29,7 +29,7 @@ impl Labels {
         Labels::of_large(alloc, graph.large())
     }
 
-    /// The same of a graph within the large limits.
+    /// The names of the transactions of a graph within the large limits.
     pub fn of_large(alloc: Global, graph: &LargeGraph) -> Result<Labels, NoMemory>
         ensures { IfOk result (λ labels. labels ≡ labels_of graph.now) }
     {

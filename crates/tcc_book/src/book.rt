@@ -97,7 +97,7 @@ impl Book {
         Ok(copy)
     }
 
-    /// The same answer as `whole`, and the end of the book and its passes; where it is refused they come back.
+    /// Answers as `whole` does, and ends the book and its passes; where it is refused they come back.
     pub fn close(
         self,
         rt: &impl Wait,

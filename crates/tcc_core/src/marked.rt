@@ -35,7 +35,8 @@ fn offer_word(queue: &mut Queue, word: u64, first: u32, cost: u32)
     }
 }
 
-/// The same to those that are not met yet, of the word at an index of a row. They are met from now on.
+/// Offers a way at this cost to each number that the word at an index of a row marks and that is not met yet. They are met from
+/// now on.
 fn offer_fresh(queue: &mut Queue, met: &mut [u64], word: u64, index: usize, cost: u32)
     requires index { index < length met.old }
     requires few { length met.old ≤ 2 ^ 20 }
@@ -52,7 +53,7 @@ fn offer_fresh(queue: &mut Queue, met: &mut [u64], word: u64, index: usize, cost
     }
 }
 
-/// The same of all words of the row from this index on.
+/// Offers a way at this cost to each number that is not met yet and that a word of the row from this index on marks.
 fn offer_words(queue: &mut Queue, met: &mut [u64], marks: &[u64], from: usize, cost: u32)
     requires { MayOfferMarked cost met.old marks.now queue.old }
     ensures { HasOffered (IsMarkWay marks.now (from * 64) cost) cost met.old met.new queue.old queue.new }

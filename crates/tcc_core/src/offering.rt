@@ -43,7 +43,7 @@ pub(crate) fn offer_cheapest(
     }
 }
 
-/// The same of links in whatever order.
+/// Offers the ways on by these links, as far as a link costs at most so much, whatever order they come in.
 pub(crate) fn offer_within(
     queue: &mut Queue,
     links: &[(u32, u32)],

@@ -1,4 +1,4 @@
-//! Transactions that are open at a cost, and the nearest of them. The costs of those that are open lie in a window as wide
+//! The priority queue of a search, over Dial's bucket queue: transactions that are open at a cost, and the nearest of them. The costs of those that are open lie in a window as wide
 //! as there are buckets, so each bucket has transactions of one cost.
 ghost use Rattle.std.specs.Prelude.{◌≡◌, ◌≢◌, ◌<◌, ◌≤◌, ◌+◌, ◌⊎◌, ℕ, length, slice_index, slice_set, All, Contains, IfSome, IfNone, IfOk};
 ghost use Rattle.tcc_core.specs.private.Queues.{IsBeginning, IsNearest, IsNext, IsPast, IsFar, IsFiled, offered};

@@ -1,3 +1,6 @@
+//! Dial's bucket queue (R. B. Dial, Shortest-path forest with topological ordering, CACM 12, 1969), the frontier of Dijkstra's
+//! algorithm where the greatest cost of an edge is small. To add, to move and to take out a transaction costs one step each.
+//!
 //! A ring of buckets, a bucket for each cost of a window as wide as the greatest cost of a link. Each bucket is a doubly
 //! linked list that closes over an end of its own: the end of bucket b is index `count + b` of the tables, and links to
 //! itself where the bucket is empty. So no call asks whether there is a neighbour.

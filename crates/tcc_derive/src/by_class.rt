@@ -79,7 +79,7 @@ fn by_class_row(
     })
 }
 
-/// The same of each transaction, outside the later ones of its session.
+/// The links of each transaction by what they cost, outside the later ones of its session: in rows of marks and one by one.
 pub(crate) fn by_class_rows(
     rt: &(impl Threads + Sync),
     alloc: Global,

@@ -1,3 +1,6 @@
+//! The edge weights that reads of one key give, level by level (a breadth-first sweep over rows of marks, 64 transactions in a
+//! word): levels * sources * N / 64 steps for each transaction, however many readers the key has.
+//!
 //! The fewest steps to the readers of each transaction by the reads of one key, level by level: those that are read by
 //! readers at a length, and by none that is nearer, have this length.
 ghost use Rattle.std.specs.Prelude.{◌≡◌, ◌<◌, ◌≤◌, ◌+◌, ◌^◌, ◌⊎◌, ℕ, List, true, length, slice_index, All, Contains, OnOk};

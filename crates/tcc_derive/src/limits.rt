@@ -32,7 +32,7 @@ fn least_back(near: &Near, prices: &[u16], from: usize, to: usize, b: usize) -> 
     least
 }
 
-/// The same from the others of `b` alone.
+/// The least cost of a walk from one of the others of `b` to `b` and a derived link back.
 fn least_of_others(near: &Near, prices: &[u16], others: &[(u32, u32)], b: usize) -> u16
     requires within { All (λ p. p.0 < length near.now.rows) others.now }
     requires long { length prices.now ≡ length near.now.rows }

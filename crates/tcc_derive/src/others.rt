@@ -26,7 +26,7 @@ fn session_end(graph: &Graph, u: u32) -> u32
     end
 }
 
-/// The same for each transaction.
+/// Where the numbers end that session pairs lead to, for each transaction.
 pub(crate) fn session_ends(alloc: Global, graph: &Graph) -> Result<Vec<u32>, NoMemory>
     ensures { IfOk result (λ ends. HasEnds graph.now ends.items) }
 {
@@ -63,7 +63,7 @@ fn others_row(
     Ok(Row::new(others))
 }
 
-/// The same of each transaction.
+/// For each transaction those that read from it or to which it has a price, ascending, each with what a link there costs.
 pub(crate) fn other_rows(
     rt: &(impl Threads + Sync),
     alloc: Global,

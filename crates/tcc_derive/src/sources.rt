@@ -49,7 +49,7 @@ fn sources_of(alloc: Global, reads: &[Read], count: usize) -> Result<Sources, No
     Ok(Sources::new(rows))
 }
 
-/// The same where it has more reads than half the words of all these rows, else none.
+/// The rows of marks of a key with these reads, where it has more reads than half the words of all these rows; else none.
 fn sources_at(alloc: Global, reads: &[Read], count: usize) -> Result<Sources, NoMemory>
     requires sources { All (λ r. r.source < count) reads.now }
     requires readers { All (λ r. r.reader < count) reads.now }

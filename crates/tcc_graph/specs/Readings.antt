@@ -12,7 +12,7 @@ pub record AreReadings (h : History) (a : ℕ) (readers : List ℕ) (names : Lis
   pub each : (c : ℕ) (x : List ℕ) → Contains (zip readers names) (c, x) ↔ IsReadsPair h a c x
   pub order : AreInOrder name_cmp readers names
 
--- the same, with the indices of the keys: of one reader ascending, each once
+-- the readers of a, ascending, and beside each the index of a key that it reads there: of one reader ascending, each once
 pub record AreReadingsByIndex (h : History) (a : ℕ) (readers : List ℕ) (key_indices : List ℕ) : Type 0 where
   pub long : length readers ≡ length key_indices
   pub within : All (λ key_index. key_index < length (keys h)) key_indices

@@ -56,7 +56,7 @@ impl Graph {
         Ok(Graph { large })
     }
 
-    /// The same, as one of the large limits.
+    /// This graph, as one of the large limits.
     pub fn large(&self) -> &LargeGraph
         ensures value { result.now ≡ self.now }
         ensures few { count result.now ≤ MAX_COUNT }

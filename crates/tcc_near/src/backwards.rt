@@ -1,4 +1,8 @@
-//! The lengths from each transaction by those from the transactions that pairs lead to, from the ends of sessions
+//! All walk lengths along a topological order of the pairs, backwards: the row of a transaction is the least, by column, of the
+//! rows of those that its pairs lead to, one more each. N rows of N lengths, one pass over a row for each pair that is needed, so
+//! N (N + R) steps for N transactions and R reads. Where pairs have a cycle, breadth-first search from one head breaks it.
+//!
+//! The lengths from each transaction are found by those from the transactions that pairs lead to, from the ends of sessions
 //! backwards. Of each session stands a transaction at its head, behind which all have their lengths; one whose readers
 //! have theirs too is next. Where none is, as pairs lead in a circle, the lengths from one head are searched.
 ghost use Rattle.std.specs.Prelude.{◌≡◌, ◌<◌, ◌≤◌, ◌+◌, ℕ, true, min, length, slice_index, replicate, All, IfOk, IfSome, IsTrue, OnOk};

@@ -1,4 +1,4 @@
-//! The causal pairs from each transaction, and a row of marks that takes them in. Session pairs lead to whole ends of
+//! The adjacency of a history's causal pairs, and a row of marks (a bit set) that takes them in. Session pairs lead to whole ends of
 //! sessions, so of each session the number is kept from which on all are marked: what a session pair leads to is marked
 //! once.
 ghost use Rattle.std.specs.Prelude.{◌≡◌, ◌<◌, ◌≤◌, ◌+◌, ◌*◌, ◌/◌, ◌↔◌, ◌⊎◌, ℕ, true, length, IfOk, slice_index};
@@ -112,7 +112,7 @@ fn other_readers(alloc: Global, graph: &Graph, from: u32, end: u32) -> Result<Ro
     Ok(Row::new(others))
 }
 
-/// The same of each transaction.
+/// The readers of each transaction that no session pair leads to, each once.
 fn readers_apart(alloc: Global, graph: &Graph, ends: &[u32]) -> Result<Vec<Row<u32>>, AllocError>
     requires ends { AreEnds graph.now ends.now }
     requires few { count graph.now ≤ MAX_COUNT }

@@ -1,4 +1,6 @@
-//! The search for all lengths of a graph, from each transaction: breadth first, or by those that its pairs lead to.
+//! All walk lengths of a graph, from each transaction: breadth-first search over rows of marks, 64 transactions in a word, or by the
+//! lengths of those that its pairs lead to (`backwards`). A breadth-first search from one transaction takes N / 64 steps a round and
+//! one for each reads-from pair, since of each session only the suffix that isn't marked yet is gone through.
 ghost use Rattle.std.specs.Prelude.{◌≡◌, ◌<◌, ◌≤◌, ◌^◌, ◌↔◌, ℕ, true, length, All, Contains, IfOk, OnOk, slice_index};
 ghost use Rattle.tcc_reads.specs.History.{count};
 ghost use Rattle.tcc_graph.specs.Levels.{causally, atomically, judged};
@@ -112,7 +114,7 @@ fn row_of_steps(alloc: Global, pairs: &Pairs<'_>, source: u32) -> Result<Row<u16
     steps_to(alloc, &words, pairs.count())
 }
 
-/// The same from each transaction, in several threads.
+/// The lengths from each transaction by walks of one step, in several threads.
 fn rows_of_steps(
     rt: &(impl Threads + Sync),
     alloc: Global,

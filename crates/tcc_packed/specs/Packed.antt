@@ -10,6 +10,6 @@ value_in bits = if bits == NO_VALUE then None else Some bits
 abbrev pub at_most : ℕ → Option ℕ → ℕ
 at_most cap value = min cap (unwrap_or value cap)
 
--- the same as what a row may have
+-- the capped value, as what a row may have
 abbrev pub capped_at : ℕ → Option ℕ → Option ℕ
 capped_at cap value = Some (at_most cap value)

@@ -112,7 +112,7 @@ impl PackedRow {
         Ok(PackedRow { values, cap: None })
     }
 
-    /// The same row with each value capped, and the cap where there is none. The values stay as they lie: the cap is
+    /// The row with each value capped, and the cap where there is none. The values stay as they lie: the cap is
     /// applied where one of them is asked for.
     pub fn capped(self, cap: u32) -> PackedRow
         ensures { result ≡ map (capped_at cap) self }

@@ -16,7 +16,7 @@ unproved_first links =
     codes "anomaly: "
     ++ (decimal (cost links) ++ (codes " steps, " ++ (shape_word (shape_of links) ++ codes ", least not proved\n")))
 
--- the same, and the links
+-- the first line, and the links
 abbrev pub unproved_text : List (List ℕ) → List Link → List ℕ
 unproved_text labels links = unproved_first links ++ flat_map (link_text labels) links
 

@@ -54,7 +54,7 @@ read_fault_told fault =
     ++ (codes " " ++ (fault.key
     ++ (codes " " ++ decimal fault.value)))))))
 
--- the same as a line
+-- what is told of a read fault, as a line
 abbrev pub read_fault_text : ReadFault → List ℕ
 read_fault_text fault = read_fault_told fault ++ codes "\n"
 

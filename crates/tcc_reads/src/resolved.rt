@@ -109,7 +109,7 @@ impl Model for Resolved {
 }
 
 impl Resolved {
-    /// The same, as one of the large limits.
+    /// This history, as one of the large limits.
     pub fn large(&self) -> &LargeResolved
         ensures value { result.now ≡ self.now }
         ensures few { count result.now ≤ MAX_COUNT }
@@ -118,7 +118,7 @@ impl Resolved {
         &self.large
     }
 
-    /// The same, given away.
+    /// This history, given away as one of the large limits.
     pub fn into_large(self) -> LargeResolved
         ensures value { result ≡ self }
         ensures few { count result ≤ MAX_COUNT }

@@ -173,7 +173,7 @@ pub fn resolve(alloc: Global, snapshot: &Snapshot) -> Result<Resolved, ResolveFa
     Ok(Resolved { large })
 }
 
-/// The same of a large snapshot.
+/// Finds the source of each external read of a large snapshot's committed transactions, or else all faults.
 pub fn resolve_large(alloc: Global, snapshot: &LargeSnapshot) -> Result<LargeResolved, ResolveFault>
     ensures { MatchResult result
         (λ resolved. (read_faults snapshot.now ≡ []) × (resolved ≡ history snapshot.now))

@@ -57,7 +57,7 @@ records_within limits text = records default_config (strip_bom (marked (most_byt
 abbrev pub answers_within : Limits → List ℕ → Answers
 answers_within limits text = answers_after_within limits [] (records_within limits text)
 
--- ---- the same within the small limits
+-- ---- answers within the small limits
 
 abbrev pub records_of : List ℕ → List Record
 records_of = records_within Small

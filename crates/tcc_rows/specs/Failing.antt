@@ -25,7 +25,7 @@ items_before_within limits row all = (answers_after_within limits [] (records_be
 abbrev pub FailsAtWithin : Limits → ℕ → List Record → Type 0
 FailsAtWithin limits row all = (row ≤ length all + 1) × AreLawfulWithin limits [] (records_before row all)
 
--- ---- the same within the small limits
+-- ---- what fails within the small limits
 
 abbrev pub AreLawful : List Line → List Record → Type 0
 AreLawful = AreLawfulWithin Small

@@ -26,7 +26,7 @@ digits_of [] = None
 digits_of (digit ∷ rest) =
     if all_ascii_digits (digit ∷ rest) && nat_lt (digits_value 10 (digit ∷ rest)) (2 ^ 64) then Some (digits_value 10 (digit ∷ rest)) else None
 
--- the same of digits without leading zeros
+-- the number that digits without leading zeros write
 abbrev pub value_of : List ℕ → Option ℕ
 value_of text = if has_no_leading_zero text then digits_of text else None
 

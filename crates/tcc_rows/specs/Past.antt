@@ -101,7 +101,7 @@ fault_within limits past (line.Operation session op) =
     else if nat_lt (most_keys limits) (length (keys (line.Operation session op ∷ past))) then Some kind.TooManyKeys
     else None
 
--- the same within the small limits
+-- the fault of a line after others, within the small limits
 abbrev pub fault_of : List Line → Line → Option RowFaultKind
 fault_of = fault_within Small
 

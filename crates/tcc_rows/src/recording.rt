@@ -171,7 +171,7 @@ pub fn snapshot_of<R: Read + Drop>(alloc: Global, reader: R) -> Result<Snapshot,
     recorded(alloc, reader)
 }
 
-/// The same within the large limits.
+/// All that the records of the reader finish, whatever they seal, within the large limits.
 pub fn large_snapshot_of<R: Read + Drop>(
     alloc: Global,
     reader: R,

@@ -90,7 +90,7 @@ impl<R: Read + Drop> Rows<R> {
         Rows::within(alloc, reader, Limits::Small)
     }
 
-    /// The same within the limits given.
+    /// The rows of what the reader gives, within the limits given; it is gone where memory is refused.
     pub fn within(alloc: Global, reader: R, limits: Limits) -> Result<Rows<R>, NoMemory>
         ensures ahead { IfOk result (λ rows. IfSome (R.remaining reader) (λ text. IsAhead limits R.remaining rows (answers_within limits text))) }
         ensures within { IfOk result (λ rows. IfSome (R.remaining reader) (λ text. IsWithin R.remaining rows (records_within limits text))) }

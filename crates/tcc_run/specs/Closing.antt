@@ -13,7 +13,7 @@ use Rattle.tcc_print.specs.declared.halt.Halt.TheVariants.{Row, Reads, Text, NoM
 abbrev pub acceptance : Certificate → Result Judgement Halt
 acceptance c = Ok (record { claim = claim_of c; verdict = verdict.Accepted })
 
--- the same, unless a reader failed or memory was refused
+-- the claim was accepted, unless a reader failed or memory was refused
 abbrev pub IsAcceptance : Certificate → Result Judgement Halt → Type 0
 IsAcceptance c (Ok judged) = (judged.claim ≡ claim_of c) × (judged.verdict ≡ verdict.Accepted)
 IsAcceptance c (Err (Row fault)) = fault.kind ≡ row_kind.Read

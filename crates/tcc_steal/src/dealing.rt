@@ -1,4 +1,5 @@
-//! The rule of the deque of starts, and what each step on it tells.
+//! The rule of the work-stealing deque of starts (Chase and Lev, Dynamic circular work-stealing deque, SPAA 2005, as
+//! `crossbeam_deque` has it), and what each step on it tells. Each push, pop and steal is one step.
 use crate::taken::Taken;
 use crossbeam_deque::protocol::{Outcome, Protocol, Split};
 

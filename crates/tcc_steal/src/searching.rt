@@ -1,4 +1,5 @@
-//! Searches from every start, and what they found.
+//! Branch and bound over all starts, in parallel: each start is a subproblem (Dijkstra's algorithm upward from it), the bound is the
+//! least cost offered so far, and a search is cut where nothing below the bound is left. N starts, shared out by work stealing.
 ghost use Rattle.std.specs.Prelude.{◌≡◌, ◌≢◌, ◌<◌, ◌^◌, ℕ, Some, length, map, min, unwrap_or, IfOk, IfSome};
 ghost use Rattle.tcc_graph.specs.Levels.{Judged};
 ghost use Rattle.tcc_derive.specs.Prices.{Tables, IsPricesOf};

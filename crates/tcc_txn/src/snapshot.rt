@@ -429,7 +429,7 @@ impl<B: Bounds> SnapshotWithin<B> {
 }
 
 impl SnapshotWithin<SmallLimits> {
-    /// The same as a large snapshot.
+    /// These sessions as a large snapshot.
     pub fn large(self) -> LargeSnapshot
         ensures { result ≡ self }
     {
@@ -451,7 +451,7 @@ impl SnapshotWithin<LargeLimits> {
         sessions <= MAX_SESSIONS && transactions <= MAX_TRANSACTIONS
     }
 
-    /// The same as a snapshot within the small limits, where it keeps them.
+    /// These sessions as a snapshot within the small limits, where it keeps them.
     pub fn small(self) -> Result<Snapshot, LargeSnapshot>
         ensures { MatchResult result
             (λ s. KeepsLimits self × (s ≡ self))

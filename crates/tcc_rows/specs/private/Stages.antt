@@ -38,7 +38,7 @@ ReadsIn remaining all (Ok true) new = StandsIn remaining new all
 ReadsIn remaining all (Ok false) new = new.count ≡ length all
 ReadsIn remaining all (Err e) new = new.count ≤ length all
 
--- the same, for the line that is met
+-- what comes of the line that is met
 abbrev pub LeavesIn : {R : Type 0} {E : Type 0} → (R → Option (List ℕ)) → List Record → Result (Option Turn) E → Records R → Type 0
 LeavesIn remaining all (Ok (Some turn)) new = StandsIn remaining new all
 LeavesIn remaining all (Ok None) new = new.count ≡ length all

@@ -59,7 +59,7 @@ pub record IsStoredWithin (limits : Limits) (parts : List (List ℕ × Vec Trans
 abbrev pub IsStored : List (List ℕ × Vec Transaction) → Type 0
 IsStored = IsStoredWithin Small
 
--- the same, with the count of transactions beside the parts
+-- parts as they are stored, with the count of transactions beside them
 pub record IsCounted (limits : Limits) (parts : List (List ℕ × Vec Transaction)) (transactions : ℕ) : Type 0 where
   pub stored : IsStoredWithin limits parts
   pub counted : transactions ≡ sum_by (λ part. length part.1.items) parts
