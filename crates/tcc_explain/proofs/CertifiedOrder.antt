@@ -19,7 +19,7 @@ use Rattle.tcc_graph.specs.declared.level.Level.TheVariants.{Causal, Atomic}
 use Rattle.tcc_graph.specs.declared.step.Step.{Step}
 use Rattle.tcc_graph.proofs.Pairs.{pair_below}
 use Rattle.tcc_graph.proofs.Walking.{leads_append, pair_walk, walk_on}
-use Rattle.tcc_order.specs.Clocks.{IsBehind, IsLast, IsClocksOf}
+use Rattle.tcc_graph.specs.Clocks.{IsBehind, IsLast, IsClocksOf}
 use Rattle.tcc_cert.specs.Tables.{entry}
 use Rattle.tcc_cert.specs.OrderRules.{HasClocks, HasInClock, KeepsPairs, MayReach, BreaksAxiom}
 use Rattle.tcc_cert.specs.Rules.{HoldsEverywhere, CertifiesOrder}

@@ -7,7 +7,7 @@ use Rattle.tcc_graph.specs.Routes.{IsUpwardRoute}
 use Rattle.tcc_graph.specs.declared.level.Level.{Level}
 use Rattle.tcc_graph.specs.declared.level.Level.TheVariants.{Causal, Atomic}
 use Rattle.tcc_graph.specs.declared.link.Link.{Link}
-use Rattle.tcc_order.specs.Clocks.{IsLast, IsClocksOf}
+use Rattle.tcc_graph.specs.Clocks.{IsLast, IsClocksOf}
 use Rattle.tcc_core.specs.Shares.{IsCappedDistance}
 use Rattle.tcc_cert.specs.Tables.{row_of, entry, far_entry}
 use Rattle.tcc_cert.specs.declared.version.Version.TheVariants.{Two}

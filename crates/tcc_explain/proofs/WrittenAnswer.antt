@@ -20,7 +20,7 @@ use Rattle.tcc_graph.specs.declared.step.Step.{Step}
 use Rattle.tcc_graph.specs.declared.step.Step.TheVariants as step
 use Rattle.tcc_graph.specs.declared.link.Link.{Link}
 use Rattle.tcc_graph.specs.declared.link.Link.TheVariants as link
-use Rattle.tcc_order.specs.Clocks.{IsClocksOf, IsLast, IsBehind}
+use Rattle.tcc_graph.specs.Clocks.{IsClocksOf, IsLast, IsBehind}
 use Rattle.tcc_cert.specs.Tables.{entry, HasSize, HasRows, HasFarSize, IsCapped}
 use Rattle.tcc_cert.specs.CycleRules.{IsStepBelow, IsLinkBelow}
 use Rattle.tcc_cert.specs.Texts.{IsNumber, HasStepText, HasLinkText, HasClocksText, HasOrderText, HasCycleText, HasText, certificate_text}

@@ -6,6 +6,7 @@ pub mod Levels
 pub mod Links
 pub mod Routes
 pub mod Orders
+pub mod Clocks
 pub mod Ties
 pub mod Answers
 pub mod Numbers

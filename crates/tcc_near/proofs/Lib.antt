@@ -5,4 +5,5 @@ pub mod FreshLemmas
 pub mod RowLemmas
 pub mod ShortWalks
 pub mod LeastFrom
+pub mod ClockLemmas
 pub mod Worked

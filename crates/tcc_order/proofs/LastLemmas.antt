@@ -11,7 +11,7 @@ use Rattle.tcc_graph.specs.Levels.{causally}
 use Rattle.tcc_graph.specs.Orders.{IsCommitOrder}
 use Rattle.tcc_graph.specs.Tables.{row_of}
 use Rattle.tcc_graph.proofs.Numberings.{below_in}
-use Rattle.tcc_order.specs.Clocks.{IsBehind, IsLast, IsClocksOf}
+use Rattle.tcc_graph.specs.Clocks.{IsBehind, IsLast, IsClocksOf}
 use Rattle.tcc_bits.proofs.Lists.{nothing_in}
 use Rattle.tcc_clocks.specs.Parents.{HasSourcesAt, parents}
 use Rattle.tcc_clocks.specs.Clocks.{IsOneOf, IsBefore, LeadsOnward}

@@ -7,7 +7,7 @@ use Rattle.tcc_graph.specs.Relations.{causal_pair}
 use Rattle.tcc_graph.specs.Walks.{step_to, Leads, IsReached}
 use Rattle.tcc_graph.specs.declared.step.Step.{Step}
 use Rattle.tcc_graph.specs.declared.step.Step.TheVariants as step
-use Rattle.tcc_order.specs.Clocks.{IsBehind, IsLast}
+use Rattle.tcc_graph.specs.Clocks.{IsBehind, IsLast}
 use Rattle.tcc_graph.proofs.Pairs.{first_pair, pair_kinds, pair_below}
 use Rattle.tcc_graph.proofs.Worked.{x, y, entry}
 

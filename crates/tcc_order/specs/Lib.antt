@@ -1,2 +1,1 @@
-pub mod Clocks
 pub mod private

@@ -4,7 +4,7 @@ ghost use Rattle.tcc_reads.specs.History.{count};
 ghost use Rattle.tcc_graph.specs.Levels.{causally};
 ghost use Rattle.tcc_graph.specs.Orders.{IsCommitOrder};
 ghost use Rattle.tcc_graph.specs.Tables.{row_of};
-ghost use Rattle.tcc_order.specs.Clocks.{IsClocksOf};
+ghost use Rattle.tcc_graph.specs.Clocks.{IsClocksOf};
 ghost use Rattle.tcc_order.specs.private.Lasts.{AreLastsOf, raised};
 ghost use Rattle.tcc_clocks.specs.Clocks.{IsBefore};
 ghost use Rattle.tcc_clocks.specs.private.Rows.{IsUpTo};

@@ -1,4 +1,4 @@
-//! Worked histories, with distances worked out by hand.
+//! Worked histories, with distances and clocks worked out by hand.
 use crate::tests::histories::{
     CHAIN, MUTUAL, STALE_READ, TWO_WRITERS, graph_of, is_level, near_of,
 };
@@ -8,7 +8,7 @@ use std::test::Fail;
 use std::thread::Threads;
 use tcc_bits::Row;
 use tcc_graph::Level;
-use tcc_near::NONE;
+use tcc_near::{NONE, clocks};
 use tcc_txn::MAX_TRANSACTIONS;
 
 /// The least numbers of steps of these pairs, from and to, in the history of these records at this level.
@@ -29,6 +29,31 @@ fn assert_least(
         assert_eq!(rt; near.least(a, b), *steps, "from {a} to {b} of {records}");
         let none = near.row(a)[b as usize] == NONE;
         assert_eq!(rt; none, steps.is_none());
+    }
+}
+
+/// The last places of each session behind each transaction of the history of these records.
+fn assert_clocks(
+    rt: &(impl Abort + Threads + Sync),
+    alloc: Global,
+    records: &str,
+    wanted: &[&[u32]],
+) {
+    let graph = graph_of(rt, alloc, records);
+    let Ok(clocks) = clocks(rt, alloc, &graph) else {
+        panic!(rt; "no memory");
+    };
+    assert!(rt; wanted.len() == graph.count() as usize);
+    for t in 0..graph.count() {
+        let places = wanted[t as usize];
+        let row = clocks.row(t);
+        assert!(rt; row == places, "of {t} of {records}");
+        for session in 0..u32::MAX {
+            let Some(place) = row.get(session as usize) else {
+                break;
+            };
+            assert_eq!(rt; clocks.last(t, session), *place);
+        }
     }
 }
 
@@ -139,6 +164,34 @@ fn steps_of_the_longest_chain(rt: HostRuntime) -> Result<(), Fail> {
     ];
     assert_least(&rt, alloc, Level::Causal, &records, &wanted);
     Ok(())
+}
+
+/// Places count aborted transactions, and a session of aborted ones alone has its column. On a cycle a transaction
+/// stands behind itself.
+#[test]
+fn places_behind(rt: HostRuntime) {
+    let alloc = rt.alloc();
+    let cases: [(&str, &[&[u32]]); 2] = [
+        (
+            "a,begin\na,w,x,1\na,commit\nb,begin\nb,w,y,1\nb,commit\n\
+            c,begin\nc,r,x,1\nc,r,y,0\nc,commit\nd,begin\nd,r,x,0\nd,r,y,1\nd,commit\n",
+            &[
+                &[0, 0, 0, 0],
+                &[0, 0, 0, 0],
+                &[0, 0, 0, 0],
+                &[1, 0, 0, 0],
+                &[0, 1, 0, 0],
+            ],
+        ),
+        (
+            "a,begin\na,w,z,1\na,abort\na,begin\na,r,y,1\na,w,x,1\na,commit\na,begin\na,abort\n\
+            a,begin\na,commit\nb,begin\nb,abort\nc,begin\nc,r,x,1\nc,w,y,1\nc,commit\n",
+            &[&[0, 0, 0], &[2, 0, 1], &[2, 0, 1], &[2, 0, 1]],
+        ),
+    ];
+    for (records, wanted) in cases {
+        assert_clocks(&rt, alloc, records, wanted);
+    }
 }
 
 /// A value that is pushed stands behind those that were there.
