@@ -7,10 +7,11 @@
 #               which runs wherever there is a C library of glibc 2.34 or later, as on Debian 12
 # make demo     records clients of a real Redis and shows both answers
 # make demo-postgres   the same with a real PostgreSQL, at two levels of isolation and at a replica
+# make demo-galera     the same with three nodes of MariaDB with Galera: reads at another node, with and without wsrep_sync_wait
 # make test     the merge gate and all tests, which CONTRIBUTING.md lists; the last line is `N passed, M failed`
 #
 # The toolchain's `rt` has to be on the path, and Python 3; for `make test` a C compiler too, for `make demo` redis-server and
-# redis-py, for `make demo-postgres` PostgreSQL and psycopg2. Nothing has to be done before.
+# redis-py, for `make demo-postgres` PostgreSQL and psycopg2, for `make demo-galera` MariaDB with Galera, rsync and PyMySQL. Nothing has to be done before.
 
 PREFIX ?= /usr/local
 # So many processors are used to prove the program; a crate that waits for another one takes a lane too.
@@ -24,7 +25,7 @@ CHECKED = ../../examples/stale-read.csv ../../examples/stale-read.certificate
 UNPROVED = the program is not built from these sources yet: this is a trial run of them (a minute and a half), of which \
 nothing is proved; make build proves and builds the program
 
-.PHONY: run build checker install dist pack demo demo-postgres test
+.PHONY: run build checker install dist pack demo demo-postgres demo-galera test
 
 # Whether the program is built, and no older than a source.
 IS_BUILT = test -x out/tcc && test -z "$$(find ../../crates.txt ../*/src ../*/specs ../*/proofs -newer out/tcc -print -quit)"
@@ -71,6 +72,9 @@ demo:
 
 demo-postgres:
 	@python3 recipes/postgres/demo.py
+
+demo-galera:
+	@python3 recipes/galera/demo.py
 
 test:
 	@python3 tests/run.py

@@ -64,10 +64,17 @@ def arguments(ask: argparse.ArgumentParser) -> argparse.Namespace:
     return asked
 
 
+def free_ports(many: int) -> List[int]:
+    """So many ports that nobody uses."""
+    listening = [socket.create_server((LOOPBACK, 0)) for _ in range(many)]
+    ports = [one.getsockname()[1] for one in listening]
+    for one in listening:
+        one.close()
+    return ports
+
+
 def free_port() -> int:
-    with socket.create_server((LOOPBACK, 0)) as listening:
-        port: int = listening.getsockname()[1]
-        return port
+    return free_ports(1)[0]
 
 
 def start(held: contextlib.ExitStack, words: List[str], ending: int, seconds: float, **where: Any) -> None:

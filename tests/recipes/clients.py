@@ -6,6 +6,7 @@ committed with it. Whatever was cut, the whole work has to be done, what is reco
 happened, names of sessions are used one after the other, and `tcc` has to find an order.
 """
 import contextlib
+import importlib.util
 import io
 import pathlib
 import random
@@ -254,8 +255,27 @@ def annotated() -> Iterator[Outcome]:
     yield "annotations, said", None if said == ["at n0, 0.500000 s", "", "at n2, 1.250000 s: a, b"] else str(said)
 
 
+def refused_by_a_cluster() -> Iterator[Outcome]:
+    """What a node of Galera says of a transaction that it refuses, and what it says of one whose connection broke."""
+    sys.path.insert(0, str(TOP / "recipes/galera"))
+    spec = importlib.util.spec_from_file_location("galera_record", TOP / "recipes/galera/record.py")
+    record = importlib.util.module_from_spec(spec)
+    sys.modules[spec.name] = record
+    spec.loader.exec_module(record)
+    driver = types.SimpleNamespace(Error=type("Error", (Exception,), {}))
+    for number, wanted in ((1213, "Refused"), (1205, "Refused"), (2013, "Error"), (1047, "Error")):
+        got = "nothing"
+        try:
+            with record.refusals(driver):
+                raise driver.Error(number, "why")
+        except Exception as error:
+            got = type(error).__name__
+        yield "error %d of a node" % number, None if got == wanted else got
+
+
 def outcomes(tcc: List[str]) -> Iterator[Outcome]:
     yield from as_shown()
+    yield from refused_by_a_cluster()
     yield from annotated()
     for name, client in (("RECORDING", documented), ("recorders", recorded)):
         yield "client of %s, cut at every call" % name, next(cut_everywhere(client, tcc), None)

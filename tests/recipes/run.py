@@ -20,9 +20,9 @@ A case is a JSON object:
     runs       several runs, each with fields of its own over those of the case
 
 Behind the cases, the help of each script has to show an example, the clients in Python that README and RECORDING show have
-to write what they saw, also where their connections are cut at every call (`clients.py`), and the demos of recipes/redis and
-recipes/postgres have to find what they show; where their server or its library for Python isn't there, they are passed over,
-which is said.
+to write what they saw, also where their connections are cut at every call (`clients.py`), and the demos of recipes/redis,
+recipes/postgres and recipes/galera have to find what they show; where their servers or their library for Python aren't there,
+they are passed over, which is said.
 
 The wanted texts were worked out by hand from the definitions. Each difference is one line; the last line is
 `N passed, M failed`.
@@ -242,6 +242,7 @@ def outcomes(names: List[str], tcc: List[str]) -> Iterator[Outcome]:
         yield from packed(tcc)
         yield from demo("redis", tcc)
         yield from demo("postgres", tcc)
+        yield from demo("galera", tcc)
 
 
 def main() -> int:
