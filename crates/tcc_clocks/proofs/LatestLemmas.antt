@@ -15,7 +15,8 @@ use Rattle.tcc_graph.proofs.Numberings.{below_in}
 use Rattle.tcc_bits.proofs.Lists.{nothing_in}
 use Rattle.tcc_clocks.specs.Parents.{HasSourcesAt, parents, sources, previous, previous_one}
 use Rattle.tcc_clocks.specs.Clocks.{IsOneOf, IsBefore, AreOwners, IsLatestOf, AreLatestOf, HasLatest, AreClocks, LeadsOnward}
-use Rattle.tcc_clocks.specs.private.Rows.{IsUpTo, IsLike, lifted}
+use Rattle.tcc_clocks.specs.private.Rows.{IsUpTo, lifted}
+use Rattle.tcc_clocks.specs.Clocks.{IsLike}
 use Rattle.tcc_clocks.specs.declared.latest.TheConstants.{WIDE}
 use Rattle.tcc_clocks.proofs.Along.{rows_more, parents_below, parents_have}
 use Rattle.tcc_clocks.proofs.UpTo.{one_same, up_to_more, up_to_parents}

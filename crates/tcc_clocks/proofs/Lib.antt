@@ -4,3 +4,4 @@ pub mod UpTo
 pub mod NamedRows
 pub mod StepLemmas
 pub mod LatestLemmas
+pub mod SpanLemmas

@@ -1,5 +1,5 @@
 -- Vector clocks of a block of sessions: the greatest number of each session that reaches a transaction.
-use Rattle.std.specs.Prelude.{ℕ, ◌<◌, ◌≤◌, ◌+◌, ◌≡◌, ◌⊎◌, List, length, slice_index}
+use Rattle.std.specs.Prelude.{ℕ, ◌<◌, ◌≤◌, ◌+◌, ◌≡◌, ◌≢◌, ◌⊎◌, List, length, slice_index}
 use Rattle.tcc_reads.specs.History.{History, count, owner}
 use Rattle.tcc_graph.specs.Relations.{IsCausalPair}
 use Rattle.tcc_graph.specs.Orders.{Before}
@@ -46,3 +46,11 @@ AreClocks h from table = HasLatest h from (λ c. c < count h) table
 -- causal pairs lead onward in the order
 abbrev pub LeadsOnward : History → List ℕ → Type 0
 LeadsOnward h order = (b c : ℕ) → IsCausalPair h b c → Before order b c
+
+-- p is `init`, or of no session of the block
+abbrev pub IsOutside : List ℕ → ℕ → ℕ → Type 0
+IsOutside owners from p = (0 < p) → (k : ℕ) → k < WIDE → slice_index owners p ≢ from + k
+
+-- p has the row of another, and is outside of the block
+abbrev pub IsLike : List (List ℕ) → List ℕ → ℕ → ℕ → ℕ → Type 0
+IsLike table owners from other p = (row_of table p ≡ row_of table other) × IsOutside owners from p

@@ -1,3 +1,4 @@
 pub mod Parents
 pub mod Clocks
+pub mod Spans
 pub mod private

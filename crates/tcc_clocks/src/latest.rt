@@ -5,7 +5,8 @@ ghost use Rattle.tcc_graph.specs.Tables.{row_of};
 ghost use Rattle.tcc_graph.specs.Orders.{IsNumbering};
 ghost use Rattle.tcc_clocks.specs.Parents.{AreSteps, parents};
 ghost use Rattle.tcc_clocks.specs.Clocks.{IsBefore, AreOwners, AreLatestOf, AreClocks, LeadsOnward};
-ghost use Rattle.tcc_clocks.specs.private.Rows.{IsUpTo, IsOutside, IsLike, lifted};
+ghost use Rattle.tcc_clocks.specs.private.Rows.{IsUpTo, lifted};
+ghost use Rattle.tcc_clocks.specs.Clocks.{IsLike, IsOutside};
 ghost use Rattle.tcc_clocks.specs.declared.latest.TheConstants.{WIDE};
 
 use crate::parents::{Steps, between};
@@ -90,7 +91,7 @@ fn is_inside(owners: &[u32], from: u32, p: u32) -> bool
 }
 
 /// One of these transactions with whose row they all are known to be, where none of them is of the block.
-fn like(table: &SharedRows, owners: &[u32], from: u32, numbers: &[u32]) -> Option<u32>
+pub fn like(table: &SharedRows, owners: &[u32], from: u32, numbers: &[u32]) -> Option<u32>
     requires inside { All (λ p. p < length owners.now) numbers.now }
     requires long { length table.now ≡ length owners.now }
     ensures one { IfSome result (λ other. Contains numbers.now other) }

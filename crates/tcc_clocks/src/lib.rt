@@ -7,7 +7,9 @@
 mod latest;
 mod parents;
 mod sharing;
+mod spans;
 
-pub use latest::{WIDE, find_clocks, owners, raise_each};
+pub use latest::{WIDE, find_clocks, like, owners, raise_each};
 pub use parents::{Steps, between, find_parents, parents_of, previous_of_each, steps_along};
 pub use sharing::{Clock, SharedRows};
+pub use spans::{block_bounds, find_spans};

@@ -41,7 +41,7 @@ impl SharedRows {
     }
 
     /// Makes rows of zeros of all; the room that they took is kept.
-    pub(crate) fn clear(&mut self)
+    pub fn clear(&mut self)
         ensures { length self.new ≡ length self.old }
     {
         self.rows.truncate(1);
@@ -74,7 +74,7 @@ impl SharedRows {
     }
 
     /// Gives a transaction the row of another.
-    pub(crate) fn share(&mut self, number: u32, other: u32)
+    pub fn share(&mut self, number: u32, other: u32)
         requires number { number < length self.old }
         requires other { other < length self.old }
         ensures { self.new ≡ set self.old number (row_of self.old other) }
@@ -96,12 +96,7 @@ impl SharedRows {
     }
 
     /// Gives a transaction a row, that of one of these where it is the same.
-    pub(crate) fn put_like(
-        &mut self,
-        number: u32,
-        row: &Clock,
-        others: &[u32],
-    ) -> Result<(), NoMemory>
+    pub fn put_like(&mut self, number: u32, row: &Clock, others: &[u32]) -> Result<(), NoMemory>
         requires number { number < length self.old }
         requires others { All (λ p. p < length self.old) others.now }
         ensures { OnOk result (self.new ≡ set self.old number row.now) }

@@ -3,35 +3,11 @@ use Rattle.std.proofs.Common.{◌≡◌, ◌≢◌, ◌<◌, ◌≤◌, ◌+◌,
 use Rattle.std.specs.List.{All, Contains}
 use Rattle.std.specs.List.Sorted.{IsNonDecreasing, IsPartitionPoint}
 use Rattle.std.specs.Prelude.{nat_le}
-use Rattle.std.proofs.lemmas.Bool.{cases_lt, cases_eq, cases_Bool, leb-true, leb-false}
+use Rattle.std.proofs.lemmas.Bool.{cases_lt, cases_eq, leb-true, leb-false}
 use Rattle.std.proofs.lemmas.List.{get_or_default, get_or-set_same, get_or-set_other}
-use Rattle.std.proofs.lemmas.List.FromFn.{length-range_with_len, get_or-range_with_len}
-use Rattle.std.proofs.lemmas.List.Kept.{IsNonDecreasingBy-filter}
-use Rattle.std.proofs.lemmas.List.Sorted.{IsNonDecreasingBy-from_default, IsNonDecreasingBy-short}
-use Rattle.tcc_reads.specs.History.{History, IsBySession, count}
-use Rattle.tcc_graph.specs.Keys.{writers, writes, numbers, is_key}
+use Rattle.tcc_reads.specs.History.{History, IsBySession}
 use Rattle.tcc_clocks.specs.Clocks.{IsBefore, IsOneOf, AreOwners, AreLatestOf}
 use Rattle.tcc_order.specs.private.Keeping.{IsLiftable, IsLifted, IsLastUpTo, IsLastBut, AreOrdered, IsClock}
-
-numbers_rise : (h : History) → IsNonDecreasing (numbers h)
-numbers_rise h = IsNonDecreasingBy-from_default (λ n. n) (numbers h) 0 (λ i j upto below. go i j upto below)
-  where
-    go : (i j : ℕ) → i ≤ j → j < length (numbers h) → get_or (numbers h) i 0 ≤ get_or (numbers h) j 0
-    go i j upto below =
-        let all : length (numbers h) ≡ count h = length-range_with_len 0 (count h) in
-        omega (
-          arith,
-          upto,
-          get_or-range_with_len 0 (count h) i 0 (omega (arith, upto, below, all)),
-          get_or-range_with_len 0 (count h) j 0 (omega (arith, below, all)),
-        )
-
-pub writers_rise : (h : History) (x : List ℕ) → IsNonDecreasing (writers h x)
-writers_rise h x = go (cases_Bool (is_key h x))
-  where
-    go : (is_key h x ≡ true) ⊎ (is_key h x ≡ false) → IsNonDecreasing (writers h x)
-    go (inl t) = rw t (IsNonDecreasingBy-filter (λ n. n) (λ b. writes h b x) (numbers h) (numbers_rise h))
-    go (inr f) = rw f (IsNonDecreasingBy-short (λ (n : ℕ). n) [] (omega arith))
 
 pub owners_ordered : (h : History) → IsBySession h.entries → (owners : List ℕ) → AreOwners h owners → AreOrdered owners
 owners_ordered h numbered owners known m n some less below =

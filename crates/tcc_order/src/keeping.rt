@@ -10,14 +10,17 @@ ghost use Rattle.tcc_graph.specs.Keys.{keys};
 ghost use Rattle.tcc_graph.specs.Tables.{row_of};
 ghost use Rattle.tcc_graph.specs.Orders.{IsNumbering};
 ghost use Rattle.tcc_clocks.specs.Parents.{ArePrevious};
-ghost use Rattle.tcc_order.specs.private.Keeping.{AreOrdered, CanLift, IsLastUpTo, IsLastBut, IsCountBelow, AreLatestPast, TellsNothing, IsSpan, AreSpans, AreBounds};
+ghost use Rattle.tcc_order.specs.private.Keeping.{AreOrdered, CanLift, IsLastUpTo, IsLastBut, AreLatestPast, TellsNothing};
+ghost use Rattle.tcc_clocks.specs.Spans.{AreSpans, AreBounds};
 ghost use Rattle.tcc_clocks.specs.declared.latest.TheConstants.{WIDE};
 ghost use Rattle.std.specs.List.Sorted.{IsNonDecreasing, IsPartitionPoint};
 ghost use Rattle.std.specs.Prelude.{nat_le, true, false, ◌∷◌, []};
 
 use std::alloc::Global;
 use tcc_bits::Row;
-use tcc_clocks::{SharedRows, WIDE, between, find_clocks, owners, steps_along};
+use tcc_clocks::{
+    SharedRows, WIDE, between, block_bounds, find_clocks, find_spans, owners, steps_along,
+};
 use tcc_graph::LargeGraph;
 use tcc_txn::NoMemory;
 
@@ -50,42 +53,6 @@ fn lift_each(need: &mut [u32], owners: &[u32], from: u32, clock: &[u32], writers
     for writer in writers {
         lift_writer(need, owners, from, clock, *writer, a);
     }
-}
-
-/// How many of these, which rise, are less than `bound`.
-fn count_below(numbers: &[u32], bound: usize) -> usize
-    requires { IsNonDecreasing numbers.now }
-    ensures { IsCountBelow numbers.now bound result }
-{
-    numbers.partition_point(|number| (*number as usize) < bound)
-}
-
-/// Where those of these numbers, which rise, from `low` to below `high` begin and end.
-fn span_of(numbers: &[u32], low: usize, high: usize) -> (usize, usize)
-    requires { IsNonDecreasing numbers.now }
-    ensures { IsSpan numbers.now low high result.0 result.1 }
-{
-    let start = count_below(numbers, low);
-    let end = count_below(numbers, high);
-    (start, end)
-}
-
-/// Where the transactions from `low` to below `high` begin and end among the writers of each key.
-fn find_spans(
-    spans: &mut Vec<(usize, usize)>,
-    graph: &LargeGraph,
-    bounds: (usize, usize),
-) -> Result<(), NoMemory>
-    ensures { OnOk result (AreSpans graph.now bounds.0 bounds.1 spans.new.items (length (keys graph.now))) }
-{
-    spans.clear();
-    for (index, _key) in graph.keys().iter().enumerate() {
-        let Ok(key_index) = u32::try_from(index) else {
-            return Err(NoMemory);
-        };
-        spans.push(span_of(graph.writers_at(key_index), bounds.0, bounds.1))?;
-    }
-    Ok(())
 }
 
 /// How many of these, which rise, are no greater than `top`.
@@ -177,17 +144,6 @@ fn lift_writers(need: &mut [u32], owners: &[u32], from: u32, clock: &[u32], writ
     } else {
         lift_sessions(need, owners, from, clock, writers, a);
     }
-}
-
-/// Where the transactions of a block of sessions stand: from the first number to below the second.
-fn block_bounds(owners: &[u32], from: u32) -> (usize, usize)
-    requires { IsNonDecreasing owners.now }
-    ensures { AreBounds owners.now from result.0 result.1 }
-{
-    (
-        count_below(owners, from as usize),
-        count_below(owners, from as usize + WIDE),
-    )
 }
 
 /// Of each session of the block the last transaction past those that reach `a` that has to stand before `a`: that overwrote

@@ -1,9 +1,9 @@
 -- The links that are kept, by the greatest numbers of the sessions of a block.
-use Rattle.std.specs.Prelude.{ℕ, ◌<◌, ◌≤◌, ◌+◌, ◌≡◌, ◌≢◌, ◌⊎◌, ◌==◌, ◌&&◌, nat_lt, nat_le, not, if◌then◌else◌, max, List, length, slice_index, slice_index_or, All, Contains}
+use Rattle.std.specs.Prelude.{ℕ, ◌<◌, ◌≤◌, ◌+◌, ◌≡◌, ◌≢◌, ◌⊎◌, ◌==◌, ◌&&◌, nat_lt, nat_le, not, if◌then◌else◌, max, List, length, slice_index, All, Contains}
 use Rattle.std.specs.List.Sorted.{IsNonDecreasing}
 use Rattle.tcc_reads.specs.History.{History, count}
 use Rattle.tcc_graph.specs.Relations.{IsReadsPair, IsSessionPair}
-use Rattle.tcc_graph.specs.Keys.{key_at, writers}
+use Rattle.tcc_graph.specs.Keys.{writers}
 use Rattle.tcc_graph.specs.Tables.{row_of}
 use Rattle.tcc_graph.specs.Walks.{IsReached}
 use Rattle.tcc_graph.specs.Levels.{Judged, IsAllowedWalk}
@@ -105,31 +105,3 @@ pub record IsLastUpTo (numbers : List ℕ) (top : ℕ) (last : ℕ) : Type 0 whe
 pub record IsLastBut (numbers : List ℕ) (top : ℕ) (a : ℕ) (last : ℕ) : Type 0 where
   pub attained : (last ≡ 0) ⊎ (Contains numbers last × (last ≢ a) × (last ≤ top))
   pub greatest : (b : ℕ) → Contains numbers b → b ≢ a → b ≤ top → b ≤ last
-
--- so many of these are less than the bound, and stand before all others
-pub record IsCountBelow (numbers : List ℕ) (bound : ℕ) (end : ℕ) : Type 0 where
-  pub within : end ≤ length numbers
-  pub less : (k : ℕ) → k < end → slice_index numbers k < bound
-  pub others : (k : ℕ) → k < length numbers → slice_index numbers k < bound → k < end
-
--- some of these, and all of those from `low` to below `high`
-pub record IsBetween (numbers : List ℕ) (low : ℕ) (high : ℕ) (found : List ℕ) : Type 0 where
-  pub among : (b : ℕ) → Contains found b → Contains numbers b
-  pub all : (b : ℕ) → Contains numbers b → low ≤ b → b < high → Contains found b
-  pub rising : IsNonDecreasing found
-
--- those of these numbers from `low` to below `high` begin and end at these indices
-pub record IsSpan (numbers : List ℕ) (low : ℕ) (high : ℕ) (start : ℕ) (end : ℕ) : Type 0 where
-  pub first : IsCountBelow numbers low start
-  pub last : IsCountBelow numbers high end
-
--- so for the writers of each key
-pub record AreSpans (h : History) (low : ℕ) (high : ℕ) (spans : List (ℕ × ℕ)) (end : ℕ) : Type 0 where
-  pub long : length spans ≡ end
-  pub each : (key_index : ℕ) → key_index < end
-      → IsSpan (writers h (key_at h key_index)) low high (slice_index_or spans key_index (0, 0)).0 (slice_index_or spans key_index (0, 0)).1
-
--- the transactions of the sessions of a block stand from `low` to below `high`
-abbrev pub AreBounds : List ℕ → ℕ → ℕ → ℕ → Type 0
-AreBounds owners from low high =
-    (b : ℕ) → b < length owners → from ≤ slice_index owners b → slice_index owners b < from + WIDE → (low ≤ b) × (b < high)

@@ -1,5 +1,5 @@
 use Rattle.std.proofs.Common.{arith}
-use Rattle.tcc_clocks.specs.private.Rows.{IsLike}
+use Rattle.tcc_clocks.specs.Clocks.{IsLike}
 use Rattle.tcc_clocks.proofs.LatestLemmas.{each_more}
 use Rattle.tcc_clocks.proofs.latest.like.Goals as goal
 

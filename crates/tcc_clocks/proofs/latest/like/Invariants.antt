@@ -1,5 +1,5 @@
 use Rattle.std.proofs.Common.{◌<◌, ℕ, slice_index}
-use Rattle.tcc_clocks.specs.private.Rows.{IsLike}
+use Rattle.tcc_clocks.specs.Clocks.{IsLike}
 use Rattle.tcc_clocks.proofs.latest.like.Given as goal
 
 abbrev pub invariant-loop-number : goal.invariant-loop-number

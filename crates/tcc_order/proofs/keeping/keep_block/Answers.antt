@@ -7,7 +7,7 @@ use Rattle.tcc_graph.specs.Tables.{row_of}
 use Rattle.tcc_clocks.specs.Clocks.{IsBefore, AreLatestOf}
 use Rattle.tcc_order.specs.private.Keeping.{AreLatestPast, IsOverwritten}
 use Rattle.tcc_order.proofs.Needing.{IsUpTo, kept_derived, kept_enough, passed_enough}
-use Rattle.tcc_order.proofs.Spans.{owners_rise}
+use Rattle.tcc_clocks.proofs.SpanLemmas.{owners_rise}
 use Rattle.tcc_order.proofs.keeping.keep_block.Goals as goal
 use Rattle.tcc_order.proofs.keeping.keep_block.Goals.{then-has_news+in_ok-keep, else-has_news}
 

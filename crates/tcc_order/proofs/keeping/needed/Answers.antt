@@ -3,12 +3,14 @@ use Rattle.std.specs.Prelude.{zip}
 use Rattle.tcc_reads.specs.History.{count}
 use Rattle.tcc_graph.specs.Keys.{key_at, writers}
 use Rattle.tcc_graph.specs.Tables.{row_of}
-use Rattle.tcc_order.specs.private.Keeping.{IsLifted, IsBetween}
+use Rattle.tcc_order.specs.private.Keeping.{IsLifted}
+use Rattle.tcc_clocks.specs.private.Between.{IsBetween}
 use Rattle.tcc_clocks.specs.declared.latest.TheConstants.{WIDE}
 use Rattle.tcc_order.proofs.Needing.{past_none, overwritten_next, overwritten_same, overwritten_all}
-use Rattle.tcc_order.proofs.Rising.{owners_ordered, writers_rise, latest_clock}
+use Rattle.tcc_order.proofs.Rising.{owners_ordered, latest_clock}
 use Rattle.tcc_order.proofs.Readings.{reader_below}
-use Rattle.tcc_order.proofs.Spans.{all_between, between_span, lifted_between}
+use Rattle.tcc_order.proofs.Spans.{lifted_between}
+use Rattle.tcc_clocks.proofs.SpanLemmas.{all_between, between_span, writers_rise}
 use Rattle.tcc_order.proofs.Stepped.{writers_inside}
 use Rattle.tcc_order.proofs.keeping.needed.Goals as goal
 use Rattle.tcc_order.proofs.keeping.needed.Goals.{After-are_same, then-not-are_same, else-not-are_same}

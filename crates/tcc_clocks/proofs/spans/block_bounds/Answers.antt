@@ -1,5 +1,5 @@
-use Rattle.tcc_order.proofs.Spans.{bounded}
-use Rattle.tcc_order.proofs.keeping.block_bounds.Goals as goal
+use Rattle.tcc_clocks.proofs.SpanLemmas.{bounded}
+use Rattle.tcc_clocks.proofs.spans.block_bounds.Goals as goal
 
 pub returns : goal.returns
 returns c =

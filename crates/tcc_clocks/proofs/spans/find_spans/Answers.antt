@@ -1,9 +1,9 @@
 use Rattle.std.proofs.Common.{rules, ◌≡◌, ◌∷◌, ◌++◌, []}
 use Rattle.tcc_graph.specs.Keys.{key_at, writers}
-use Rattle.tcc_order.specs.private.Keeping.{IsSpan}
-use Rattle.tcc_order.proofs.Rising.{writers_rise}
-use Rattle.tcc_order.proofs.Spans.{spans_more}
-use Rattle.tcc_order.proofs.keeping.find_spans.Goals as goal
+use Rattle.tcc_clocks.specs.Spans.{IsSpan}
+use Rattle.tcc_clocks.proofs.SpanLemmas.{writers_rise}
+use Rattle.tcc_clocks.proofs.SpanLemmas.{spans_more}
+use Rattle.tcc_clocks.proofs.spans.find_spans.Goals as goal
 
 pub span_of-requires : goal.span_of-requires
 span_of-requires c = rw c.writers_at.ensures (writers_rise c.args.graph.now (key_at c.args.graph.now c.in-Ok.key_index))

@@ -1,8 +1,8 @@
 use Rattle.std.proofs.Common.{rules}
 use Rattle.std.specs.Prelude.{nat_lt}
 use Rattle.std.proofs.lemmas.List.Sorted.{IsPartitionPoint-from_clause, IsPartitionedBy-ltb}
-use Rattle.tcc_order.proofs.Spans.{counted}
-use Rattle.tcc_order.proofs.keeping.count_below.Goals as goal
+use Rattle.tcc_clocks.proofs.SpanLemmas.{counted}
+use Rattle.tcc_clocks.proofs.spans.count_below.Goals as goal
 
 pub returns : goal.returns
 returns c =
