@@ -212,7 +212,7 @@ def packed(tcc: List[str]) -> Iterator[Outcome]:
                               cwd=os.path.join(folder, inside), capture_output=True, timeout=SECONDS, check=False)
         wanted = b"1: 3 steps, stale-initial-read, read your writes: a/2 read x = 0 from init, row 5\n"
         yield "what is packed", None if done.stdout.startswith(wanted) else "%r" % (done.stdout + done.stderr)
-        needed = [name for name in ("LICENSE-MIT", "LICENSE-APACHE", "docs/tcc.1", "docs/tcc.bash", "docs/RECORDING.md")
+        needed = [name for name in ("LICENSE-MIT", "LICENSE-APACHE", "docs/tcc.1", "docs/tcc.bash", "docs/RECORDING.md", "python/pyproject.toml")
                   if not os.path.exists(os.path.join(folder, inside, name))]
         yield "files that are packed", ", ".join(needed) or None
 
