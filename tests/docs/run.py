@@ -17,7 +17,7 @@ it; CONTRACTS has to be what the sources give (`contracts.py`), and so have the 
 what is told of statuses and limits (`told.py`). What has to be believed stands in `specs/`, and nothing else does
 (`trust.py`). CHANGELOG tells of the past, and is left out. No script may define a name twice at one level. The man page and
 the completion for bash have to name each command and option of the program's help, and the completion to complete them; and
-the stack that README names has to be enough. Each difference is one line; the last line is `N passed, M failed`.
+the stack that docs/GUIDE.md names has to be enough. Each difference is one line; the last line is `N passed, M failed`.
 """
 import ast
 import collections
@@ -233,8 +233,8 @@ def faults_of_options(tcc: List[str]) -> Iterator[Outcome]:
 
 
 def faults_of_stack(tcc: List[str]) -> Iterator[Outcome]:
-    """Whether the stack that README names is enough for an answer with its certificate, and for the check of that."""
-    stack = re.search(r"needs a stack of ([0-9]+) KB", (TOP / "README.md").read_text()).group(1)
+    """Whether the stack that GUIDE names is enough for an answer with its certificate, and for the check of that."""
+    stack = re.search(r"needs a stack of ([0-9]+) KB", (TOP / "docs/GUIDE.md").read_text()).group(1)
     history = str(TOP / "examples/stale-read.csv")
     with tempfile.TemporaryDirectory() as folder:
         certificate = str(pathlib.Path(folder, "certificate"))

@@ -5,7 +5,7 @@
 
 The words of a status are those of its variant in `crates/tcc_print/src/status.rt`, its number is that of `code` there, the
 limits are the constants of `crates/tcc_txn/src/limits.rt` and of `crates/tcc_workers/src/workers.rt`, and which status a
-fault has is in `crates/tcc_print/src/kinds.rt`. From these come the exit statuses and the limits of README and of the man
+fault has is in `crates/tcc_print/src/kinds.rt`. From these come the exit statuses and the limits of docs/GUIDE.md and of the man
 page, which `--write` writes anew. What else tells a limit or a status is held against them: the row faults of
 docs/FORMATS.md, the kinds that the man page names, help, and some sentences; where a limit changes, each of them that is
 wrong is named, with what has to stand there. And README has no more words than it may have. Each difference is one line, as
@@ -21,8 +21,8 @@ sys.path.insert(0, str(TOP / "tests"))
 from arguments import status_of_written  # noqa: E402
 from counted import Outcome  # noqa: E402
 
-README, PAGE = TOP / "README.md", TOP / "docs/tcc.1"
-MOST_WORDS = 2000
+README, GUIDE, PAGE = TOP / "README.md", TOP / "docs/GUIDE.md", TOP / "docs/tcc.1"
+MOST_WORDS = 1000
 CONSTANT = re.compile(r"^pub const (\w+): \w+ = ([^;]+);", re.MULTILINE)
 VARIANT = re.compile(r"((?: *///.*\n)+) *(\w+),\n")
 CODE = re.compile(r"((?:Status::\w+[ |]*)+) => (\d+),")
@@ -33,12 +33,12 @@ TEMPLATE = re.compile(r"\{(!?)([A-Z_+1 ]+)\}")
 LIMITS = ("{MAX_SESSIONS} sessions, {MAX_TRANSACTIONS} transactions%s of {MAX_OPERATIONS} operations%s, {MAX_KEYS} keys, "
           "{MAX_SEALS} seals%s {MAX_INPUT_BYTES} bytes")
 LARGE = "{LARGE_SESSIONS} sessions, {LARGE_TRANSACTIONS} transactions, {LARGE_KEYS} keys%s {LARGE_INPUT_BYTES} bytes"
-IN_README = "A history has at most " + LIMITS % (" (aborted ones counted)", "", " and") + "; with `--large` " + LARGE % " and" + "."
+IN_GUIDE = "A history has at most " + LIMITS % (" (aborted ones counted)", "", " and") + "; with `--large` " + LARGE % " and" + "."
 IN_PAGE = (".SH LIMITS\n" + LIMITS % (", aborted ones counted,", " each", ",") + ".\n.PP\nWith \\fB\\-\\-large\\fR " + LARGE % ","
            + "; as many operations and seals.\n")
 HELD = {
-    "README.md": (
-        "up to {MAX_TRANSACTIONS} transactions, or a million with `--large`",
+    "README.md": ("up to {MAX_TRANSACTIONS} transactions, or a million with `--large`",),
+    "docs/GUIDE.md": (
         "Names of sessions and keys have 1 to {MAX_NAME_BYTES} bytes",
         "lets N threads search for an anomaly, 1 to {MAX_WORKERS}."),
     "recipes/recorder.py": ("MOST_TRANSACTIONS = {!LARGE_TRANSACTIONS}", "MOST_KEYS = {!LARGE_KEYS}"),
@@ -123,8 +123,8 @@ def lowered(words: List[str]) -> str:
     return "; ".join(one[0].lower() + one[1:] for one in words)
 
 
-def statuses_of_readme() -> str:
-    return "## Exit statuses\n\n" + " ".join("%d: %s." % (code, lowered(words)) for code, words in statuses()) + "\n\n"
+def statuses_of_guide() -> str:
+    return "## Exit statuses\n\n| status | what |\n|---|---|\n" + "".join("| %d | %s |\n" % (code, lowered(words)) for code, words in statuses())
 
 
 def statuses_of_page() -> str:
@@ -138,8 +138,8 @@ def statuses_of_page() -> str:
 
 # A file, what stands before and behind a part of it, and how the part reads.
 WRITTEN = (
-    (README, r"## Exit statuses\n.*?(?=## )", statuses_of_readme),
-    (README, r"A history has at most (?=[0-9,]+ sessions).*?bytes;.*?bytes\.", lambda: filled(IN_README)),
+    (GUIDE, r"## Exit statuses\n.*?\|\n(?=\n)", statuses_of_guide),
+    (GUIDE, r"A history has at most (?=[0-9,]+ sessions).*?bytes;.*?bytes\.", lambda: filled(IN_GUIDE)),
     (PAGE, r"of its last answer, or of the fault that ended the run\.\n.*?(?=\.SH )", statuses_of_page),
     (PAGE, r"\.SH LIMITS\n.*?(?=\.SH )", lambda: filled(IN_PAGE)),
 )

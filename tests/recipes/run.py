@@ -19,7 +19,7 @@ A case is a JSON object:
     written    files of that folder after the run: names, and parts
     runs       several runs, each with fields of its own over those of the case
 
-Behind the cases, the help of each script has to show an example, the clients in Python that README and RECORDING show have
+Behind the cases, the help of each script has to show an example, the clients in Python that README, GUIDE and RECORDING show have
 to write what they saw, also where their connections are cut at every call (`clients.py`), and the demos of recipes/redis,
 recipes/postgres and recipes/galera have to find what they show; where their servers or their library for Python aren't there,
 they are passed over, which is said.
@@ -178,7 +178,7 @@ def unknown_outcomes() -> Iterator[Outcome]:
 
 
 class Store:
-    """A store of one map, for the client of README."""
+    """A store of one map, for the client of GUIDE."""
 
     def __init__(self):
         self.values: Dict[str, int] = {}
@@ -190,11 +190,27 @@ class Store:
 
 
 def short_client() -> Iterator[Outcome]:
-    """The client that README shows: what it writes is what it saw."""
-    short, out = clients.example("README.md"), io.StringIO()
+    """The client that GUIDE shows: what it writes is what it saw."""
+    short, out = clients.example("docs/GUIDE.md"), io.StringIO()
     short["client"]("a", Store(), [(["x"], [("x", 5)]), (["x"], [])], out)
     wanted = ["a,begin", "a,r,x,0", "a,w,x,5", "a,commit", "a,begin", "a,r,x,5", "a,commit"]
-    yield "client of README", None if out.getvalue().split() == wanted else "wrote %s" % out.getvalue().split()
+    yield "client of GUIDE", None if out.getvalue().split() == wanted else "wrote %s" % out.getvalue().split()
+
+
+def first_example(tcc: List[str]) -> Iterator[Outcome]:
+    """What README shows of the package: what it records, and that the answer is printed."""
+    script = re.search("```python\n(.*?)```", (TOP / "README.md").read_text(), re.DOTALL).group(1)
+    with tempfile.TemporaryDirectory() as folder:
+        variables = {**os.environ, "TCC": os.path.abspath(tcc[-1]), "PYTHONPATH": "%s:%s" % (TOP / "python", HERE)}
+        given = "import clients\nstore = clients.Server({}).connect()\n" + script
+        done = subprocess.run([sys.executable, "-c", given], cwd=folder, env=variables, capture_output=True, text=True,
+                              timeout=SECONDS, check=False)
+        records = pathlib.Path(folder, "records.csv")
+        got = records.read_text().split() if records.exists() else done.stderr
+    wanted = ["c1,begin", "c1,r,x,0", "c1,w,y,4096", "c1,commit"]
+    yield "records of README's example", None if got == wanted else "wrote %s" % got
+    answer = "consistent: 1 transactions, 1 sessions\norder: init c1/1\n\n"
+    yield "README's example", None if done.stdout == answer else "printed %r" % (done.stdout + done.stderr)
 
 
 def packed(tcc: List[str]) -> Iterator[Outcome]:
@@ -212,7 +228,7 @@ def packed(tcc: List[str]) -> Iterator[Outcome]:
                               cwd=os.path.join(folder, inside), capture_output=True, timeout=SECONDS, check=False)
         wanted = b"1: 3 steps, stale-initial-read, read your writes: a/2 read x = 0 from init, row 5\n"
         yield "what is packed", None if done.stdout.startswith(wanted) else "%r" % (done.stdout + done.stderr)
-        needed = [name for name in ("LICENSE-MIT", "LICENSE-APACHE", "docs/tcc.1", "docs/tcc.bash", "docs/RECORDING.md")
+        needed = [name for name in ("LICENSE-MIT", "LICENSE-APACHE", "docs/tcc.1", "docs/tcc.bash", "docs/RECORDING.md", "python/pyproject.toml")
                   if not os.path.exists(os.path.join(folder, inside, name))]
         yield "files that are packed", ", ".join(needed) or None
 
@@ -237,6 +253,7 @@ def outcomes(names: List[str], tcc: List[str]) -> Iterator[Outcome]:
     if not names:
         yield from helps()
         yield from short_client()
+        yield from first_example(tcc)
         yield from clients.outcomes(tcc)
         yield from unknown_outcomes()
         yield from packed(tcc)

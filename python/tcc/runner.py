@@ -1,0 +1,171 @@
+"""Runs `tcc explain`, and gives its answer as one of three types; what is no answer is raised.
+
+    answer = explain("records.csv")
+    if isinstance(answer, Anomaly):
+        print(answer.shape, answer.steps, answer.text())
+"""
+import json
+import os
+import shutil
+import subprocess
+from dataclasses import dataclass, fields
+from typing import Any, Callable, Dict, Iterator, List, Mapping, Optional, Tuple, Union
+
+Path = Union[str, "os.PathLike[str]"]
+CONSISTENT, ANOMALY, UNRESOLVED = 0, 1, 2
+LEVELS = ("causal", "atomic")
+
+
+class NoAnswer(Exception):
+    """A run of `tcc` that judged nothing: a record that breaks a rule, a limit, too few transactions, or a program that isn't
+    there or failed. `status` is its exit status, and None where it didn't run."""
+
+    def __init__(self, why: str, status: Optional[int] = None):
+        super().__init__(why)
+        self.status = status
+
+
+@dataclass(frozen=True)
+class Step:
+    """A link of an anomaly: its first transaction has to stand before its second. `kind` is `session`, `reads` or `derived`; all
+    but the first have a key, and a derived one the reader whose read asks for it, and the walk by which that one knew of it."""
+
+    kind: str
+    source: str
+    target: str
+    key: Optional[str] = None
+    reader: Optional[str] = None
+    walk: Tuple["Step", ...] = ()
+
+    def lines(self) -> Iterator[str]:
+        """The line of the link as `tcc` prints it, and below it those of its walk, and the read that it contradicts."""
+        by = "" if self.key is None else " by " + self.key
+        read = "" if self.reader is None else ", read by " + self.reader
+        yield "%s %s -> %s%s%s" % (self.kind, self.source, self.target, by, read)
+        for one in self.walk:
+            yield from ("  " + line for line in one.lines())
+        if self.reader is not None:
+            yield "  against %s -> %s%s" % (self.target, self.reader, by)
+
+
+@dataclass(frozen=True)
+class Fault:
+    """A read that can't be traced to a write, or a write of a value that was written before: the operation, its kind."""
+
+    kind: str
+    session: str
+    place: int
+    op: int
+    key: str
+    value: int
+
+    @property
+    def transaction(self) -> str:
+        return "%s/%d" % (self.session, self.place)
+
+    def line(self) -> str:
+        return "%s %s op %d %s %d" % (self.kind, self.transaction, self.op, self.key, self.value)
+
+
+@dataclass(frozen=True)
+class Consistent:
+    """An order of the transactions explains every read."""
+
+    transactions: int
+    sessions: int
+    order: Tuple[str, ...]
+
+    def text(self) -> str:
+        """The answer as `tcc` prints it."""
+        return "consistent: %d transactions, %d sessions\norder: %s\n" % (self.transactions, self.sessions, " ".join(self.order))
+
+
+@dataclass(frozen=True)
+class Anomaly:
+    """A cycle of links, of which no order keeps all; `is_least` says whether it is proved that none has fewer steps."""
+
+    shape: str
+    steps: int
+    is_least: bool
+    cycle: Tuple[Step, ...]
+
+    def text(self) -> str:
+        """The answer as `tcc` prints it."""
+        head = "anomaly: %d steps, %s%s" % (self.steps, self.shape, "" if self.is_least else ", least not proved")
+        return "".join(line + "\n" for line in (head, *(line for one in self.cycle for line in one.lines())))
+
+
+@dataclass(frozen=True)
+class Unresolved:
+    """Reads that can't be traced to a write: nothing can be judged."""
+
+    faults: Tuple[Fault, ...]
+
+    def text(self) -> str:
+        """The answer as `tcc` prints it."""
+        return "".join(line + "\n" for line in ("unresolved: %d faults" % len(self.faults), *(one.line() for one in self.faults)))
+
+
+Answer = Union[Consistent, Anomaly, Unresolved]
+
+
+def program(path: Optional[Path] = None) -> str:
+    """The program: that of the path, else that which the variable TCC names, else the one on the path of programs."""
+    wanted = os.fspath(path or os.environ.get("TCC") or "tcc")
+    found = shutil.which(wanted)
+    if not found:
+        raise NoAnswer("there is no program %s: `make dist` makes an archive with it; name it, or set TCC" % wanted)
+    return found
+
+
+def explain(records: Path, *, level: str = "causal", large: bool = False, workers: int = 1, require: int = 1,
+            seconds: Optional[float] = None, tcc: Optional[Path] = None) -> Answer:
+    """The last answer for a file of records. Fewer transactions than are required are no answer, and so is an empty file, unless
+    none are required. NoAnswer says why there is none, also where it isn't there after so many seconds."""
+    words = [program(tcc), "explain", "--json", "--level", level, *(["--large"] if large else []), "--workers", str(workers),
+             "--require", str(require), os.fspath(records)]
+    return answer_of(run(words, seconds).stdout.splitlines()[-1])
+
+
+def run(words: List[str], seconds: Optional[float]) -> "subprocess.CompletedProcess[str]":
+    """A run that answered."""
+    try:
+        ended = subprocess.run(words, stdin=subprocess.DEVNULL, capture_output=True, text=True, encoding="utf-8", errors="replace",
+                               timeout=seconds, check=False)
+    except subprocess.TimeoutExpired as error:
+        raise NoAnswer("no answer after %s seconds" % seconds) from error
+    if ended.returncode not in (CONSISTENT, ANOMALY, UNRESOLVED):
+        said = (ended.stdout.splitlines() or [""])[-1][:200]
+        raise NoAnswer("tcc ended with %d: %s" % (ended.returncode, "; ".join(filter(None, (said, ended.stderr.strip())))),
+                       ended.returncode)
+    return ended
+
+
+def answer_of(line: str) -> Answer:
+    """The answer that a line of JSON tells."""
+    try:
+        told = json.loads(line)
+        return KINDS[told["answer"]](told)
+    except (ValueError, KeyError, TypeError) as error:
+        raise NoAnswer("no answer of tcc explain --json: %s" % line[:200]) from error
+
+
+def consistent(told: Mapping[str, Any]) -> Consistent:
+    return Consistent(told["transactions"], told["sessions"], tuple(told["order"]))
+
+
+def anomaly(told: Mapping[str, Any]) -> Anomaly:
+    return Anomaly(told["shape"], told["steps"], told.get("least") is not False, tuple(map(step, told["cycle"])))
+
+
+def unresolved(told: Mapping[str, Any]) -> Unresolved:
+    return Unresolved(tuple(Fault(**{name: one[name] for name in FAULT}) for one in told["faults"]))
+
+
+def step(told: Mapping[str, Any]) -> Step:
+    return Step(told["kind"], told["from"], told["to"], told.get("key"), told.get("reader"), tuple(map(step, told.get("walk", ()))))
+
+
+FAULT = tuple(field.name for field in fields(Fault))
+KINDS: Dict[str, Callable[[Mapping[str, Any]], Answer]] = {
+    "consistent": consistent, "anomaly": anomaly, "unresolved": unresolved}

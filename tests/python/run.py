@@ -1,0 +1,338 @@
+#!/usr/bin/env python3
+"""Tests the package of python/ as it is once pip has installed it, from the folder and without a network.
+
+    run.py [--tcc PATH]
+
+Into a new folder: what is asked of it is asked of what stands there. That its types are right is asked of mypy, and its fixtures
+are run by pytest. Where pip, mypy or pytest isn't there, what needs it is passed over, which is said. Each difference is one line;
+the last line is `N passed, M failed`.
+"""
+import json
+import os
+import pathlib
+import shutil
+import signal
+import subprocess
+import sys
+import tempfile
+import threading
+from typing import Callable, Dict, Iterator, List, Optional
+
+HERE = pathlib.Path(__file__).resolve().parent
+TOP = HERE.parent.parent
+PACKAGE = TOP / "python"
+sys.path.insert(0, str(TOP / "tests"))
+from arguments import status_on_tcc  # noqa: E402
+from counted import Outcome  # noqa: E402
+
+SECONDS = 120
+THREADS, TURNS = 8, 40
+# A process that is killed while a transaction of its is in its COMMIT, and another one hasn't come so far.
+DYING = """
+import os, signal, sys
+from tcc import Recorder
+recorder = Recorder(sys.argv[1])
+one, other = recorder.session("a"), recorder.session("b")
+with one.transaction() as first:
+    first.write("x", 5000)
+with one.transaction() as second:
+    second.read("x", 5000)
+    second.write("x", 9000)
+    second.write("y", 9001)
+    second.committing()
+    with other.transaction() as third:
+        third.write("z", 9002)
+        os.kill(os.getpid(), signal.SIGKILL)
+"""
+TESTED = """
+def test_kept(tcc_recorder, assert_causal):
+    record(tcc_recorder, 5000)
+    assert assert_causal(tcc_recorder).transactions == 2
+
+def test_broken(tcc_recorder, assert_causal):
+    record(tcc_recorder, None)
+    assert_causal(tcc_recorder)
+
+def test_untraced(tcc_recorder, assert_causal):
+    record(tcc_recorder, 7)
+    assert_causal(tcc_recorder)
+
+def test_nothing(tcc_recorder, assert_causal):
+    assert_causal(tcc_recorder)
+
+def test_no_records(tmp_path, assert_causal):
+    path = tmp_path / "records.csv"
+    path.write_text("a,begin\\n")
+    assert_causal(path)
+
+def record(recorder, value):
+    session = recorder.session("a")
+    with session.transaction() as one:
+        one.write("x", 5000)
+    with session.transaction() as one:
+        one.read("x", value)
+"""
+# What pytest's report says of each test, and what stands in its message.
+REPORTED = {"test_kept": None, "test_broken": "anomaly: 3 steps, stale-initial-read", "test_untraced": "ThinAir a/2 op 1 x 7",
+            "test_nothing": "only 0 transactions", "test_no_records": "Unfinished"}
+
+
+def installed(folder: str) -> Optional[str]:
+    """Installs the package into a folder; what went wrong."""
+    words = [sys.executable, "-m", "pip", "install", "--quiet", "--no-index", "--no-deps", "--disable-pip-version-check",
+             "--root-user-action=ignore", "--target", folder, str(PACKAGE)]
+    done = subprocess.run(words, capture_output=True, text=True, timeout=SECONDS, check=False)
+    return None if done.returncode == 0 else "status %d, %s" % (done.returncode, done.stderr[-300:])
+
+
+def python_with(module: str) -> Optional[str]:
+    """The Python that has a module: this one, or that of Debian's packages."""
+    for python in (sys.executable, "/usr/bin/python3"):
+        if shutil.which(python) and subprocess.run([python, "-c", "import " + module], capture_output=True, check=False).returncode == 0:
+            return python
+    return None
+
+
+def run(words: List[str], folder: str, **more) -> "subprocess.CompletedProcess[str]":
+    """A run in which the package is that of the folder."""
+    return subprocess.run(words, capture_output=True, text=True, timeout=SECONDS, check=False,
+                          env={**os.environ, "PYTHONPATH": folder, "PYTHONDONTWRITEBYTECODE": "1"}, **more)
+
+
+def differs(name: str, wanted, got) -> Outcome:
+    return name, None if wanted == got else "wanted %r, got %r" % (wanted, got)
+
+
+def raises(kind: type, what: Callable) -> Optional[str]:
+    try:
+        what()
+    except kind:
+        return None
+    return "no %s" % kind.__name__
+
+
+class Broken(Exception):
+    """A connection broke."""
+
+
+class Refused(Exception):
+    """The store refused."""
+
+
+def ended(session, pairs: list, how: Optional[Exception], committing: bool) -> None:
+    """A transaction of these reads and writes that ends so."""
+    try:
+        with session.transaction(refused=(Refused,)) as one:
+            for does, key, value in pairs:
+                (one.read if does == "r" else one.write)(key, value)
+            if committing:
+                one.committing()
+            if how:
+                raise how
+    except (Broken, Refused):
+        pass
+
+
+def ends(folder: pathlib.Path) -> Iterator[Outcome]:
+    """Each way in which a transaction can end, and what is recorded of it."""
+    from tcc import Recorder
+    path = folder / "ends.csv"
+    with Recorder(path, notes=folder / "ends.notes") as recorder:
+        a, b = recorder.session("a", node="n0"), recorder.session("b")
+        ended(a, [("r", "x", None), ("w", "x", 1)], None, True)
+        ended(a, [("w", "x", 2)], Refused(), True)                   # refused in its COMMIT: an abort, without what it read
+        ended(a, [("r", "x", 1), ("w", "x", 3)], Broken(), False)    # broke before its COMMIT: an abort
+        ended(a, [("r", "x", 1)], Broken(), False)                   # only read and broke: left out
+        ended(a, [("r", "x", 1), ("w", "x", 4)], Broken(), True)     # unknown, and read below
+        ended(a, [("w", "x", 5)], Broken(), True)                    # unknown, and nobody read it
+        ended(a, [("w", "y", 6)], None, True)
+        a.renew()
+        ended(a, [("r", "y", 6)], None, False)
+        with b.transaction() as one:
+            one.write("z", 7)
+            one.abort()
+        ended(b, [("r", "x", 4)], None, True)
+    wanted = ["a,begin", "a,r,x,0", "a,w,x,1", "a,commit", "a,begin", "a,w,x,2", "a,abort", "a,begin", "a,w,x,3", "a,abort",
+              "a.3,begin", "a.3,w,y,6", "a.3,commit", "a.4,begin", "a.4,r,y,6", "a.4,commit",
+              "b,begin", "b,w,z,7", "b,abort", "b,begin", "b,r,x,4", "b,commit",
+              "a,begin", "a,w,x,4", "a,commit", "a.2,begin", "a.2,w,x,5", "a.2,abort"]
+    yield differs("records of each end", wanted, path.read_text().split())
+    yield differs("file beside", False, os.path.exists(str(path) + ".pending"))
+    notes = [line.split(",") for line in (folder / "ends.notes").read_text().splitlines()]
+    wanted = [["transaction", "node", "note"], ["a/1", "n0", ""], ["a/2", "n0", "abort: Refused"], ["a/3", "n0", "abort: Broken"],
+              ["a/4", "n0", "unknown: Broken"], ["a.2/1", "n0", "unknown: Broken"], ["a.3/1", "n0", ""], ["a.4/1", "n0", ""],
+              ["b/1", "", "abort"], ["b/2", "", ""]]
+    yield differs("annotations", wanted, [[label, node, note] for label, node, _, note in notes])
+
+
+def refusals(folder: pathlib.Path) -> Iterator[Outcome]:
+    """What can't be recorded is refused before anything is noted, and so is who comes second."""
+    from tcc import Busy, NoRecord, Recorder
+    path = folder / "refused.csv"
+    with Recorder(path) as recorder:
+        yield "a second recorder of a file", raises(Busy, lambda: Recorder(path))
+        yield "a name with a comma", raises(NoRecord, lambda: recorder.session("a,b"))
+        yield "a name without room", raises(NoRecord, lambda: recorder.session("a" * 25))
+        session = recorder.session("a")
+        with session.transaction() as one:
+            yield "a write of 0", raises(NoRecord, lambda: one.write("x", 0))
+            yield "a write of 2^64", raises(NoRecord, lambda: one.write("x", 2**64))
+            yield "a read of -1", raises(NoRecord, lambda: one.read("x", -1))
+            yield "a key with a space", raises(NoRecord, lambda: one.write("x y", 1))
+            yield "a transaction in a transaction", raises(NoRecord, lambda: session.transaction().__enter__())
+    yield differs("records of nothing", "a,begin\na,commit\n", path.read_text())
+    yield "a closed recorder", raises(NoRecord, lambda: ended(recorder.session("late"), [("w", "x", 1)], None, True))
+    other = folder / "other.csv"
+    other.write_text("name,age\nann,5\n")
+    yield "a file of something else", raises(NoRecord, lambda: Recorder(other))
+    yield differs("its text", "name,age\nann,5\n", other.read_text())
+
+
+def crash(folder: pathlib.Path, library: str) -> Iterator[Outcome]:
+    """A process is killed in a COMMIT: what was under way is known, a run that goes on behind it ends it by what is read."""
+    from tcc import Recorder
+    path = folder / "crash.csv"
+    done = run([sys.executable, "-c", DYING, str(path)], library)
+    yield differs("status of the process", -signal.SIGKILL, done.returncode)
+    first = ["a,begin", "a,w,x,5000", "a,commit"]
+    yield differs("records that a killed process leaves", first, path.read_text().split())
+    with open(path, "a", encoding="ascii") as file:
+        file.write("b,begin\nb,r,x,50")  # as where the disk was full
+    with Recorder(path) as recorder:
+        session = recorder.session("a")
+        yield differs("the session behind it", "a.2", session.name)
+        yield differs("a value behind it", True, recorder.new_value() > 9002)
+        with session.transaction() as one:
+            one.read("y", 9001)
+    second = ["a.2,begin", "a.2,r,y,9001", "a.2,commit", "a,begin", "a,w,x,9000", "a,w,y,9001", "a,commit", "b,begin", "b,w,z,9002", "b,abort"]
+    yield differs("records behind it", first + second, path.read_text().split())
+    alone = folder / "alone.csv"
+    run([sys.executable, "-c", DYING, str(alone)], library)
+    settled = run([sys.executable, os.path.join(library, "bin/tcc-settle"), str(alone)], library)
+    yield differs("tcc-settle", (0, "tcc-settle: of unknown outcome 0 read, so committed, 2 unread, so aborted\n"),
+                  (settled.returncode, settled.stderr))
+    wanted = first + ["a,begin", "a,w,x,9000", "a,w,y,9001", "a,abort", "b,begin", "b,w,z,9002", "b,abort"]
+    yield differs("records that tcc-settle ends", wanted, alone.read_text().split())
+    missing = run([sys.executable, os.path.join(library, "bin/tcc-settle"), str(folder / "missing.csv")], library)
+    yield differs("tcc-settle of no file", 1, missing.returncode)
+
+
+def threads(folder: pathlib.Path, tcc: List[str]) -> Iterator[Outcome]:
+    """Threads that share a recorder and a map: each transaction is whole in the file, and `tcc` finds an order."""
+    from tcc import Consistent, Recorder, explain
+    path, values, lock = folder / "threads.csv", {}, threading.Lock()
+
+    def work(recorder) -> None:
+        session = recorder.session("c")
+        for turn in range(TURNS):
+            with session.transaction() as one, lock:
+                key = "k%d" % (turn % 5)
+                one.read(key, values.get(key))
+                value = recorder.new_value()
+                one.write(key, value)
+                values[key] = value
+
+    with Recorder(path, number=3) as recorder:
+        working = [threading.Thread(target=work, args=(recorder,)) for _ in range(THREADS)]
+        for thread in working:
+            thread.start()
+        for thread in working:
+            thread.join()
+    answer = explain(path, tcc=tcc[-1], require=THREADS * TURNS)
+    yield differs("answer for threads", (Consistent, THREADS * TURNS, THREADS), (type(answer), answer.transactions, answer.sessions))
+
+
+def answers(folder: pathlib.Path, tcc: List[str]) -> Iterator[Outcome]:
+    """Typed answers: they say what `tcc` prints, and what is none is raised with its status."""
+    from tcc import Anomaly, Fault, NoAnswer, Step, Unresolved, explain
+    answer = explain(TOP / "examples/stale-read.csv", tcc=tcc[-1])
+    step = Step("session", "a/1", "a/2")
+    wanted = Anomaly("stale-initial-read", 3, True, (
+        Step("session", "init", "a/1"), Step("derived", "a/1", "init", "x", "a/2", (step,))))
+    yield differs("an anomaly", wanted, answer)
+    thin = folder / "thin.csv"
+    thin.write_text("a,begin\na,r,x,7\na,commit\n")
+    answer = explain(thin, tcc=tcc[-1])
+    yield differs("an unresolved answer", Unresolved((Fault("ThinAir", "a", 1, 1, "x", 7),)), answer)
+    for path in [*sorted((TOP / "examples").glob("*.csv")), thin]:
+        done = subprocess.run([*tcc, "explain", str(path)], capture_output=True, text=True, timeout=SECONDS, check=False)
+        printed = done.stdout[:done.stdout.rindex(done.stdout.splitlines()[-1])] + done.stdout.splitlines()[-1]
+        try:
+            text = explain(path, tcc=tcc[-1], require=0).text()
+        except NoAnswer as error:
+            yield differs("status of %s" % path.name, done.returncode, error.status)
+        else:
+            yield "text of %s" % path.name, None if (printed + "\n").endswith(text) else "wanted the end of %r, got %r" % (printed, text)
+    empty = folder / "empty.csv"
+    empty.write_text("")
+    for name, path, more, status in (("no records", empty, {}, 3), ("no file", folder / "none.csv", {}, 6),
+                                     ("no program", thin, {"tcc": folder / "none"}, None)):
+        try:
+            explain(path, **{"tcc": tcc[-1], **more})
+            yield name, "an answer"
+        except NoAnswer as error:
+            yield differs(name, status, error.status)
+
+
+def types() -> Iterator[Outcome]:
+    if not shutil.which("mypy"):
+        print("types: passed over: no mypy on the path")
+        return
+    done = subprocess.run(["mypy", "--strict", "--ignore-missing-imports", "--cache-dir", os.devnull, "tcc", "backend/wheels.py"], cwd=PACKAGE,
+                          capture_output=True, text=True, timeout=SECONDS, check=False)
+    yield "mypy --strict", None if done.returncode == 0 else done.stdout[-500:]
+
+
+def fixtures(folder: pathlib.Path, library: str, tcc: List[str]) -> Iterator[Outcome]:
+    """The fixtures: a test passes where the store kept its promise, and fails where it broke it and where nothing was judged."""
+    python = python_with("pytest")
+    if python is None:
+        print("fixtures: passed over: no pytest")
+        return
+    (folder / "test_store.py").write_text(TESTED)
+    report = folder / "report.xml"
+    done = run([python, "-m", "pytest", "-q", "-p", "no:cacheprovider", "--tcc", os.path.abspath(tcc[-1]), "--junit-xml", str(report),
+                "test_store.py"], library, cwd=folder)
+    yield differs("status of pytest", 1, done.returncode)
+    import xml.etree.ElementTree as xml
+    cases = {one.get("name"): one.find("failure") for one in xml.parse(report).iter("testcase")} if report.exists() else {}
+    yield differs("tests", sorted(REPORTED), sorted(cases))
+    for name, message in REPORTED.items():
+        failure = cases.get(name)
+        said = None if failure is None else failure.get("message", "") + (failure.text or "")
+        yield name, None if (message is None) == (said is None) and (message or "") in (said or "") else "it says %r" % said
+
+
+def same_version(tcc: List[str]) -> Iterator[Outcome]:
+    """The package has the version of the program."""
+    shown = subprocess.run([*tcc, "--version"], capture_output=True, text=True, timeout=SECONDS, check=False).stdout.split()
+    text = (PACKAGE / "pyproject.toml").read_text()
+    yield "version", None if shown and 'version = "%s"' % shown[-1] in text else "the program's is %s" % shown
+
+
+def outcomes(tcc: List[str]) -> Iterator[Outcome]:
+    yield from types()
+    yield from same_version(tcc)
+    if subprocess.run([sys.executable, "-m", "pip", "--version"], capture_output=True, check=False).returncode:
+        print("the package: passed over: no pip")
+        return
+    with tempfile.TemporaryDirectory() as name:
+        folder, library = pathlib.Path(name), os.path.join(name, "library")
+        wrong = installed(library)
+        yield "pip install", wrong
+        if wrong:
+            return
+        sys.path.insert(0, library)
+        import tcc as package
+        yield "what is imported", None if package.__file__.startswith(library) else package.__file__
+        for part in (ends(folder), refusals(folder), crash(folder, library), threads(folder, tcc), answers(folder, tcc),
+                     fixtures(folder, library, tcc)):
+            yield from part
+
+
+def main() -> int:
+    return status_on_tcc("Tests the package of python/.", outcomes)
+
+
+if __name__ == "__main__":
+    sys.exit(main())
