@@ -10,12 +10,15 @@ Where the input is no EDN, or has ##NaN, ##Inf or ##-Inf, which no JSON has, not
 shows, and the status is 1.
 """
 import argparse
+import itertools
 import json
 import re
 import sys
 from collections import Counter
 from dataclasses import dataclass, field
 from typing import Iterator, List, TextIO
+
+from progress import INTERRUPTED, Doing
 
 EXAMPLE = """example:
   $ echo '{:type :ok, :process 3, :f :txn, :value [[:r :x nil] [:w :y 5]]}' | edn.py
@@ -25,6 +28,7 @@ EXAMPLE = """example:
 GAP = re.compile(r"(?:[\s,]|;[^\n]*)*")
 TOKEN = re.compile(r'"(?:[^"\\]|\\.)*"|\\(?:u[0-9a-fA-F]{4}|[a-z]+|.)|#_|#\{|\^|#[A-Za-z][^\s,;"(){}\[\]\\]*|[(){}\[\]]'
                    r"|[^\s,;\"(){}\[\]\\#]+[^\s,;\"(){}\[\]\\]*|\#\#(?:-?Inf|NaN)", re.DOTALL)
+PULLED = 64  # lines at a time
 CLOSING = {"(": ")", "[": "]", "{": "}", "#{": "}"}
 WORDS = {"nil": None, "true": True, "false": False}
 WHOLE = re.compile(r"([+-]?[0-9]+)N?")
@@ -39,21 +43,55 @@ class NoEdn(Exception):
 
 @dataclass
 class Reader:
-    """Reads the values of a text, one after the other."""
+    """Reads the values of a text, one after the other; the text comes some lines at a time, as far as it is needed."""
 
-    text: str
+    lines: Iterator[str]
+    text: str = ""
     at: int = 0
     left_out: Counter = field(default_factory=Counter)
+    counted: int = 0  # up to here the line was counted
+    number: int = 1
+    pulled: int = PULLED
+
+    def line(self) -> int:
+        """The line of what comes next."""
+        self.number += self.text.count("\n", self.counted, self.at)
+        self.counted = self.at
+        return self.number
 
     def fails(self, why: str, at: int) -> NoEdn:
-        return NoEdn("line %d: %s" % (self.text.count("\n", 0, at) + 1, why))
+        return NoEdn("line %d: %s" % (self.text.count("\n", 0, at) + self.number - self.text.count("\n", 0, self.counted), why))
+
+    def drop(self) -> None:
+        """Lets go of the text where it was read to its end: nothing in it can be told any more."""
+        if GAP.match(self.text, self.at).end() == len(self.text):
+            self.at = len(self.text)
+            self.line()
+            self.text, self.at, self.counted, self.pulled = "", 0, 0, PULLED
+
+    def more(self) -> bool:
+        """Whether there were more lines, which now stand behind the text; of a long value each time twice as many."""
+        lines = "".join(itertools.islice(self.lines, self.pulled))
+        self.text += lines
+        self.pulled *= 2
+        return bool(lines)
+
+    def skip(self) -> bool:
+        """Goes past what stands between tokens; whether there is one."""
+        while True:
+            self.at = GAP.match(self.text, self.at).end()
+            if self.at < len(self.text):
+                return True
+            if not self.more():
+                return False
 
     def token(self) -> str:
         """The next token; none at the end of the text."""
-        self.at = GAP.match(self.text, self.at).end()
-        if self.at == len(self.text):
+        if not self.skip():
             return ""
         found = TOKEN.match(self.text, self.at)
+        while not found and self.text[self.at] == '"' and self.more():  # a text may go on over several lines
+            found = TOKEN.match(self.text, self.at)
         if not found:
             raise self.fails("no EDN begins with %r" % self.text[self.at:self.at + 10], self.at)
         self.at = found.end()
@@ -69,6 +107,12 @@ class Reader:
                 self.discard()
             else:
                 yield self.value(token)
+            if not closing:
+                self.drop()
+
+    def value_of_all(self):
+        """The value that is the whole text."""
+        return list(self.values())[0]
 
     def discard(self) -> None:
         """Goes past a value that is none of the input's."""
@@ -153,10 +197,11 @@ def told_apart(values: List[object]) -> List[object]:
     return values
 
 
-def run(asked: argparse.Namespace, out: TextIO) -> None:
+def run(asked: argparse.Namespace, doing: Doing, out: TextIO) -> None:
     with open(asked.file, "rb") if asked.file else sys.stdin.buffer as file:
-        reader = Reader(file.read().decode())
-    lines = [json.dumps(value, allow_nan=False) for value in told_apart(list(reader.values()))]
+        reader = Reader(line.decode() for line in file)
+        lines = [json.dumps(value, allow_nan=False) for value in told_apart(list(reader.values()))]
+    doing.clear()
     out.writelines(line + "\n" for line in lines)
     out.flush()
     for what, times in sorted(reader.left_out.items()):
@@ -164,8 +209,13 @@ def run(asked: argparse.Namespace, out: TextIO) -> None:
 
 
 def main() -> int:
+    asked = arguments()
     try:
-        run(arguments(), sys.stdout)
+        with Doing("reads EDN") as doing:
+            run(asked, doing, sys.stdout)
+    except KeyboardInterrupt:
+        print("edn.py: interrupted: the lines aren't all there", file=sys.stderr)
+        return INTERRUPTED
     except (NoEdn, OSError, ValueError, RecursionError) as error:
         print("edn.py: %s" % error, file=sys.stderr)
         return 1

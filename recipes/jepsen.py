@@ -1,8 +1,10 @@
 #!/usr/bin/env python3
-"""Turns a history of transactions on registers, as Jepsen and Elle have it, into records for `tcc explain`.
+"""Turns a history of transactions on registers or lists, as Jepsen and Elle have it, into records for `tcc explain`.
 
-Each line of the input is one operation, a JSON object, or the input is one array of them:
+The input is Jepsen's history.edn, maps of EDN one behind the other or one vector of them; or lines of JSON, each one operation;
+or one array of such objects:
 
+  {:type :ok, :process 3, :f :txn, :value [[:r :x nil] [:w :y 5]], :index 7}
   {"type":"ok","process":3,"f":"txn","value":[["r","x",null],["w","y",5]]}
   {"type":"ok","process":3,"f":"read","value":5}
 
@@ -17,9 +19,14 @@ What a `fail` or an `info` read is left out. A line whose process is no number a
 one register, the key `register`. Where keys are independent, a value is a pair [k, v]: then the key x of a "txn" is k.x, and
 that of a "read" or "write" is k.
 
+Where transactions append to lists, an append of v is a write of v, a read of a list is one of its last value, and a read of an
+empty list one of the initial value. The read of a list that has a value twice is named and left out. docs/RECORDING.md says what
+of lists isn't looked for.
+
 Keys that are names, and values that are whole numbers from 1, stand for themselves. Others get a name or a number that
 nothing else has; --table says into which file the list of these goes. --map says into which file goes, for each transaction
-of the records, the `index` of the operation that ended it, and its line.
+of the records, the `index` of the operation that ended it, and its line. What EDN has and JSON hasn't (tags, metadata) is
+left out, and counted by name.
 
 Standard output has the records, standard error what was left out, and before that where the records pass a limit of `tcc`.
 Where something can't be told, there are no records, but its line, and the status is 1.
@@ -31,8 +38,13 @@ import json
 import re
 import sys
 from collections import Counter
-from dataclasses import dataclass, field
-from typing import BinaryIO, Dict, Iterable, Iterator, List, Optional, Set, TextIO, Tuple
+from typing import BinaryIO, Iterable, Iterator, Tuple
+
+from edn import NoEdn, Reader
+from imported import Imported, Nemesis
+from notes import write_notes
+from operations import USUAL, Untold, is_number, operation, spelled
+from progress import INTERRUPTED, Doing
 
 EXAMPLE = """example: session p1 doesn't see its own write
   $ cat history.jsonl
@@ -47,108 +59,11 @@ EXAMPLE = """example: session p1 doesn't see its own write
     session p1/1 -> p1/2
     against init -> p1/2 by x
 """
-NAME = re.compile(r"[A-Za-z0-9_.-]{1,32}")
 GAP = re.compile(r"[\s,]*")
-GREATEST_VALUE = 2**64 - 1
-TYPES = ("invoke", "ok", "fail", "info")
-STEPS = {"read": "r", "write": "w"}  # what one operation of a register does
-REGISTER = "register"
-# What tcc takes at most.
-LIMITS = {"sessions": 64, "transactions": 4095, "keys": 1024, "operations in a transaction": 256}
-# The same with `--large`.
-LARGE = {"sessions": 65535, "transactions": 1048575, "keys": 1048576, "operations in a transaction": 256}
-HINTS = {"value": "; if keys have it before they are written, say so with --initial"}
-
-
-class Untold(Exception):
-    """A line that can't be told as records, and why."""
-
-    def __init__(self, line: int, why: str):
-        super().__init__("line %d: %s" % (line, why))
-
-
-@dataclass(frozen=True)
-class Step:
-    """A read or a write of a transaction; key and value are spelled as JSON."""
-
-    is_write: bool
-    key: str
-    value: str
-
-
-def written(told: Tuple[Step, ...]) -> Tuple[Step, ...]:
-    return tuple(one for one in told if one.is_write)
-
-
-@dataclass(frozen=True)
-class Operation:
-    """A line about a transaction; its process is spelled as JSON, and without steps it had the value null."""
-
-    line: int
-    type: str
-    process: str
-    steps: Optional[Tuple[Step, ...]]
-    index: Optional[int] = None
-
-
-@dataclass(frozen=True)
-class Transaction:
-    """A transaction and how it went: `ok`, `fail` or `info`."""
-
-    line: int
-    process: str
-    outcome: str
-    steps: Tuple[Step, ...]
-    index: Optional[int] = None
-
-    def writes(self) -> Tuple[Step, ...]:
-        return written(self.steps)
-
-
-@dataclass
-class Names:
-    """What stands in the records for things of one kind, by how JSON spells them."""
-
-    kind: str
-    given: Dict[str, str] = field(default_factory=dict)
-    listed: List[str] = field(default_factory=list)
-
-
-def spelled(value) -> str:
-    """One spelling for each value of JSON; so 1, true, 1.0 and "1" differ."""
-    return json.dumps(value, sort_keys=True)
-
-
-def is_pair(value, is_second) -> bool:
-    """Whether a value is that of an independent key: the key, which is no list, and what is so."""
-    return isinstance(value, list) and len(value) == 2 and not isinstance(value[0], list) and is_second(value[1])
-
-
-def steps(line: int, value) -> Optional[Tuple[Step, ...]]:
-    """The reads and writes that the value of a line lists, none where it is null."""
-    if value is None:
-        return None
-    if is_pair(value, lambda inner: inner is None or isinstance(inner, list)):
-        apart, inner = value
-        return None if inner is None else tuple(step(line, one, lambda key: [apart, key]) for one in inner)
-    if not isinstance(value, list):
-        raise Untold(line, "the value is no list of reads and writes")
-    return tuple(step(line, one, lambda key: key) for one in value)
-
-
-def step(line: int, value, named) -> Step:
-    if not isinstance(value, list) or len(value) != 3:
-        raise Untold(line, "%s is no [does, key, value]" % spelled(value))
-    does, key, what = value
-    if does not in ("r", "w"):
-        raise Untold(line, "%s is neither a read (\"r\") nor a write (\"w\") of a register" % spelled(does))
-    return Step(does == "w", spelled(named(key)), spelled(what))
-
-
-def one_step(does: str, value) -> Tuple[Step, ...]:
-    """What an operation on one register does."""
-    key, what = value if is_pair(value, lambda _: True) else (REGISTER, value)
-    return (Step(does == "w", spelled(key), spelled(what)),)
+# How JSON begins: in an object the first text has a colon behind it.
+FORM = re.compile(r"[\s,]*(\[?)[\s,]*")
+JSON_OBJECT = re.compile(r'\{\s*(?:\}|"(?:[^"\\]|\\.)*"\s*:)')
+EDN_BEGINS = ("{", "#", "(", "^", ";", ":", "\\")
 
 
 def no_constant(word: str):
@@ -156,6 +71,128 @@ def no_constant(word: str):
 
 
 DECODER = json.JSONDecoder(parse_constant=no_constant)
+
+
+def is_edn(text: str) -> bool:
+    """Whether a text begins as EDN does, and not as JSON."""
+    begin = FORM.match(text).end()
+    return text.startswith(EDN_BEGINS, begin) and not JSON_OBJECT.match(text, begin)
+
+
+class Reading:
+    """A history as it is read, line by line."""
+
+    def __init__(self, file: BinaryIO, into: Imported, doing: Doing, name: str):
+        self.file, self.into, self.doing, self.name = file, into, doing, name
+        self.line = 0
+        self.left_out: Counter = Counter()
+
+    def all(self) -> None:
+        """Reads all of it, in the form that it has."""
+        first = []
+        for line in self.file:
+            first.append(line)
+            if line.strip(b" \t\r\n,["):
+                break
+        text = b"".join(first)
+        lines = itertools.chain(first, self.file)
+        if is_edn(text.decode(errors="replace")):
+            self.edn(lines)
+        elif text.lstrip()[:1] == b"[":
+            self.array(b"".join(lines))
+        else:
+            self.json_lines(lines)
+
+    def decoded(self, lines: Iterable[bytes]) -> Iterator[str]:
+        for number, line in enumerate(lines, 1):
+            if number % 4096 == 0:
+                self.doing.now("reads line %d of %s" % (number, self.name))
+            self.line = number
+            try:
+                yield line.decode()
+            except UnicodeDecodeError as error:
+                raise Untold(number, "no UTF-8: %s" % error.reason) from error
+
+    def json_lines(self, lines: Iterable[bytes]) -> None:
+        """The object of each line that isn't blank."""
+        for text in self.decoded(lines):
+            if not text.isspace():
+                self.object(self.line, read_object(self.line, text.rstrip("\r\n")))
+
+    def array(self, data: bytes) -> None:
+        """The objects of an array that is the whole text, each with the line in which it begins."""
+        try:
+            text = data.decode()
+        except UnicodeDecodeError as error:
+            raise Untold(data.count(b"\n", 0, error.start) + 1, "no UTF-8: %s" % error.reason) from error
+        del data
+        at, before = len(text) - len(text.lstrip()) + 1, 0
+        self.line = 1
+        while True:
+            at = GAP.match(text, at).end()
+            self.line, before = self.line + text.count("\n", before, at), at
+            if text[at:at + 1] == "]" and not text[at + 1:].strip():
+                return
+            try:
+                value, at = DECODER.raw_decode(text, at)
+            except (ValueError, RecursionError) as error:
+                raise Untold(self.line, "no JSON: %s" % getattr(error, "msg", error)) from error
+            if not isinstance(value, dict):
+                raise Untold(self.line, "no JSON object; each item of the array is one operation")
+            self.object(self.line, value)
+
+    def edn(self, lines: Iterable[bytes]) -> None:
+        """The maps of EDN, one behind the other or in one vector."""
+        reader = Reader(self.decoded(lines))
+        try:
+            self.maps(reader)
+        except RecursionError as error:
+            raise Untold(reader.line(), "no EDN: %s" % error) from error
+        self.left_out = reader.left_out
+
+    def maps(self, reader: Reader) -> None:
+        vector, is_first = 0, True
+        match, usual = USUAL.match, self.into.usual
+        while reader.skip():
+            found = match(reader.text, reader.at)
+            if found and usual(reader.line(), found):
+                if found.group().startswith("#"):
+                    reader.left_out["the tag jepsen.history.Op"] += 1
+                reader.at = found.end()
+            else:
+                line, token = reader.line(), reader.token()
+                if token == "[" and is_first:
+                    vector = line
+                elif token == "]" and vector:
+                    if reader.skip():
+                        raise Untold(reader.line(), "behind the vector that is the history something else stands")
+                    return
+                elif token == "#_":
+                    reader.discard()
+                else:
+                    self.edn_value(line, reader.value(token))
+            is_first = False
+            reader.drop()
+        if vector:
+            raise Untold(vector, "no EDN: what begins here has no end: ']' is missing")
+
+    def edn_value(self, line: int, value) -> None:
+        if not isinstance(value, dict):
+            raise Untold(line, "no map of EDN; each is one operation")
+        self.object(line, value)
+
+    def object(self, line: int, told: dict) -> None:
+        """Takes an operation, or passes it over."""
+        if self.into.usual_object(line, told):
+            return
+        one = operation(line, told)
+        if one is not None:
+            self.into.unusual(one)
+            return
+        self.into.passed_over["other"] += 1
+        index, time = told.get("index"), told.get("time")
+        self.into.nemesis.append(Nemesis(line, index if is_number(index) else None, time if is_number(time) else None,
+                                         str(told.get("type")), str(told.get("f")), spelled(told.get("value"))))
 
 
 def read_object(line: int, text: str) -> dict:
@@ -170,245 +207,16 @@ def read_object(line: int, text: str) -> dict:
     return value
 
 
-def operation(line: int, told: dict) -> Optional[Operation]:
-    """The operation that an object tells, none where it isn't about a transaction."""
-    process = told.get("process")
-    is_number = isinstance(process, int) and not isinstance(process, bool)
-    does = told.get("f", "txn" if is_number else None)
-    if does not in ("txn", *STEPS):
-        if is_number:
-            raise Untold(line, "f is %s: of a client's operations only \"txn\", \"read\" and \"write\" can be told" % spelled(does))
-        return None
-    if not is_number and not isinstance(process, str):
-        raise Untold(line, "the process is %s, neither a number nor a text" % spelled(process))
-    if told.get("type") not in TYPES:
-        raise Untold(line, "the type is %s, none of %s" % (spelled(told.get("type")), ", ".join(TYPES)))
-    value, index = told.get("value"), told.get("index")
-    mine = steps(line, value) if does == "txn" else one_step(STEPS[does], value)
-    return Operation(line, told["type"], spelled(process), mine, index if isinstance(index, int) else None)
-
-
-def transaction(done: Operation, invoked: Optional[Operation]) -> Transaction:
-    """The transaction of a line that says how it went, and of its invoke if there is one."""
-    if done.type == "ok":
-        if done.steps is None:
-            raise Untold(done.line, "an ok without a value")
-        mine = Transaction(done.line, done.process, done.type, done.steps, done.index)
-        if invoked and invoked.steps is not None and written(invoked.steps) != mine.writes():
-            raise Untold(done.line, "its writes aren't those of its invoke in line %d" % invoked.line)
-        return mine
-    told = next((one.steps for one in (invoked, done) if one and one.steps is not None), None)
-    if told is None:
-        raise Untold(done.line, "neither it nor its invoke says what it would write")
-    return Transaction(done.line, done.process, done.type, told, done.index)
-
-
-def transactions(operations: Iterable[Operation]) -> List[Transaction]:
-    """All transactions, those of a process in its order; an invoke that nothing follows is of unknown outcome."""
-    done: List[Transaction] = []
-    waiting: Dict[str, Operation] = {}
-    unknown: Dict[str, int] = {}
-    for one in operations:
-        if one.process in unknown:
-            raise Untold(one.line, "process %s goes on after line %d, whose outcome is unknown: what it does from there on "
-                         "needs a process of its own" % (one.process, unknown[one.process]))
-        if one.type == "invoke":
-            if one.process in waiting:
-                raise Untold(one.line, "process %s hasn't ended what it began in line %d" % (
-                    one.process, waiting[one.process].line))
-            waiting[one.process] = one
-            continue
-        done.append(transaction(one, waiting.pop(one.process, None)))
-        if one.type == "info":
-            unknown[one.process] = one.line
-    done += (transaction(Operation(one.line, "info", one.process, None, one.index), one) for one in waiting.values())
-    return done
-
-
-def committed(all_of_them: List[Transaction], initial: Set[str]) -> Set[int]:
-    """The lines of the transactions that committed: each `ok`, and each `info` of which an `ok` read a value."""
-    seen = {(step.key, step.value) for one in all_of_them if one.outcome == "ok"
-            for step in one.steps if not step.is_write and step.value not in initial}
-    return {one.line for one in all_of_them if one.outcome == "ok" or one.outcome == "info" and any(
-        (step.key, step.value) in seen for step in one.writes())}
-
-
-def told_steps(one: Transaction) -> Tuple[Step, ...]:
-    """What of a transaction is recorded: what it read only where it is known."""
-    return one.steps if one.outcome == "ok" else one.writes()
-
-
-def assigned(kind: str, lines: Dict[str, int], plain, spare: Iterator[str], may_list: bool) -> Names:
-    """A name for each of the things, whose first lines are given: its plain one where nothing else has that."""
-    names, taken = Names(kind), set()
-    for thing in lines:
-        mine = plain(json.loads(thing))
-        if mine is not None and mine not in taken:
-            names.given[thing] = mine
-            taken.add(mine)
-    for thing, line in lines.items():
-        if thing not in names.given:
-            if not may_list:
-                raise Untold(line, "the %s %s can't stand in a record: --table FILE gives it a stand-in, which FILE "
-                             "tells%s" % (kind, thing, HINTS.get(kind, "")))
-            names.given[thing] = next(name for name in spare if name not in taken)
-            names.listed.append(thing)
-    return names
-
-
-def plain_name(thing) -> Optional[str]:
-    """A text that is a name, or a whole number's digits; of an independent key and a key of its own, both with a point."""
-    if isinstance(thing, list) and len(thing) == 2 and None not in map(plain_name, thing):
-        thing = ".".join(map(str, thing))
-    if isinstance(thing, bool) or not isinstance(thing, (str, int)):
-        return None
-    return str(thing) if NAME.fullmatch(str(thing)) else None
-
-
-def plain_session(process) -> Optional[str]:
-    return plain_name("p%d" % process if isinstance(process, int) else process)
-
-
-def plain_value(thing) -> Optional[str]:
-    is_whole = isinstance(thing, int) and not isinstance(thing, bool)
-    return str(thing) if is_whole and 1 <= thing <= GREATEST_VALUE else None
-
-
-def first_lines(things: Iterable[Tuple[str, int]]) -> Dict[str, int]:
-    """Where each of the things stands first."""
-    lines: Dict[str, int] = {}
-    for thing, line in things:
-        lines.setdefault(thing, line)
-    return lines
-
-
-def spares(stem: str) -> Iterator[str]:
-    return ("%s%d" % (stem, number) for number in itertools.count(1))
-
-
-@dataclass
-class History:
-    """A history that can be told: its transactions, which of them committed, and all names."""
-
-    transactions: List[Transaction]
-    committed: Set[int]
-    sessions: Names
-    keys: Names
-    values: Names
-
-    def records(self) -> Iterator[str]:
-        for one in self.transactions:
-            session = self.sessions.given[one.process]
-            yield "%s,begin" % session
-            for step in told_steps(one):
-                yield "%s,%s,%s,%s" % (session, "w" if step.is_write else "r", self.keys.given[step.key],
-                                       self.values.given[step.value])
-            yield "%s,%s" % (session, "commit" if one.line in self.committed else "abort")
-
-    def places(self) -> Iterator[Tuple[str, str, int]]:
-        """Of each transaction of the records the label, the index of the operation that ended it, and its line."""
-        places: Counter = Counter()
-        for one in self.transactions:
-            session = self.sessions.given[one.process]
-            places[session] += 1
-            yield "%s/%d" % (session, places[session]), "" if one.index is None else str(one.index), one.line
-
-    def warnings(self) -> Iterator[str]:
-        """Where the records pass a limit of `tcc explain`, and what to do."""
-        longest = max((len(told_steps(one)) for one in self.transactions), default=0)
-        counts = {"sessions": len(self.sessions.given), "transactions": len(self.transactions), "keys": len(self.keys.given),
-                  "operations in a transaction": longest}
-        for what, number in counts.items():
-            if number > LARGE[what]:
-                shorter = "transactions" if what.startswith("operations") else "the run"
-                yield "%d %s: tcc takes at most %d, so make %s shorter" % (number, what, LARGE[what], shorter)
-            elif number > LIMITS[what]:
-                yield "%d %s: tcc explain takes at most %d, so say --large" % (number, what, LIMITS[what])
-
-    def table(self) -> Iterator[Tuple[str, str, str]]:
-        """What isn't itself in the records: kind, what stands for it, and how JSON spells it."""
-        for names in (self.sessions, self.keys, self.values):
-            for thing in names.listed:
-                yield names.kind, names.given[thing], thing
-
-
-def history(operations: Iterable[Operation], initial: Set[str], may_list: bool) -> History:
-    every = transactions(operations)
-    told = [(one, step) for one in every for step in told_steps(one)]
-    for one, step in told:
-        if step.is_write and step.value in initial:
-            raise Untold(one.line, "a write of %s, which is the initial value" % step.value)
-    things = first_lines((step.value, one.line) for one, step in told if step.value not in initial)
-    values = assigned("value", things, plain_value, spares(""), may_list)
-    values.given.update((value, "0") for value in initial)
-    return History(
-        every,
-        committed(every, initial),
-        assigned("process", first_lines((one.process, one.line) for one in every), plain_session, spares("s"), may_list),
-        assigned("key", first_lines((step.key, one.line) for one, step in told), plain_name, spares("k"), may_list),
-        values,
-    )
-
-
-def summary(told: History, passed_over: Counter) -> Iterator[str]:
-    """What became of all lines."""
-    ways = Counter((one.outcome, one.line in told.committed) for one in told.transactions)
-    reads = sum(len(one.steps) - len(told_steps(one)) for one in told.transactions)
-    yield "%d committed, %d aborted; of unknown outcome %d, which a read shows as committed, and %d, which count as aborted" % (
-        ways["ok", True], ways["fail", False], ways["info", True], ways["info", False])
-    yield "left out: %d reads of what failed or is unknown; passed over: %d invoke, %d of no transaction" % (
-        reads, passed_over["invoke"], passed_over["other"])
-
-
-def read_lines(lines: Iterable[bytes]) -> Iterator[Tuple[int, dict]]:
-    """The object of each line that isn't blank."""
-    for number, line in enumerate(lines, 1):
-        try:
-            text = line.decode()
-        except UnicodeDecodeError as error:
-            raise Untold(number, "no UTF-8: %s" % error.reason) from error
-        if text.strip():
-            yield number, read_object(number, text.rstrip("\r\n"))
-
-
-def read_array(text: str) -> Iterator[Tuple[int, dict]]:
-    """The objects of an array that is the whole text, each with the line in which it begins."""
-    at, line, before = len(text) - len(text.lstrip()) + 1, 1, 0
-    while True:
-        at = GAP.match(text, at).end()
-        line, before = line + text.count("\n", before, at), at
-        if text[at:at + 1] == "]" and not text[at + 1:].strip():
-            return
-        try:
-            value, at = DECODER.raw_decode(text, at)
-        except (ValueError, RecursionError) as error:
-            raise Untold(line, "no JSON: %s" % getattr(error, "msg", error)) from error
-        if not isinstance(value, dict):
-            raise Untold(line, "no JSON object; each item of the array is one operation")
-        yield line, value
-
-
-def objects(file: BinaryIO) -> Iterator[Tuple[int, dict]]:
-    """The objects of the input, lines or one array, each with its line."""
-    data = file.read()
-    if data.lstrip()[:1] != b"[":
-        return read_lines(data.splitlines(keepends=True))
+def imported(reading: Reading, may_list: bool) -> Imported:
+    """All that is read, with all names."""
     try:
-        return read_array(data.decode())
-    except UnicodeDecodeError as error:
-        raise Untold(data.count(b"\n", 0, error.start) + 1, "no UTF-8: %s" % error.reason) from error
-
-
-def operations(told: Iterable[Tuple[int, dict]], passed_over: Counter) -> Iterator[Operation]:
-    """The operations on transactions, and in the counter how many of other kinds there were."""
-    for number, value in told:
-        one = operation(number, value)
-        if one is None:
-            passed_over["other"] += 1
-            continue
-        if one.type == "invoke":
-            passed_over["invoke"] += 1
-        yield one
+        reading.all()
+    except NoEdn as error:
+        line, _, why = str(error).partition(": ")
+        raise Untold(int(line.split()[1]), "no EDN: %s" % why) from error
+    reading.doing.now("names what stands in the records")
+    reading.into.finish(may_list)
+    return reading.into
 
 
 def write_rows(path: str, rows: Iterable[Tuple]) -> None:
@@ -423,6 +231,12 @@ def json_text(word: str) -> str:
         raise argparse.ArgumentTypeError("%s is no JSON" % word) from error
 
 
+def count(word: str) -> int:
+    if not re.fullmatch("[1-9][0-9]{0,8}", word):
+        raise argparse.ArgumentTypeError("%s is no number from 1" % word)
+    return int(word)
+
+
 def arguments() -> argparse.Namespace:
     ask = argparse.ArgumentParser(description=__doc__, epilog=EXAMPLE, formatter_class=argparse.RawDescriptionHelpFormatter)
     ask.add_argument("history", nargs="?", metavar="HISTORY", help="the file of the operations, by default standard input")
@@ -430,30 +244,54 @@ def arguments() -> argparse.Namespace:
                      "for it, and how JSON spells it")
     ask.add_argument("--map", metavar="FILE", help="writes a line for each transaction of the records: its label, the index of "
                      "the operation that ended it, where it has one, and its line")
+    ask.add_argument("--notes", metavar="FILE", help="writes annotations: of each transaction the node, the time in seconds, the index "
+                     "and the line of the operation that ended it, as far as the history has them")
     ask.add_argument("--initial", metavar="JSON", type=json_text, default="null", help="a value, as JSON, that a key has "
                      "before it is written; nil always is one")
+    ask.add_argument("--seal-every", metavar="N", type=count, help="puts a seal behind each N transactions, in the order in which "
+                     "they ended, so that there is an answer for what was finished by then")
     return ask.parse_args()
 
 
-def run(asked: argparse.Namespace, out: TextIO) -> None:
-    passed_over: Counter = Counter()
+def run(asked: argparse.Namespace, doing: Doing) -> None:
     with open(asked.history, "rb") if asked.history else sys.stdin.buffer as file:
-        told = history(operations(objects(file), passed_over), {"null", asked.initial}, asked.table is not None)
-    for line in told.warnings():
-        print("jepsen.py: " + line, file=sys.stderr, flush=True)
+        reading = Reading(file, Imported({"null", asked.initial}), doing, asked.history or "standard input")
+        try:
+            told = imported(reading, asked.table is not None)
+        except KeyboardInterrupt as error:
+            raise Interrupted("interrupted at line %d: there are no records" % reading.line) from error
+    for line in told.warnings(asked.seal_every):
+        doing.say("jepsen.py: " + line, sys.stderr)
+    doing.now("writes the records")
     if asked.table is not None:
         write_rows(asked.table, told.table())
     if asked.map is not None:
         write_rows(asked.map, told.places())
-    out.writelines(record + "\n" for record in told.records())
-    out.flush()
-    for line in summary(told, passed_over):
-        print("jepsen.py: " + line, file=sys.stderr)
+    if asked.notes is not None:
+        write_notes(asked.notes, told.notes())
+    try:
+        sys.stdout.writelines(told.records(asked.seal_every))
+        sys.stdout.flush()
+    except KeyboardInterrupt as error:
+        raise Interrupted("interrupted while it wrote the records: they aren't whole") from error
+    for line in told.summary():
+        doing.say("jepsen.py: " + line, sys.stderr)
+    for what, times in sorted(reading.left_out.items()):
+        doing.say("jepsen.py: left out: %s (%d)" % (what, times), sys.stderr)
+
+
+class Interrupted(Exception):
+    """Somebody interrupted it, and what there is by then."""
 
 
 def main() -> int:
+    asked = arguments()
     try:
-        run(arguments(), sys.stdout)
+        with Doing("reads the history") as doing:
+            run(asked, doing)
+    except (KeyboardInterrupt, Interrupted) as error:
+        print("jepsen.py: %s" % (error or "interrupted"), file=sys.stderr)
+        return INTERRUPTED
     except (Untold, OSError) as error:
         print("jepsen.py: %s" % error, file=sys.stderr)
         return 1

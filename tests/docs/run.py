@@ -55,7 +55,7 @@ WORD = re.compile(r"`([a-z0-9_/]+)`")
 LEVELS = (ast.Module, ast.ClassDef, ast.FunctionDef)
 # Types of the toolchain, and files that a reader has, makes or names.
 ELSEWHERE = {"Vec", "String", "Option", "Result", "Ordering", "Rattle"}
-MADE = re.compile(r"(?:history|names|records|answer|client-|certificate)\S*|store/|.*\bNAME\b.*|.*\bout/.*")
+MADE = re.compile(r"(?:history|names|places|records|answer|client-|certificate)\S*|store/|.*\bNAME\b.*|.*\bout/.*")
 COMPLETED = (
     ("tcc ", "explain check help --help --version"),
     ("tcc ex", "explain"),

@@ -45,7 +45,7 @@ HELD = {
     "recipes/noted.py": (
         'LIMITS = {"sessions": {!MAX_SESSIONS}, "transactions": {!MAX_TRANSACTIONS}, "keys": {!MAX_KEYS}}',
         'LARGE = {"sessions": {!LARGE_SESSIONS}, "transactions": {!LARGE_TRANSACTIONS}, "keys": {!LARGE_KEYS}}'),
-    "recipes/jepsen.py": (
+    "recipes/imported.py": (
         'LIMITS = {"sessions": {!MAX_SESSIONS}, "transactions": {!MAX_TRANSACTIONS}, "keys": {!MAX_KEYS}, '
         '"operations in a transaction": {!MAX_OPERATIONS}}',),
     "recipes/README.md": (

@@ -20,9 +20,10 @@ A case is a JSON object:
     runs       several runs, each with fields of its own over those of the case
 
 Behind the cases, the help of each script has to show an example, the clients in Python that README, GUIDE and RECORDING show have
-to write what they saw, also where their connections are cut at every call (`clients.py`), and the demos of recipes/redis,
-recipes/postgres and recipes/galera have to find what they show; where their servers or their library for Python aren't there,
-they are passed over, which is said.
+to write what they saw, also where their connections are cut at every call (`clients.py`), each way of reading a history has to
+give the same records, a script that is interrupted to say what it has, and the lines of RECORDING for a large history to end
+with its status (`scripts.py`); and the demos of recipes/redis, recipes/postgres and recipes/galera have to find what they show;
+where their servers or their library for Python aren't there, they are passed over, which is said.
 
 The wanted texts were worked out by hand from the definitions. Each difference is one line; the last line is
 `N passed, M failed`.
@@ -43,6 +44,7 @@ HERE = pathlib.Path(__file__).resolve().parent
 TOP = HERE.parent.parent
 sys.path.insert(0, str(TOP / "tests"))
 import clients  # noqa: E402
+import scripts  # noqa: E402
 from arguments import ask_for_tcc  # noqa: E402
 from compared import first_difference, shown  # noqa: E402
 from counted import Outcome, status_of  # noqa: E402
@@ -226,7 +228,7 @@ def packed(tcc: List[str]) -> Iterator[Outcome]:
         inside = archives[0].name[:-len(".tar.gz")]
         done = subprocess.run([sys.executable, "recipes/all.py", "--tcc", "./tcc", "examples/stale-read.csv"],
                               cwd=os.path.join(folder, inside), capture_output=True, timeout=SECONDS, check=False)
-        wanted = b"1: 3 steps, stale-initial-read, read your writes: a/2 read x = 0 from init, row 5\n"
+        wanted = b"1: read your writes: a/2 read x = 0 from init, row 5; it knew of a/1\n"
         yield "what is packed", None if done.stdout.startswith(wanted) else "%r" % (done.stdout + done.stderr)
         needed = [name for name in ("LICENSE-MIT", "LICENSE-APACHE", "docs/tcc.1", "docs/tcc.bash", "docs/RECORDING.md", "python/pyproject.toml")
                   if not os.path.exists(os.path.join(folder, inside, name))]
@@ -255,6 +257,7 @@ def outcomes(names: List[str], tcc: List[str]) -> Iterator[Outcome]:
         yield from short_client()
         yield from first_example(tcc)
         yield from clients.outcomes(tcc)
+        yield from scripts.outcomes(tcc)
         yield from unknown_outcomes()
         yield from packed(tcc)
         yield from demo("redis", tcc)

@@ -1,0 +1,351 @@
+"""Every contradicted read of a history, worked out with vector clocks, and the walks that show one.
+
+A read of a key by C from A is contradicted where C knew of another write of the key, by B, and A is the initial state or B knew of
+A: then A can't be the last one before C. Each is an anomaly by itself; a history without any can have one of several derived links.
+A read that can't be traced to a write is left out, and of a value that was written twice each later write and all reads: that
+takes rules away, and adds none.
+
+The transactions are sorted by their pairs (Kahn), and the clocks of their sessions worked out along that order, 64 at a time; of
+the writes of the key that stand between A and C in the order each is looked at. N transactions, S sessions, R reads: N*S/64 rows,
+and as many looks as there are such writes.
+"""
+from bisect import bisect_right
+from collections import deque
+from dataclasses import dataclass
+from functools import lru_cache
+from typing import Callable, Dict, Iterable, Iterator, List, NamedTuple, Optional, Set, Tuple
+
+from answers import Link
+from program import Program
+from rows import History, Operation, Transaction
+
+BLOCK = 64
+INIT = -1
+NAMES = ("read your writes", "monotonic reads", "monotonic writes", "writes follow reads", "fractured read", "causal chain")
+
+
+class Read(NamedTuple):
+    """An external read and the number of the transaction that it reads from."""
+
+    operation: Operation
+    source: int
+
+
+@dataclass(frozen=True)
+class Contradicted:
+    """A contradicted read: who read, from whom, which other writer it knew of, and how that is usually called."""
+
+    reader: str
+    operation: Operation
+    source: str
+    writer: str
+    name: str
+
+
+class Fault(NamedTuple):
+    """An operation that can't be judged."""
+
+    kind: str
+    label: str
+    operation: Operation
+    writer: str
+
+
+class Graph:
+    """The committed transactions by number, sorted by session and place, with the reads that can be traced and their sources."""
+
+    def __init__(self, history: History):
+        committed = [one for one in history.transactions.values() if one.committed]
+        self.transactions: List[Transaction] = sorted(committed, key=lambda one: (one.session, one.place))
+        self.numbers = {one.label: number for number, one in enumerate(self.transactions)}
+        self.sessions: List[int] = []
+        self.names: List[str] = []
+        self.begins: List[int] = []
+        for number, one in enumerate(self.transactions):
+            if not self.names or self.names[-1] != one.session:
+                self.names.append(one.session)
+                self.begins.append(number)
+            self.sessions.append(len(self.names) - 1)
+        self.faults: List[Fault] = []
+        self.reads: List[List[Read]] = []
+        self.writers: Dict[str, List[int]] = {}
+        self._resolve(history)
+
+    def _resolve(self, history: History) -> None:
+        first: Dict[Tuple[str, str], Tuple[str, bool, Operation]] = {}
+        twice: Set[Tuple[str, str]] = set()
+        for one in sorted(history.transactions.values(), key=lambda one: (one.session, one.place)):
+            for each in one.operations:
+                if each.does == "w":
+                    pair = each.key, each.value
+                    if pair in first:
+                        twice.add(pair)
+                        self.faults.append(Fault("Duplicate", one.label, each, first[pair][0]))
+                    else:
+                        first[pair] = one.label, one.committed, each
+        for number, one in enumerate(self.transactions):
+            own: Dict[str, str] = {}
+            reads: List[Read] = []
+            for each in one.operations:
+                pair = each.key, each.value
+                if each.does == "w":
+                    own[each.key] = each.value
+                elif each.key in own:
+                    if own[each.key] != each.value:
+                        self.faults.append(Fault("BrokenInternal", one.label, each, one.label))
+                elif each.value == "0":
+                    reads.append(Read(each, INIT))
+                elif pair not in twice:
+                    self._trace(one, each, first.get(pair), reads)
+            for key, value in own.items():
+                if (key, value) not in twice or first[key, value][0] == one.label:
+                    self.writers.setdefault(key, []).append(number)
+            self.reads.append(reads)
+
+    def _trace(self, one: Transaction, each: Operation, found: Optional[Tuple[str, bool, Operation]], reads: List[Read]) -> None:
+        """Notes from whom the transaction reads, or why that can't be said."""
+        if found is None:
+            self.faults.append(Fault("ThinAir", one.label, each, ""))
+            return
+        label, is_committed, write = found
+        if not is_committed:
+            self.faults.append(Fault("Aborted", one.label, each, label))
+        elif label == one.label:
+            self.faults.append(Fault("Future", one.label, each, label))
+        else:
+            number = self.numbers[label]
+            last = self.transactions[number].written(each.key)
+            if last is not None and last.value != write.value:
+                self.faults.append(Fault("Intermediate", one.label, each, label))
+            else:
+                reads.append(Read(each, number))
+
+    def before(self, number: int) -> Optional[int]:
+        """The one before it in its session."""
+        return None if number == self.begins[self.sessions[number]] else number - 1
+
+    def order(self) -> List[int]:
+        """The transactions, each behind those that it follows or reads from; those on a cycle of pairs, and behind one, are left out."""
+        count = len(self.transactions)
+        readers: List[List[int]] = [[] for _ in range(count)]
+        waits = [0] * count
+        for number, reads in enumerate(self.reads):
+            sources = {read.source for read in reads if read.source != INIT}
+            waits[number] = len(sources) + (self.before(number) is not None)
+            for source in sources:
+                readers[source].append(number)
+        found = [number for number in range(count) if waits[number] == 0]
+        for number in found:
+            behind = readers[number]
+            if number + 1 < count and self.sessions[number + 1] == self.sessions[number]:
+                behind = behind + [number + 1]
+            for each in behind:
+                waits[each] -= 1
+                if waits[each] == 0:
+                    found.append(each)
+        return found
+
+    def clocks(self, order: List[int], first: int) -> List[List[int]]:
+        """Of each transaction, for the sessions of a block, the greatest number from which it is reached, or its own; -1 for none."""
+        last = first + BLOCK
+        nothing = [-1] * min(BLOCK, len(self.names) - first)
+        rows: List[List[int]] = [nothing] * len(self.transactions)
+        sessions, all_reads = self.sessions, self.reads
+        for number in order:
+            session = sessions[number]
+            row = rows[number - 1] if number and sessions[number - 1] == session else nothing
+            for source in {read.source for read in all_reads[number]}:
+                if source == INIT:
+                    continue
+                lane = sessions[source] - first
+                if 0 <= lane < BLOCK and row[lane] >= source:
+                    continue
+                other = rows[source]
+                if other is not row and other is not nothing:
+                    row = other if row is nothing else list(map(max, row, other))
+            if first <= session < last:
+                row = list(row)
+                row[session - first] = number
+            rows[number] = row
+        return rows
+
+
+class _Candidate(NamedTuple):
+    reader: int
+    read: Read
+    writers: List[int]
+
+
+def _between(graph: Graph, order: List[int]) -> Iterator[_Candidate]:
+    """The reads with writers of their key that stand between source and reader in the order."""
+    position = {number: index for index, number in enumerate(order)}
+    writers: Dict[str, List[Tuple[int, int]]] = {
+        key: sorted((position[one], one) for one in every if one in position) for key, every in graph.writers.items()}
+    for reader in order:
+        for read in graph.reads[reader]:
+            every = writers.get(read.operation.key)
+            if not every:
+                continue
+            begin = 0 if read.source == INIT else bisect_right(every, (position.get(read.source, -1), len(position)))
+            end = bisect_right(every, (position[reader], -1))
+            if begin < end:
+                yield _Candidate(reader, read, [one for _, one in every[begin:end]])
+
+
+def _filtered(graph: Graph, clocks: Callable[[int], List[List[int]]], found: List[_Candidate], of_writer: bool) -> List[_Candidate]:
+    """The candidates whose writers the reader knew of; or, of the writers, those that knew of the source."""
+    kept: List[List[int]] = [[] for _ in found]
+    for first in range(0, len(graph.names), BLOCK):
+        rows = clocks(first)
+        for index, (reader, read, writers) in enumerate(found):
+            if not of_writer:
+                row = rows[reader]
+                for one in writers:
+                    lane = graph.sessions[one] - first
+                    if 0 <= lane < BLOCK and row[lane] >= one:
+                        kept[index].append(one)
+            elif read.source == INIT:
+                kept[index] = writers
+            else:
+                lane = graph.sessions[read.source] - first
+                if 0 <= lane < BLOCK:
+                    kept[index] = [one for one in writers if rows[one][lane] >= read.source]
+    return [_Candidate(each.reader, each.read, writers) for each, writers in zip(found, kept) if writers]
+
+
+def _atomic(graph: Graph, order: List[int]) -> Iterator[_Candidate]:
+    """The contradicted reads where a transaction knows of its session and of those that it reads from, and of nothing else."""
+    def knows(one: int, other: int) -> bool:
+        return graph.sessions[other] == graph.sessions[one] and other < one or any(
+            read.source == other for read in graph.reads[one])
+
+    for reader, read, writers in _between(graph, order):
+        known = [one for one in writers if knows(reader, one) and (read.source == INIT or knows(one, read.source))]
+        if known:
+            yield _Candidate(reader, read, known)
+
+
+class Survey(NamedTuple):
+    """What a survey found: contradicted reads, operations that can't be judged, how many reads there are, and whether pairs
+    have a cycle, of which nothing is said."""
+
+    contradicted: List[Contradicted]
+    faults: List[Fault]
+    reads: int
+    circular: List[str]
+
+
+def survey(history: History, level: str, doing: Callable[[str], None]) -> Tuple[Survey, Graph]:
+    """The contradicted reads, by reader and operation."""
+    doing("traces the reads")
+    graph = Graph(history)
+    order = graph.order()
+    placed = set(order)
+    circular = [one.label for number, one in enumerate(graph.transactions) if number not in placed]
+    doing("looks for contradicted reads")
+    if level == "atomic":
+        found = list(_atomic(graph, order))
+    else:
+        found = list(_between(graph, order))
+        clocks = lru_cache(maxsize=1)(lambda first: graph.clocks(order, first))  # of one block, those for both
+        if found:
+            found = _filtered(graph, clocks, found, False)
+        if found:
+            found = _filtered(graph, clocks, found, True)
+    found.sort(key=lambda one: (one.reader, one.read.operation.row))
+    names = Names(graph)
+    told = [Contradicted(graph.transactions[one.reader].label, one.read.operation,
+                         "init" if one.read.source == INIT else graph.transactions[one.read.source].label,
+                         graph.transactions[min(one.writers)].label, names.name(one.reader, one.read, min(one.writers)))
+            for one in found]
+    return Survey(told, graph.faults, sum(map(len, graph.reads)), circular), graph
+
+
+class Names:
+    """How contradicted reads are usually called."""
+
+    def __init__(self, graph: Graph):
+        self.graph = graph
+        self.readers: Dict[Tuple[int, str], List[int]] = {}
+        for number, reads in enumerate(graph.reads):
+            for read in reads:
+                self.readers.setdefault((read.source, read.operation.key), []).append(number)
+        self.session = -1
+        self.seen: Dict[int, int] = {}
+        self.next = 0
+
+    def _seen(self, reader: int) -> Dict[int, int]:
+        """Of each session the greatest number that the reader's session read from directly, up to the reader; readers come in order."""
+        session = self.graph.sessions[reader]
+        if session != self.session or self.next > reader + 1:
+            self.session, self.seen, self.next = session, {}, self.graph.begins[session]
+        for number in range(self.next, reader + 1):
+            for read in self.graph.reads[number]:
+                if read.source != INIT:
+                    other = self.graph.sessions[read.source]
+                    self.seen[other] = max(self.seen.get(other, -1), read.source)
+        self.next = reader + 1
+        return self.seen
+
+    def name(self, reader: int, read: Read, writer: int) -> str:
+        sessions = self.graph.sessions
+        if sessions[writer] == sessions[reader]:
+            return "read your writes"
+        if any(each.source == writer for each in self.graph.reads[reader]):
+            return "fractured read"
+        saw = self.readers.get((writer, read.operation.key), [])
+        if any(sessions[one] == sessions[reader] and one < reader for one in saw):
+            return "monotonic reads"
+        seen = self._seen(reader)
+        if seen.get(sessions[writer], -1) > writer:
+            return "monotonic writes"
+        if any(seen.get(sessions[one], -1) >= one for one in saw):
+            return "writes follow reads"
+        return "causal chain"
+
+
+def _session_steps(graph: Graph, first: int, last: int) -> List[Link]:
+    label = [one.label for one in graph.transactions[first:last + 1]]
+    return [Link("session", source, target) for source, target in zip(label, label[1:])]
+
+
+def walk(graph: Graph, first: int, last: int) -> Optional[List[Link]]:
+    """A shortest walk of pairs from one transaction to another, breadth first backwards."""
+    onward: Dict[int, Tuple[int, str]] = {last: (last, "")}
+    waiting = deque([last])
+    while waiting and first not in onward:
+        number = waiting.popleft()
+        pairs: Iterable[Tuple[int, str]] = [(read.source, read.operation.key) for read in graph.reads[number] if read.source != INIT]
+        before = graph.before(number)
+        for one, key in [*([(before, "")] if before is not None else []), *pairs]:
+            if one not in onward:
+                onward[one] = number, key
+                waiting.append(one)
+    if first not in onward:
+        return None
+    steps: List[Link] = []
+    number = first
+    while number != last:
+        behind, key = onward[number]
+        ends = graph.transactions[number].label, graph.transactions[behind].label
+        steps.append(Link("reads", *ends, key) if key else Link("session", *ends))
+        number = behind
+    return steps
+
+
+def cycle_of_read(graph: Graph, one: Contradicted) -> Optional[List[Link]]:
+    """The anomaly that a contradicted read is: from its source to the other writer, and from there derived back."""
+    reader, writer = graph.numbers[one.reader], graph.numbers[one.writer]
+    if graph.sessions[reader] == graph.sessions[writer]:
+        knew: Optional[List[Link]] = _session_steps(graph, writer, reader)
+    else:
+        knew = walk(graph, writer, reader)
+    onward = [Link("session", "init", one.writer)] if one.source == "init" else walk(graph, graph.numbers[one.source], writer)
+    if knew is None or onward is None:
+        return None
+    return [*onward, Link("derived", one.writer, one.source, one.operation.key, one.reader, tuple(knew))]
+
+
+def surveyed(tcc: Program, history: History, records: Callable[[], bytes], doing: Callable[[str], None]) -> List[Contradicted]:
+    """The contradicted reads of a history, whose records these are, by the program where it has a survey."""
+    return survey(history, tcc.level, doing)[0].contradicted

@@ -1,0 +1,435 @@
+"""What is imported of a history of Jepsen or Elle: its transactions as records, held as text, and the names in them.
+
+Each operation is taken once, as it comes; a transaction is a text of its records without the session, so that of a million there
+is some hundred megabytes. A key or value that can't stand in a record has a mark until all names are known.
+"""
+import itertools
+import json
+import re
+from array import array
+from collections import Counter
+from dataclasses import dataclass, field
+from typing import Dict, Iterator, List, NamedTuple, Optional, Set, Tuple, Union
+
+from edn import Reader, atom
+from notes import Note
+from operations import STEP, WRITE, Operation, Step, Untold, is_number, spelled, steps, written
+
+NAME = re.compile(r"[A-Za-z0-9_.-]{1,32}")
+GREATEST_VALUE = 2**64 - 1
+# What tcc takes at most.
+LIMITS = {"sessions": 64, "transactions": 4095, "keys": 1024, "operations in a transaction": 256}
+# The same with `--large`.
+LARGE = {"sessions": 65535, "transactions": 1048575, "keys": 1048576, "operations in a transaction": 256}
+HINTS = {"value": "; if keys have it before they are written, say so with --initial"}
+OK, FAIL, INFO = 0, 1, 2
+OUTCOMES = {"ok": OK, "fail": FAIL, "info": INFO}
+MARK = re.compile(r"[#*][0-9]+")
+DIGITS = re.compile(r"[1-9][0-9]{0,18}")
+NANOSECONDS = 1e9
+MOST_SEALS, MOST_DOUBLED = 256, 5
+# The steps of a transaction as they came: the text of a usual map of EDN, a usual list of JSON, or steps; none where it had none.
+Raw = Union[None, str, list, Tuple[Step, ...]]
+
+
+class Waiting(NamedTuple):
+    """An invoke that nothing followed so far."""
+
+    line: int
+    raw: Raw
+    index: Optional[int]
+
+
+class Nemesis(NamedTuple):
+    """A line that isn't about a transaction: when, by whom, and what."""
+
+    line: int
+    index: Optional[int]
+    time: Optional[int]
+    type: str
+    does: str
+    value: str
+
+
+@dataclass
+class Names:
+    """What stands in the records for things of one kind, by how JSON spells them: a mark where that isn't known yet."""
+
+    kind: str
+    mark: str
+    given: Dict[str, str] = field(default_factory=dict)
+    taken: Set[str] = field(default_factory=set)
+    listed: List[str] = field(default_factory=list)
+    lines: List[int] = field(default_factory=list)
+
+    def name(self, thing: str, plain: Optional[str], line: int) -> str:
+        """The name of a thing: its plain one where nothing else has that."""
+        name = self.given.get(thing)
+        if name is None:
+            if plain is not None and plain not in self.taken:
+                self.taken.add(plain)
+                name = plain
+            else:
+                name = "%s%d" % (self.mark, len(self.listed))
+                self.listed.append(thing)
+                self.lines.append(line)
+            self.given[thing] = name
+        return name
+
+    def check(self, but: Dict[str, str]) -> None:
+        """Where nothing may be listed, refuses the first that would be; but for those whose marks stand for something else."""
+        for number, (thing, line) in enumerate(zip(self.listed, self.lines)):
+            if "%s%d" % (self.mark, number) not in but:
+                raise Untold(line, "the %s %s can't stand in a record: --table FILE gives it a stand-in, which FILE tells%s" % (
+                    self.kind, thing, HINTS.get(self.kind, "")))
+
+    def stand_ins(self, stem: str, taken: Set[str]) -> Dict[str, str]:
+        """For each mark a name that nothing else has."""
+        spare = ("%s%d" % (stem, number) for number in itertools.count(1))
+        free = (name for name in spare if name not in taken)
+        return {"%s%d" % (self.mark, number): next(free) for number in range(len(self.listed))}
+
+
+def plain_name(thing) -> Optional[str]:
+    """A text that is a name, or a whole number's digits; of an independent key and a key of its own, both with a point."""
+    if isinstance(thing, list) and len(thing) == 2 and None not in map(plain_name, thing):
+        thing = ".".join(map(str, thing))
+    if isinstance(thing, bool) or not isinstance(thing, (str, int)):
+        return None
+    return str(thing) if NAME.fullmatch(str(thing)) else None
+
+
+def plain_session(process) -> Optional[str]:
+    return plain_name("p%d" % process if isinstance(process, int) else process)
+
+
+@dataclass
+class Imported:
+    """The transactions of a history in the order in which they ended."""
+
+    initial: Set[str]  # the values, spelled as JSON, that a key has before it is written
+    sessions: Names = field(default_factory=lambda: Names("process", "!"))
+    keys: Names = field(default_factory=lambda: Names("key", "#"))
+    values: Names = field(default_factory=lambda: Names("value", "*"))
+    texts: List[str] = field(default_factory=list)
+    outcomes: bytearray = field(default_factory=bytearray)
+    session_of: "array[int]" = field(default_factory=lambda: array("l"))
+    lines: "array[int]" = field(default_factory=lambda: array("q"))
+    indexes: List[Optional[int]] = field(default_factory=list)
+    times: List[Optional[int]] = field(default_factory=list)
+    nodes: Dict[int, str] = field(default_factory=dict)
+    nemesis: List[Nemesis] = field(default_factory=list)
+    passed_over: Counter = field(default_factory=Counter)
+    left_out: int = 0
+    longest: int = 0
+    doubled: List[Tuple[int, str, str]] = field(default_factory=list)
+    wrong_write: Optional[Untold] = None
+    has_appends: bool = False
+    committed: bytearray = field(default_factory=bytearray)
+    stand_ins: Dict[str, str] = field(default_factory=dict)
+    _waiting: Dict[str, Waiting] = field(default_factory=dict)
+    _unknown: Dict[str, int] = field(default_factory=dict)
+    _words: Dict[str, str] = field(default_factory=dict)  # the names of keys by their words of EDN
+    _texts: Dict[str, str] = field(default_factory=dict)  # and of those that are texts
+    _numbers: Dict[str, int] = field(default_factory=dict)
+
+    def __post_init__(self) -> None:
+        self.numbers_are_initial = any(DIGITS.fullmatch(one) for one in self.initial)
+
+    # What comes, in each form.
+
+    def usual(self, line: int, found: "re.Match[str]") -> bool:
+        """Takes an operation that stands as a usual map of EDN; whether it could."""
+        kind, process, does, value, index, time, node = found.groups()
+        if kind is None or process is None or does not in (None, "txn") or self.numbers_are_initial:
+            return False
+        raw = None if value is None or value == "nil" else value
+        self._take(line, kind, process, raw, int(index) if index else None, int(time) if time else None,
+                   node.strip('":') if node and node != "nil" else None)
+        return True
+
+    def usual_object(self, line: int, told: dict) -> bool:
+        """Takes an operation that stands as a usual object of JSON; whether it could."""
+        process, value, index, time = told.get("process"), told.get("value"), told.get("index"), told.get("time")
+        kind = told.get("type")
+        if type(process) is not int or told.get("f", "txn") != "txn" or not (kind == "ok" or kind == "invoke" or kind in OUTCOMES):
+            return False
+        if value is not None:
+            if type(value) is not list:
+                return False
+            for one in value:
+                if type(one) is not list or len(one) != 3:
+                    return False
+                does, key, what = one
+                if does != "r" and does != "w" and does != "append" or type(key) is not str and type(key) is not int:
+                    return False
+                if what is not None and type(what) is not int and type(what) is not list and type(what) is not str:
+                    return False
+        self._take(line, kind, str(process), value, index if isinstance(index, int) else None, time if is_number(time) else None,
+                   told.get("node") if isinstance(told.get("node"), str) else None)
+        return True
+
+    def unusual(self, one: Operation) -> None:
+        self._take(one.line, one.type, one.process, one.steps, one.index, one.time, one.node)
+
+    def _take(self, line: int, kind: str, process: str, raw: Raw, index: Optional[int], time: Optional[int],
+              node: Optional[str]) -> None:
+        if process in self._unknown:
+            raise Untold(line, "process %s goes on after line %d, whose outcome is unknown: what it does from there on "
+                         "needs a process of its own" % (process, self._unknown[process]))
+        if kind == "invoke":
+            if process in self._waiting:
+                raise Untold(line, "process %s hasn't ended what it began in line %d" % (process, self._waiting[process].line))
+            self._waiting[process] = Waiting(line, raw, index)
+            self.passed_over["invoke"] += 1
+            if not self.has_appends and raw is not None:
+                self.has_appends = appends(raw)
+            return
+        self._end(line, OUTCOMES[kind], process, raw, index, self._waiting.pop(process, None), time, node)
+        if kind == "info":
+            self._unknown[process] = line
+
+    def _end(self, line: int, outcome: int, process: str, raw: Raw, index: Optional[int], invoked: Optional[Waiting],
+             time: Optional[int], node: Optional[str]) -> None:
+        """Takes a transaction, by the line that says how it went and by its invoke."""
+        if outcome == OK:
+            if raw is None:
+                raise Untold(line, "an ok without a value")
+            if invoked and invoked.raw is not None and not same_writes(line, raw, invoked):
+                raise Untold(line, "its writes aren't those of its invoke in line %d" % invoked.line)
+        else:
+            raw = invoked.raw if invoked and invoked.raw is not None else raw
+            if raw is None:
+                raise Untold(line, "neither it nor its invoke says what it would write")
+        parts = self._parts(line, raw, outcome == OK)
+        if len(parts) > self.longest:
+            self.longest = len(parts)
+        if node is not None:
+            self.nodes[len(self.texts)] = node
+        self.texts.append("\n".join(parts))
+        self.outcomes.append(outcome)
+        self.lines.append(line)
+        self.indexes.append(index)
+        self.times.append(time)
+        number = self._numbers.get(process)
+        if number is None:
+            number = self._numbers[process] = len(self._numbers)
+            self.sessions.name(process, plain_session(json.loads(process)), line)
+        self.session_of.append(number)
+
+    # What a transaction did, as records without its session.
+
+    def _parts(self, line: int, raw: Raw, with_reads: bool) -> List[str]:
+        if type(raw) is str:
+            return self._parts_of_text(line, raw, with_reads)
+        parts: List[str] = []
+        for one in raw:
+            does, key, what = one if type(one) is list else (one.does, json.loads(one.key), json.loads(one.value))
+            if does == "r" and not with_reads:
+                self.left_out += 1
+                continue
+            name = (self._texts.get(key) if type(key) is str else None) or self._key(line, key)
+            is_plain = type(what) is int and 0 < what <= GREATEST_VALUE and not self.numbers_are_initial
+            value = str(what) if is_plain else self._value(line, does, name, what)
+            if value is not None:
+                parts.append("%s,%s,%s" % ("r" if does == "r" else "w", name, value))
+        return parts
+
+    def _parts_of_text(self, line: int, raw: str, with_reads: bool) -> List[str]:
+        parts: List[str] = []
+        words, put = self._words, parts.append
+        for does, key, digits, items, other in STEP.findall(raw):
+            if does == "r":
+                if not with_reads:
+                    self.left_out += 1
+                    continue
+                name = words.get(key) or self._word(line, key)
+                value = digits or ("0" if other == "nil" else self._value(line, does, name, atom(other)) if other
+                                   else self._list(line, does, name, items))
+                if value is not None:
+                    put("r,%s,%s" % (name, value))
+            else:
+                name = words.get(key) or self._word(line, key)
+                value = digits or (self._value(line, does, name, atom(other)) if other else self._list(line, does, name, items))
+                put("w,%s,%s" % (name, value))
+        return parts
+
+    def _word(self, line: int, key: str) -> str:
+        """The name of a key that is a word of EDN."""
+        name = self._words[key] = self._key(line, atom(key))
+        return name
+
+    def _key(self, line: int, key) -> str:
+        name = self.keys.name(spelled(key), plain_name(key), line)
+        if type(key) is str:
+            self._texts[key] = name
+        return name
+
+    def _list(self, line: int, does: str, name: str, items: str) -> Optional[str]:
+        """The value of a list of EDN, whose items these are."""
+        words = items.replace(",", " ").split()
+        if does == "r" and self.has_appends and words and len(set(words)) == len(words):  # most lists are so
+            return words[-1] if DIGITS.fullmatch(words[-1]) else self._value(line, does, name, atom(words[-1]))
+        return self._value(line, does, name, [atom(one) for one in words])
+
+    def _value(self, line: int, does: str, name: str, what) -> Optional[str]:
+        """The value of a step as a record has it; none where it is a list with a value twice, of which the read is left out."""
+        if type(what) is list and does == "r" and self.has_appends:
+            things = [spelled(one) for one in what]
+            twice = next((thing for thing in things if things.count(thing) > 1), None) if len(set(things)) < len(things) else None
+            if twice is not None:
+                self.doubled.append((line, name, twice))
+                return None
+            return self._value(line, does, name, what[-1]) if what else "0"
+        thing = spelled(what)
+        if thing in self.initial:
+            if does != "r" and self.wrong_write is None:
+                self.wrong_write = Untold(line, "a write of %s, which is the initial value" % thing)
+            return "0"
+        if is_number(what) and 1 <= what <= GREATEST_VALUE:
+            return str(what)
+        return self.values.name(thing, None, line)
+
+    # The end: what is known once all has come.
+
+    def finish(self, may_list: bool) -> None:
+        """Takes what nothing followed as of unknown outcome, settles which transactions committed, and all names."""
+        for process, one in list(self._waiting.items()):
+            self._end(one.line, INFO, process, None, one.index, one, None, None)
+        self._waiting.clear()
+        if self.wrong_write is not None:
+            raise self.wrong_write
+        lists = self._early_lists()
+        if not may_list:
+            for names in (self.values, self.sessions, self.keys):
+                names.check(lists)
+        self.committed = self._committed()
+        self.stand_ins = {**self.keys.stand_ins("k", self.keys.taken), **self.sessions.stand_ins("s", self.sessions.taken)}
+        if self.values.listed:
+            self.stand_ins.update(self.values.stand_ins("", self._small_values()))
+        self.stand_ins.update(lists)
+
+    def _early_lists(self) -> Dict[str, str]:
+        """Lists that were read before the first append was seen were taken for values; what they are instead, by their marks."""
+        if not self.has_appends:
+            return {}
+        found: Dict[str, str] = {}
+        for number, (thing, line) in enumerate(zip(self.values.listed, self.values.lines)):
+            what = json.loads(thing)
+            if isinstance(what, list):
+                found["*%d" % number] = self._value(line, "r", "", what[-1]) if what else "0"
+        return found
+
+    def _small_values(self) -> Set[str]:
+        """The values in the records that stand-ins might be: with so many listed none is greater than these and all others are many."""
+        bound = len(self.values.listed) + sum(text.count("\n") + 1 for text in self.texts)
+        found: Set[str] = set()
+        for text in self.texts:
+            for part in text.split("\n"):
+                value = part.rpartition(",")[2]
+                if value and value[0] != "*" and len(value) < 19 and int(value) <= bound:
+                    found.add(value)
+        return found
+
+    def _committed(self) -> bytearray:
+        """Which committed: each `ok`, and each `info` of which an `ok` read a value."""
+        wanted = {part[2:] for text, outcome in zip(self.texts, self.outcomes) if outcome == INFO and text for part in text.split("\n")}
+        seen: Set[str] = set()
+        if wanted:
+            for text, outcome in zip(self.texts, self.outcomes):
+                if outcome == OK:
+                    seen.update(part[2:] for part in text.split("\n") if part[:1] == "r" and part[2:] in wanted)
+        return bytearray(
+            outcome == OK or outcome == INFO and text != "" and any(part[2:] in seen for part in text.split("\n"))
+            for text, outcome in zip(self.texts, self.outcomes))
+
+    def session_names(self) -> List[str]:
+        return [self.stand_ins.get(name, name) for name in self.sessions.given.values()]
+
+    def records(self, seal_every: Optional[int] = None) -> Iterator[str]:
+        """The records of each transaction; behind so many of them a seal, where that is asked for."""
+        names, stand_ins = self.session_names(), self.stand_ins
+        for number, (text, session, is_committed) in enumerate(zip(self.texts, self.session_of, self.committed), 1):
+            name = names[session]
+            if stand_ins:
+                text = MARK.sub(lambda found: stand_ins[found.group()], text)
+            steps_of_it = "%s,%s\n" % (name, text.replace("\n", "\n%s," % name)) if text else ""
+            yield "%s,begin\n%s%s,%s\n" % (name, steps_of_it, name, "commit" if is_committed else "abort")
+            if seal_every and number % seal_every == 0:
+                yield "seal\n"
+
+    def labels(self) -> Iterator[str]:
+        """The label of each transaction in the records."""
+        names = self.session_names()
+        places = [0] * len(names)
+        for session in self.session_of:
+            places[session] += 1
+            yield "%s/%d" % (names[session], places[session])
+
+    def places(self) -> Iterator[Tuple[str, str, int]]:
+        """Of each transaction of the records the label, the index of the operation that ended it, and its line."""
+        for label, index, line in zip(self.labels(), self.indexes, self.lines):
+            yield label, "" if index is None else str(index), line
+
+    def notes(self) -> Iterator[Tuple[str, Note]]:
+        """Of each transaction of the records what is known of the operation that ended it; times begin with the first one's."""
+        begin = min((time for time in self.times if time is not None), default=0)
+        for number, (label, index, time, line, outcome) in enumerate(
+                zip(self.labels(), self.indexes, self.times, self.lines, self.outcomes)):
+            yield label, Note(self.nodes.get(number, ""), "" if time is None else "%.6f" % ((time - begin) / NANOSECONDS),
+                              "" if index is None else str(index), str(line), "of unknown outcome" if outcome == INFO else "")
+
+    def warnings(self, seal_every: Optional[int] = None) -> Iterator[str]:
+        """Where the records pass a limit of `tcc explain`, and what to do; and which lists had a value twice."""
+        counts = {"sessions": len(self.sessions.given), "transactions": len(self.texts), "keys": len(self.keys.given),
+                  "operations in a transaction": self.longest}
+        for what, number in counts.items():
+            if number > LARGE[what]:
+                shorter = "transactions" if what.startswith("operations") else "the run"
+                yield "%d %s: tcc takes at most %d, so make %s shorter" % (number, what, LARGE[what], shorter)
+            elif number > LIMITS[what]:
+                yield "%d %s: tcc explain takes at most %d, so say --large" % (number, what, LIMITS[what])
+        if seal_every and len(self.texts) // seal_every > MOST_SEALS:
+            yield "%d seals: tcc takes at most %d, so say a greater --seal-every" % (len(self.texts) // seal_every, MOST_SEALS)
+        for line, name, thing in self.doubled[:MOST_DOUBLED]:
+            yield "line %d: the list that was read at %s has %s twice, which no order of appends explains; the read is left out" % (
+                line, self.stand_ins.get(name, name), thing)
+        if len(self.doubled) > MOST_DOUBLED:
+            yield "%d such lists more" % (len(self.doubled) - MOST_DOUBLED)
+
+    def table(self) -> Iterator[Tuple[str, str, str]]:
+        """What isn't itself in the records: kind, what stands for it, and how JSON spells it."""
+        for names in (self.sessions, self.keys, self.values):
+            for number, thing in enumerate(names.listed):
+                mark = "%s%d" % (names.mark, number)
+                if not (self.has_appends and names is self.values and thing.startswith("[")):
+                    yield names.kind, self.stand_ins[mark], thing
+
+    def summary(self) -> Iterator[str]:
+        """What became of all lines."""
+        ways = Counter(zip(self.outcomes, self.committed))
+        yield "%d committed, %d aborted; of unknown outcome %d, which a read shows as committed, and %d, which count as aborted" % (
+            ways[OK, 1], ways[FAIL, 0], ways[INFO, 1], ways[INFO, 0])
+        yield "left out: %d reads of what failed or is unknown; passed over: %d invoke, %d of no transaction" % (
+            self.left_out, self.passed_over["invoke"], self.passed_over["other"])
+
+
+def appends(raw: Raw) -> bool:
+    """Whether a transaction appends to a list."""
+    if type(raw) is str:
+        return ":append " in raw
+    return any((one[0] if type(one) is list else one.does) == "append" for one in raw or ())
+
+
+def steps_of(line: int, raw: Raw) -> Tuple[Step, ...]:
+    """The steps of a transaction, in whatever form they came."""
+    if type(raw) is str:
+        raw = Reader(iter([raw])).value_of_all()
+    return steps(line, raw) or () if type(raw) is list else raw or ()
+
+
+def same_writes(line: int, raw: Raw, invoked: Waiting) -> bool:
+    """Whether a transaction writes what its invoke said."""
+    if type(raw) is str and type(invoked.raw) is str and WRITE.findall(raw) == WRITE.findall(invoked.raw):
+        return True
+    return written(steps_of(line, raw)) == written(steps_of(invoked.line, invoked.raw))

@@ -1,0 +1,116 @@
+"""The operations of a history of Jepsen or Elle, as EDN or JSON has them: what one is, whatever its form."""
+import json
+import re
+from dataclasses import dataclass
+from typing import Optional, Tuple
+
+TYPES = ("invoke", "ok", "fail", "info")
+STEPS = {"read": "r", "write": "w"}  # what one operation of a register does
+DOES = ("r", "w", "append")
+REGISTER = "register"
+# A map of EDN as Jepsen writes it: its fields in any order, and a transaction whose steps are [:does key value].
+ATOM = r'[^\s,;"(){}\[\]\\#^]+'
+VALUE = r"(?:%s|\[(?:%s[ ,]*)*\])" % (ATOM, ATOM)
+USUAL = re.compile(
+    r"(?:#jepsen\.history\.Op ?)?\{(?:(?:"
+    r":type :(invoke|ok|fail|info)|:process (0|[1-9][0-9]*)|:f :(%s)"
+    r"|:value (nil|\[(?:\[:(?:r|w|append) %s %s\][ ,]*)*\])|:index (0|[1-9][0-9]*)|:time (0|[1-9][0-9]*)"
+    r'|:node (nil|"[^"\\]*"|:[A-Za-z0-9_.-]+)'
+    r'|:(?!(?:type|process|f|value|index|time|node)[ ,])[A-Za-z0-9_.*+!?<>=/-]+ (?:%s|"[^"\\]*")'
+    r")(?=[ ,}])[ ,]*)+\}" % (ATOM, ATOM, VALUE, ATOM))
+# A step of its transaction: what it does, its key, and its value as digits, the items of a list, or another word.
+STEP = re.compile(r"\[:(r|w|append) (%s) (?:([1-9][0-9]{0,18})|\[([^\[\]]*)\]|(%s))\]" % (ATOM, ATOM))
+WRITE = re.compile(r"\[:(?:w|append) (%s) (%s)\]" % (ATOM, VALUE))
+
+
+class Untold(Exception):
+    """A line that can't be told as records, and why."""
+
+    def __init__(self, line: int, why: str):
+        super().__init__("line %d: %s" % (line, why))
+
+
+@dataclass(frozen=True)
+class Step:
+    """A read, a write or an append of a transaction; key and value are spelled as JSON."""
+
+    does: str
+    key: str
+    value: str
+
+
+def written(told: Tuple[Step, ...]) -> Tuple[Step, ...]:
+    return tuple(one for one in told if one.does != "r")
+
+
+@dataclass(frozen=True)
+class Operation:
+    """A line about a transaction; its process is spelled as JSON, and without steps it had the value null."""
+
+    line: int
+    type: str
+    process: str
+    steps: Optional[Tuple[Step, ...]]
+    index: Optional[int] = None
+    time: Optional[int] = None
+    node: Optional[str] = None
+
+
+def spelled(value) -> str:
+    """One spelling for each value of JSON; so 1, true, 1.0 and "1" differ."""
+    return json.dumps(value, sort_keys=True)
+
+
+def is_number(value) -> bool:
+    return isinstance(value, int) and not isinstance(value, bool)
+
+
+def is_pair(value, is_second) -> bool:
+    """Whether a value is that of an independent key: the key, which is no list, and what is so."""
+    return isinstance(value, list) and len(value) == 2 and not isinstance(value[0], list) and is_second(value[1])
+
+
+def steps(line: int, value) -> Optional[Tuple[Step, ...]]:
+    """The reads and writes that the value of a line lists, none where it is null."""
+    if value is None:
+        return None
+    if is_pair(value, lambda inner: inner is None or isinstance(inner, list)):
+        apart, inner = value
+        return None if inner is None else tuple(step(line, one, lambda key: [apart, key]) for one in inner)
+    if not isinstance(value, list):
+        raise Untold(line, "the value is no list of reads and writes")
+    return tuple(step(line, one, lambda key: key) for one in value)
+
+
+def step(line: int, value, named) -> Step:
+    if not isinstance(value, list) or len(value) != 3:
+        raise Untold(line, "%s is no [does, key, value]" % spelled(value))
+    does, key, what = value
+    if does not in DOES:
+        raise Untold(line, "%s is neither a read (\"r\") nor a write (\"w\") of a register, nor an \"append\" to a list" % spelled(does))
+    return Step(does, spelled(named(key)), spelled(what))
+
+
+def one_step(does: str, value) -> Tuple[Step, ...]:
+    """What an operation on one register does."""
+    key, what = value if is_pair(value, lambda _: True) else (REGISTER, value)
+    return (Step(does, spelled(key), spelled(what)),)
+
+
+def operation(line: int, told: dict) -> Optional[Operation]:
+    """The operation that an object tells, none where it isn't about a transaction."""
+    process = told.get("process")
+    does = told.get("f", "txn" if is_number(process) else None)
+    if does not in ("txn", *STEPS):
+        if is_number(process):
+            raise Untold(line, "f is %s: of a client's operations only \"txn\", \"read\" and \"write\" can be told" % spelled(does))
+        return None
+    if not is_number(process) and not isinstance(process, str):
+        raise Untold(line, "the process is %s, neither a number nor a text" % spelled(process))
+    if told.get("type") not in TYPES:
+        raise Untold(line, "the type is %s, none of %s" % (spelled(told.get("type")), ", ".join(TYPES)))
+    value = told.get("value")
+    mine = steps(line, value) if does == "txn" else one_step(STEPS[does], value)
+    index, time, node = told.get("index"), told.get("time"), told.get("node")
+    return Operation(line, told["type"], spelled(process), mine, index if isinstance(index, int) else None,
+                     time if is_number(time) else None, node if isinstance(node, str) else None)

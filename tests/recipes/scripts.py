@@ -1,0 +1,175 @@
+"""What the scripts of recipes/ do that no case can show: on a history of random operations by either way of reading, when they are
+interrupted, at a terminal, and in the lines of RECORDING that answer for a large history."""
+import io
+import os
+import pathlib
+import pty
+import random
+import re
+import select
+import signal
+import subprocess
+import sys
+import tempfile
+import time
+from typing import Dict, Iterator, List, Optional, Tuple
+
+from counted import Outcome
+
+TOP = pathlib.Path(__file__).resolve().parent.parent.parent
+RECIPES = TOP / "recipes"
+SECONDS = 60
+INTERRUPTED = 130
+sys.path.insert(0, str(RECIPES))
+
+
+def random_history(seed: int, is_edn: bool, appends: bool) -> bytes:
+    """Operations of clients that read and write at random, with all outcomes, unusual spellings and lines of the nemesis."""
+    pick = random.Random(seed)
+    keys = [":x", "y", '"z"', "7", '"7"', ":a/b", "{:k 1}"] if is_edn else ['"x"', '"y"', "7", '"7"', '"a b"', "true", "[1]"]
+    nil = "nil" if is_edn else "null"
+    values = ["5", "6", "+8N", "0", "-3", ":v", '"v"', "1.5", "true"] if is_edn else ["5", "6", "0", "-3", '"v"', "1.5", "true"]
+    lines, counter, process = [], 10, list(range(4))
+    for _ in range(400):
+        client = pick.randrange(4)
+        steps, done = [], []
+        for _ in range(pick.randrange(5)):
+            key, counter = pick.choice(keys), counter + 1
+            if pick.random() < 0.5:
+                read = pick.choice(values + [nil, str(pick.randrange(10, counter + 1))])
+                if appends:
+                    read = "[%s]" % (" " if is_edn else ",").join(str(pick.randrange(10, 30)) for _ in range(pick.randrange(4)))
+                steps.append(("r", key, nil))
+                done.append(("r", key, read))
+            else:
+                steps.append(("append" if appends else "w", key, str(counter)))
+                done.append(steps[-1])
+        kind = pick.choice(["ok"] * 8 + ["fail", "info"])
+        for told, each in (("invoke", steps), (kind, done if kind == "ok" else steps)):
+            if is_edn:
+                value = " ".join("[:%s %s %s]" % one for one in each)
+                fields = [":type :" + told, ":f :txn", ":value [%s]" % value, ":process %d" % process[client], ":time %d" % len(lines)]
+                pick.shuffle(fields)
+                lines.append("{%s%s}" % (", ".join(fields), ', :error [:x "y"]' if told in ("fail", "info") else ""))
+            else:
+                value = ",".join('["%s",%s,%s]' % one for one in each)
+                lines.append('{"type":"%s","f":"txn","value":[%s],"process":%d,"index":%d}' % (told, value, process[client], len(lines)))
+        if kind == "info":
+            process[client] += 4
+            lines.append("{:type :info, :process :nemesis, :f :kill, :value nil}" if is_edn
+                         else '{"type":"info","process":"nemesis","f":"kill","value":null}')
+    return "".join(line + "\n" for line in lines).encode()
+
+
+def both_ways() -> Iterator[Outcome]:
+    """The usual lines and the reader of any line give the same records, table and map."""
+    import jepsen
+    from imported import Imported
+    from progress import Doing
+
+    def told(text: bytes, is_usual: bool) -> List[object]:
+        into = Imported({"null"})
+        if not is_usual:
+            into.usual = lambda line, found: False  # type: ignore[assignment,method-assign]
+            into.usual_object = lambda line, value: False  # type: ignore[assignment,method-assign]
+        jepsen.imported(jepsen.Reading(io.BytesIO(text), into, Doing(""), ""), True)
+        return [list(each) for each in (into.records(), into.table(), into.places(), into.notes(), into.warnings(), into.summary())]
+
+    for seed in range(12):
+        for is_edn in (False, True):
+            text = random_history(seed, is_edn, seed % 3 == 0)
+            yield "both ways of reading, %d%s" % (seed, " of EDN" if is_edn else ""), (
+                None if told(text, True) == told(text, False) else "they differ")
+
+
+def lines_of_edn_py() -> Iterator[Outcome]:
+    """What edn.py makes of EDN gives the records that the EDN itself gives."""
+    for seed in range(4):
+        text = random_history(seed, True, False)
+        with tempfile.TemporaryDirectory() as folder:
+            def records(given: bytes) -> bytes:
+                words = [sys.executable, str(RECIPES / "jepsen.py"), "--table", os.path.join(folder, "names.csv")]
+                return subprocess.run(words, input=given, capture_output=True, timeout=SECONDS, check=True).stdout
+            lines = subprocess.run([sys.executable, str(RECIPES / "edn.py")], input=text, capture_output=True, timeout=SECONDS, check=True)
+            yield "records by way of edn.py, %d" % seed, None if records(text) == records(lines.stdout) else "they differ"
+
+
+def interrupted(words: List[str], given: bytes, wanted: bytes, after: float) -> Optional[str]:
+    """What a script that is interrupted does otherwise than it should: it says what it has, without a traceback."""
+    with subprocess.Popen(words, stdin=subprocess.PIPE, stdout=subprocess.PIPE, stderr=subprocess.STDOUT) as script:
+        assert script.stdin and script.stdout
+        script.stdin.write(given)
+        script.stdin.flush()
+        time.sleep(after)
+        script.send_signal(signal.SIGINT)
+        said = script.stdout.read()
+        status = script.wait(SECONDS)
+    if status != INTERRUPTED or wanted not in said or b"Traceback" in said:
+        return "status %d, %r" % (status, said)
+    return None
+
+
+def interruptions(tcc: List[str]) -> Iterator[Outcome]:
+    def script(name: str, *more: str) -> List[str]:
+        return [sys.executable, str(RECIPES / name), *more]
+
+    line = b'{"type":"ok","process":1,"f":"txn","value":[]}\n'
+    yield "jepsen.py interrupted", interrupted(script("jepsen.py"), line, b"there are no records", 1.0)
+    yield "edn.py interrupted", interrupted(script("edn.py"), b"{:a 1}\n", b"edn.py: interrupted", 1.0)
+    yield "picture.py interrupted", interrupted(script("picture.py"), b"{", b"picture.py: interrupted", 1.0)
+    with tempfile.TemporaryDirectory() as folder:
+        slow, records = pathlib.Path(folder, "tcc"), pathlib.Path(folder, "records.csv")
+        slow.write_text("#!/bin/sh\ntest \"$1\" = survey && exit 64\ntest -e %s/once && sleep 20\ntouch %s/once\nexec %s \"$@\"\n" % (
+            folder, folder, os.path.abspath(tcc[-1])))
+        slow.chmod(0o755)
+        records.write_text((TOP / "examples/stale-read.csv").read_text())
+        yield "all.py interrupted", interrupted(script("all.py", "--tcc", str(slow), str(records)), b"",
+                                                b"interrupted behind 1 anomalies\nread your writes: 1\n", 2.5)
+
+
+def at_terminal() -> Iterator[Outcome]:
+    """Behind two seconds a script says at a terminal what it does, and takes that away before it ends."""
+    mine, its = pty.openpty()
+    with subprocess.Popen([sys.executable, str(RECIPES / "jepsen.py")], stdin=subprocess.PIPE, stdout=subprocess.PIPE, stderr=its) as script:
+        os.close(its)
+        assert script.stdin
+        time.sleep(3.5)
+        script.stdin.close()
+        script.wait(SECONDS)
+    said = b""
+    while select.select([mine], [], [], 0.2)[0]:
+        try:
+            said += os.read(mine, 4096)
+        except OSError:
+            break
+    os.close(mine)
+    found = re.fullmatch(rb"(\r\x1b\[Kreads [a-z ]+, [0-9]+ s)+\r\x1b\[Kjepsen.py: 0 committed.*", said, re.DOTALL)
+    yield "what is said at a terminal", None if found else "%r" % said
+
+
+def lines_of_recording(tcc: List[str]) -> Iterator[Outcome]:
+    """The lines of RECORDING that answer for a large history: their status is that of the whole history's answer."""
+    blocks = re.findall("```sh\n(.*?)```", (TOP / "docs/RECORDING.md").read_text(), re.DOTALL)
+    lines = next(block for block in blocks if "--slice" in block)
+    wanted: Dict[str, Tuple[int, bytes]] = {
+        "examples/stale-read.csv": (1, b"accepted: cycle, 3 steps"), "examples/long-fork.csv": (0, b""),
+        "examples/aborted-read.csv": (2, b""), "": (3, b"")}
+    for name, (status, said) in wanted.items():
+        with tempfile.TemporaryDirectory() as folder:
+            pathlib.Path(folder, "tcc").symlink_to(os.path.abspath(tcc[-1]))
+            pathlib.Path(folder, "recipes").symlink_to(RECIPES)
+            pathlib.Path(folder, "records.csv").write_bytes((TOP / name).read_bytes() if name else b"")
+            path = folder + os.pathsep + os.environ["PATH"]
+            done = subprocess.run(["bash", "-c", lines], cwd=folder, capture_output=True, timeout=SECONDS, check=False,
+                                  env={**os.environ, "PATH": path})
+            is_so = done.returncode == status and said in done.stdout and (b"accepted" in done.stdout) == (status == 1)
+            yield "lines of RECORDING, %s" % (name or "no records"), None if is_so else "status %d, %r" % (
+                done.returncode, done.stdout + done.stderr)
+
+
+def outcomes(tcc: List[str]) -> Iterator[Outcome]:
+    yield from both_ways()
+    yield from lines_of_edn_py()
+    yield from interruptions(tcc)
+    yield from at_terminal()
+    yield from lines_of_recording(tcc)
