@@ -24,7 +24,7 @@ fn is_read(graph: &LargeGraph, from: u32, to: u32, key: &Name) -> bool
 }
 
 /// Whether the transaction writes the key: `init` writes each, also one that nobody uses.
-fn is_writer(graph: &LargeGraph, writer: u32, key: &Name) -> bool
+pub(crate) fn is_writer(graph: &LargeGraph, writer: u32, key: &Name) -> bool
     ensures { IsTrue result ↔ IsWriter graph.now writer key.now }
 {
     writer < graph.count() && (writer == 0 || graph.writes(writer).contains(key))

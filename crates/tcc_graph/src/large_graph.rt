@@ -5,14 +5,14 @@ ghost use Rattle.tcc_txn.specs.declared.limits.TheConstants.{LARGE_COUNT, LARGE_
 ghost use Rattle.tcc_reads.specs.History.{History, IsBySession, count, entry_at, owner};
 ghost use Rattle.tcc_graph.specs.Relations.{IsSessionPair, session_pair, reads_from, causal_pair};
 ghost use Rattle.tcc_graph.specs.Readings.{AreReadings, AreReadingsByIndex, AreReadingsOfKey};
-ghost use Rattle.tcc_graph.specs.Keys.{keys, key_at, writers, readers};
+ghost use Rattle.tcc_graph.specs.Keys.{IsWriter, keys, key_at, writers, readers};
 ghost use Rattle.tcc_graph.specs.Levels.{judged};
 ghost use Rattle.tcc_graph.specs.Numbers.{at, label};
 ghost use Rattle.tcc_graph.specs.Links.{IsLink};
 
 use crate::grouped::Grouped;
 use crate::indexed::{Indexed, indexed_by};
-use crate::judging::is_link;
+use crate::judging::{is_link, is_writer};
 use crate::key_row::KeyRow;
 use crate::key_table::{key_index_of, key_table};
 use crate::keys::sorted_keys;
@@ -217,6 +217,14 @@ impl LargeGraph {
             Some(row) => row.readers(a),
             None => &[],
         }
+    }
+
+    /// Whether a transaction writes the key visibly: `init` writes each, also one that is no key of the history. The number may be
+    /// any: past the last there is no writer.
+    pub fn is_writer(&self, b: u32, key: &Name) -> bool
+        ensures { IsTrue result ↔ IsWriter self.now b key.now }
+    {
+        is_writer(self, b, key)
     }
 
     /// Whether the link is one of the history at the level. Its numbers may be any: past the last there is no link.
