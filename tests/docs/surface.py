@@ -1,0 +1,51 @@
+#!/usr/bin/env python3
+"""Whether each public name that callers rely on is there still, in its crate: those of `surface.txt`.
+
+    surface.py
+
+A line of that file has a crate, and then the names that it has to make public: calls as `near` or `Book::open`, types as `Link`, and
+variants of them as `Link::Derived`. A name may go only with its line, and DECISIONS says why. `run.py` asks this too. Each name
+that isn't there is one line; the last line is `N passed, M failed`.
+"""
+import functools
+import pathlib
+import re
+import sys
+from typing import Iterator, Set
+
+TOP = pathlib.Path(__file__).resolve().parent.parent.parent
+sys.path.insert(0, str(TOP / "tests"))
+import contracts  # noqa: E402
+from counted import Outcome, status_of  # noqa: E402
+
+SURFACE = TOP / "tests/docs/surface.txt"
+TYPE = re.compile(r"^pub (?:struct|enum|trait|type) (\w+)", re.MULTILINE)
+ENUM = re.compile(r"^pub enum (\w+)[^{]*\{\n(.*?)^\}", re.MULTILINE | re.DOTALL)
+VARIANT = re.compile(r"^    ([A-Z]\w*)", re.MULTILINE)
+PASSED_ON = re.compile(r"^pub use [\w:]+::(?:\{([^}]*)\}|(\w+));", re.MULTILINE)
+
+
+@functools.lru_cache(maxsize=None)
+def made_public(crate: str) -> Set[str]:
+    """The calls, types and variants that a library makes public, and what it passes on; `New` of `NewWithin` counts for its calls."""
+    source = TOP / "crates" / crate / "src"
+    root = (source / "lib.rt").read_text()
+    passed_on = set(re.findall(r"\w+", " ".join(group or name for group, name in PASSED_ON.findall(root))))
+    names = {call.title for call in contracts.calls(crate)} | passed_on
+    for path in source.rglob("*.rt"):
+        text = path.read_text()
+        names |= {name for name in TYPE.findall(text) if name in passed_on}
+        for enum, body in ENUM.findall(text):
+            names |= {"%s::%s" % (enum, variant) for variant in VARIANT.findall(body) if enum in passed_on}
+    return names | {name.replace("Within::", "::") for name in names}
+
+
+def outcomes() -> Iterator[Outcome]:
+    for line in SURFACE.read_text().split("\n"):
+        crate, _, names = line.partition(": ")
+        for name in names.split():
+            yield "%s: %s" % (crate, name), None if name in made_public(crate) else "it isn't public"
+
+
+if __name__ == "__main__":
+    sys.exit(status_of(outcomes()))
