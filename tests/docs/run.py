@@ -14,11 +14,11 @@ In the documents, a link has to lead to a file, and what stands in backquotes ha
 
 ARCHITECTURE has to name the modules of each crate, all of them and no others, and what a crate stands on as `crates.txt` has
 it; CONTRACTS has to be what the sources give (`contracts.py`), and so have the examples in doc comments (`examples.py`) and
-what is told of statuses and limits (`told.py`). The public names that callers rely on have to be there (`surface.py`). What has
-to be believed stands in `specs/`, and nothing else does (`trust.py`). CHANGELOG tells of the past, and is left out. No script
-may define a name twice at one level. The man page and the completion for bash have to name each command and option of the
-program's help, and the completion to complete them; and the stack that docs/GUIDE.md names has to be enough. Each difference
-is one line; the last line is `N passed, M failed`.
+what is told of statuses and limits (`told.py`). The public names that callers rely on have to be there (`surface.py`), and the
+JSON schema of answers has to be that of the answers in the rows (`schema.py`). What has to be believed stands in `specs/`, and
+nothing else does (`trust.py`). CHANGELOG tells of the past, and is left out. No script may define a name twice at one level. The
+man page and the completion for bash have to name each command and option of the program's help, and the completion to complete
+them; and the stack that docs/GUIDE.md names has to be enough. Each difference is one line; the last line is `N passed, M failed`.
 """
 import ast
 import collections
@@ -36,6 +36,7 @@ TOP = pathlib.Path(__file__).resolve().parent.parent.parent
 sys.path.insert(0, str(TOP / "tests"))
 import contracts  # noqa: E402
 import examples  # noqa: E402
+import schema  # noqa: E402
 import surface  # noqa: E402
 import told  # noqa: E402
 from arguments import status_on_tcc  # noqa: E402
@@ -258,6 +259,7 @@ def outcomes(tcc: List[str]) -> Iterator[Outcome]:
     yield from examples.outcomes()
     yield from told.outcomes()
     yield from surface.outcomes()
+    yield from schema.outcomes()
     yield from faults_of_trust()
     yield from faults_of_scripts()
     if not shutil.which(tcc[0]):

@@ -16,6 +16,7 @@ import subprocess
 import sys
 import tempfile
 import threading
+import xml.etree.ElementTree as xml
 from typing import Callable, Dict, Iterator, List, Optional
 
 HERE = pathlib.Path(__file__).resolve().parent
@@ -77,6 +78,20 @@ REPORTED = {"test_kept": None, "test_broken": "anomaly: 3 steps, stale-initial-r
             "test_nothing": "only 0 transactions", "test_no_records": "Unfinished"}
 
 
+# The rounds of recipes/ci/test_causal.py, by their folders: the records of each, and what its failure says.
+ROUNDS = {
+    "kept": {"one": ("a,begin\na,w,x,1\na,commit\n", None)},
+    "mixed": {
+        "kept": ("a,begin\na,w,x,1\na,commit\n", None),
+        "stale": ("a,begin\na,w,x,1\na,commit\na,begin\na,r,x,0\na,commit\n", "the store broke its promise"),
+        "untraced": ("a,begin\na,r,x,7\na,commit\n", "ThinAir a/1 op 1 x 7"),
+        "wrong": ("a,begin\na,q,x,7\n", "UnknownWord"),
+        "empty": ("", "tcc ended with 3"),
+    },
+    "none": {},
+}
+
+
 def installed(folder: str) -> Optional[str]:
     """Installs the package into a folder; what went wrong."""
     words = [sys.executable, "-m", "pip", "install", "--quiet", "--no-index", "--no-deps", "--disable-pip-version-check",
@@ -93,10 +108,10 @@ def python_with(module: str) -> Optional[str]:
     return None
 
 
-def run(words: List[str], folder: str, **more) -> "subprocess.CompletedProcess[str]":
-    """A run in which the package is that of the folder."""
-    return subprocess.run(words, capture_output=True, text=True, timeout=SECONDS, check=False,
-                          env={**os.environ, "PYTHONPATH": folder, "PYTHONDONTWRITEBYTECODE": "1"}, **more)
+def run(words: List[str], folder: str, more: Optional[Dict[str, str]] = None, cwd: Optional[pathlib.Path] = None):
+    """A run in which the package is that of the folder, with more variables."""
+    variables = {**os.environ, "PYTHONPATH": folder, "PYTHONDONTWRITEBYTECODE": "1", **(more or {})}
+    return subprocess.run(words, capture_output=True, text=True, timeout=SECONDS, check=False, env=variables, cwd=cwd)
 
 
 def differs(name: str, wanted, got) -> Outcome:
@@ -294,13 +309,37 @@ def fixtures(folder: pathlib.Path, library: str, tcc: List[str]) -> Iterator[Out
     done = run([python, "-m", "pytest", "-q", "-p", "no:cacheprovider", "--tcc", os.path.abspath(tcc[-1]), "--junit-xml", str(report),
                 "test_store.py"], library, cwd=folder)
     yield differs("status of pytest", 1, done.returncode)
-    import xml.etree.ElementTree as xml
-    cases = {one.get("name"): one.find("failure") for one in xml.parse(report).iter("testcase")} if report.exists() else {}
+    cases = {one.get("name"): failure_of(one) for one in xml.parse(report).iter("testcase")} if report.exists() else {}
     yield differs("tests", sorted(REPORTED), sorted(cases))
     for name, message in REPORTED.items():
-        failure = cases.get(name)
-        said = None if failure is None else failure.get("message", "") + (failure.text or "")
+        said = cases.get(name)
         yield name, None if (message is None) == (said is None) and (message or "") in (said or "") else "it says %r" % said
+
+
+def rounds(folder: pathlib.Path, library: str, tcc: List[str]) -> Iterator[Outcome]:
+    """The pytest file of recipes/ci: a round for each file, each with its end in the report."""
+    python = python_with("pytest")
+    if python is None:
+        return
+    for name, text in ROUNDS.items():
+        (folder / name).mkdir()
+        for round_name, (records, _) in text.items():
+            (folder / name / (round_name + ".csv")).write_text(records)
+        report = folder / name / "report.xml"
+        words = [python, "-m", "pytest", "-q", "-p", "no:cacheprovider", "--junit-xml", str(report), str(TOP / "recipes/ci/test_causal.py")]
+        done = run(words, library, more={"TCC": os.path.abspath(tcc[-1]), "RECORDS": str(folder / name)}, cwd=folder)
+        yield differs("rounds %s: status of pytest" % name, 0 if name == "kept" else 1, done.returncode)
+        cases = {one.get("name"): failure_of(one) for one in xml.parse(report).iter("testcase")} if report.exists() else {}
+        for round_name, (_, message) in text.items():
+            said = cases.get("test_round[%s]" % round_name, "no such test")
+            yield "round %s" % round_name, None if (said is None) == (message is None) and (message or "") in (said or "") else "it says %r" % said
+    yield "rounds none: has_rounds", None if "no records" in (cases.get("test_has_rounds") or "") else str(cases)
+
+
+def failure_of(case) -> Optional[str]:
+    """What a test's report says of its failure; none where it passed."""
+    failure = case.find("failure")
+    return None if failure is None else failure.get("message", "") + (failure.text or "")
 
 
 def same_version(tcc: List[str]) -> Iterator[Outcome]:
@@ -326,7 +365,7 @@ def outcomes(tcc: List[str]) -> Iterator[Outcome]:
         import tcc as package
         yield "what is imported", None if package.__file__.startswith(library) else package.__file__
         for part in (ends(folder), refusals(folder), crash(folder, library), threads(folder, tcc), answers(folder, tcc),
-                     fixtures(folder, library, tcc)):
+                     fixtures(folder, library, tcc), rounds(folder, library, tcc)):
             yield from part
 
 

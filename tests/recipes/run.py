@@ -43,6 +43,7 @@ from typing import Dict, Iterator, List, Optional, Tuple
 HERE = pathlib.Path(__file__).resolve().parent
 TOP = HERE.parent.parent
 sys.path.insert(0, str(TOP / "tests"))
+import ci  # noqa: E402
 import clients  # noqa: E402
 import scripts  # noqa: E402
 from arguments import ask_for_tcc  # noqa: E402
@@ -258,6 +259,7 @@ def outcomes(names: List[str], tcc: List[str]) -> Iterator[Outcome]:
         yield from first_example(tcc)
         yield from clients.outcomes(tcc)
         yield from scripts.outcomes(tcc)
+        yield from ci.outcomes(tcc)
         yield from unknown_outcomes()
         yield from packed(tcc)
         yield from demo("redis", tcc)
