@@ -196,6 +196,20 @@ impl Anomaly {
         &self.labels
     }
 
+    /// The least lengths of walks, capped at the cost of the cycle.
+    pub(crate) fn near(&self) -> &CappedRows
+        ensures { result.now ≡ self.now.near }
+    {
+        &self.near
+    }
+
+    /// The least costs of routes, capped at the cost of the cycle.
+    pub(crate) fn far(&self) -> &CappedRows
+        ensures { result.now ≡ self.now.far }
+    {
+        &self.far
+    }
+
     /// What the anomaly says, without the distances by which it can be checked. No memory is taken, and theirs is given back.
     pub fn without_tables(self, alloc: Global) -> Anomaly
         ensures { result ≡ record { level = self.level; links = self.links; near = []; far = []; labels = self.labels } }

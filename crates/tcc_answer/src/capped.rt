@@ -1,5 +1,5 @@
 //! The tables of an anomaly: rows as they were found, in 16 bits a number; they are capped where a row is written.
-ghost use Rattle.std.specs.Prelude.{◌≡◌, ◌≤◌, ℕ, List, [], ◌∷◌, Option, All, OnErr, OnOk, length, map, take};
+ghost use Rattle.std.specs.Prelude.{◌≡◌, ◌≤◌, ℕ, List, [], ◌∷◌, Option, All, IfOk, OnErr, OnOk, length, map, take};
 ghost use Rattle.std.specs.Io.KnownBytes.{Appends};
 ghost use Rattle.tcc_txn.specs.declared.limits.TheConstants.{MAX_COUNT};
 ghost use Rattle.tcc_packed.specs.Packed.{at_most};
@@ -11,9 +11,9 @@ ghost use Rattle.tcc_cert.specs.Given.{HasTaken};
 use std::alloc::Global;
 use std::io::Write;
 use std::marker::Model;
-use tcc_cert::{CertWriteFault, CycleTable, CycleWriter};
+use tcc_cert::{CertWriteFault, CycleTable, CycleWriter, Numbers, Table};
 use tcc_packed::PackedRow;
-use tcc_txn::MAX_COUNT;
+use tcc_txn::{MAX_COUNT, NoMemory};
 
 /// Rows of numbers, each of which is the cap where there is none or a greater one: contracts see the capped numbers.
 #[derive(Drop)]
@@ -56,6 +56,15 @@ fn give<W: Write>(
     writer.row(table, numbers)
 }
 
+/// The numbers of a row, capped, as a list of their own.
+fn numbers_of(alloc: Global, row: &PackedRow, cap: u32) -> Result<Numbers, NoMemory>
+    ensures { IfOk result (λ numbers. numbers ≡ map (at_most cap) row.now) }
+{
+    let mut numbers = vec![in alloc; 0; row.len()]?;
+    row.write_capped(cap, &mut numbers);
+    Ok(Numbers::new(numbers))
+}
+
 impl CappedRows {
     /// These rows with this cap, each with a number for as many transactions as there may be at most.
     pub fn new(rows: Vec<PackedRow>, cap: u32) -> CappedRows
@@ -80,6 +89,17 @@ impl CappedRows {
         ensures { result ≡ length self.now }
     {
         self.rows.len()
+    }
+
+    /// The rows as a table of its own.
+    pub(crate) fn table(&self, alloc: Global) -> Result<Table, NoMemory>
+        ensures { IfOk result (λ table. table ≡ self.now) }
+    {
+        let mut rows = Vec::new(alloc);
+        for row in &self.rows {
+            rows.push(numbers_of(alloc, row, self.cap)?)?;
+        }
+        Ok(Table::new(rows))
     }
 
     /// Gives the writer all rows as those of a table.

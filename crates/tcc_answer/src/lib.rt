@@ -3,6 +3,7 @@
 
 mod answer;
 mod capped;
+mod copying;
 mod fault;
 mod json;
 mod labels;
