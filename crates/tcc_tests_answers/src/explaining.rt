@@ -5,6 +5,7 @@ use std::process::Abort;
 use std::test::Fail;
 use std::thread::Threads;
 use tcc_answer::Answer;
+use tcc_cert::write;
 use tcc_explain::laws::{certificates, certified, one_answer};
 use tcc_explain::{ExplainFault, NextFault, OpenGate, Workers, explain};
 use tcc_graph::Level;
@@ -92,6 +93,7 @@ const CERTIFICATES: [(&str, Level, &str); 5] = [
 enum Form {
     Text,
     Certificate,
+    CertificateAsValue,
 }
 
 fn said(alloc: Global, answer: &Answer, form: Form) -> Option<Vec<u8>> {
@@ -100,6 +102,11 @@ fn said(alloc: Global, answer: &Answer, form: Form) -> Option<Vec<u8>> {
         Form::Certificate => {
             let mut out = Vec::new(alloc);
             answer.write_certificate(&mut out).ok()?;
+            Some(out)
+        }
+        Form::CertificateAsValue => {
+            let mut out = Vec::new(alloc);
+            write(&answer.certificate(alloc).ok()?, &mut out).ok()?;
             Some(out)
         }
     }
@@ -129,7 +136,9 @@ fn texts(rt: HostRuntime) {
 
 #[test]
 fn certificates_of_answers(rt: HostRuntime) {
-    assert_said(&rt, rt.alloc(), &CERTIFICATES, Form::Certificate);
+    for form in [Form::Certificate, Form::CertificateAsValue] {
+        assert_said(&rt, rt.alloc(), &CERTIFICATES, form);
+    }
     certificates();
     certified();
     one_answer();
