@@ -181,6 +181,8 @@ def known_by(one: Link) -> str:
         return "since it had read %s from %s in %s" % (steps[0].key, steps[0].source, steps[0].target)
     if [each.kind for each in steps] == ["session", "reads"] and read:
         return "since it read %s from %s, which stands behind that" % (read.key, read.source)
+    if read and steps[0].kind == "reads" and [each.kind for each in steps[1:-1]] in ([], ["session"]):
+        return "since it read %s from %s, whose session had read %s from %s" % (read.key, read.source, steps[0].key, steps[0].source)
     return "by a chain of %d steps" % len(one.walk)
 
 

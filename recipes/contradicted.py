@@ -13,7 +13,7 @@ from bisect import bisect_right
 from collections import deque
 from dataclasses import dataclass
 from functools import lru_cache
-from typing import Callable, Dict, Iterable, Iterator, List, NamedTuple, Optional, Set, Tuple
+from typing import Callable, Dict, Iterator, List, NamedTuple, Optional, Set, Tuple
 
 from answers import Link
 from program import Program
@@ -304,23 +304,22 @@ class Names:
         return "causal chain"
 
 
-def _session_steps(graph: Graph, first: int, last: int) -> List[Link]:
-    label = [one.label for one in graph.transactions[first:last + 1]]
-    return [Link("session", source, target) for source, target in zip(label, label[1:])]
-
-
 def walk(graph: Graph, first: int, last: int) -> Optional[List[Link]]:
-    """A shortest walk of pairs from one transaction to another, breadth first backwards."""
+    """A shortest walk of pairs from one transaction to another, breadth first backwards; in a session any earlier one is one step."""
     onward: Dict[int, Tuple[int, str]] = {last: (last, "")}
     waiting = deque([last])
     while waiting and first not in onward:
         number = waiting.popleft()
-        pairs: Iterable[Tuple[int, str]] = [(read.source, read.operation.key) for read in graph.reads[number] if read.source != INIT]
-        before = graph.before(number)
-        for one, key in [*([(before, "")] if before is not None else []), *pairs]:
-            if one not in onward:
-                onward[one] = number, key
-                waiting.append(one)
+        for read in graph.reads[number]:
+            if read.source != INIT and read.source not in onward:
+                onward[read.source] = number, read.operation.key
+                waiting.append(read.source)
+        before = number - 1
+        while before >= graph.begins[graph.sessions[number]] and not (before in onward and onward[before][1] == ""):
+            if before not in onward:
+                onward[before] = number, ""
+                waiting.append(before)
+            before -= 1
     if first not in onward:
         return None
     steps: List[Link] = []
@@ -337,7 +336,7 @@ def cycle_of_read(graph: Graph, one: Contradicted) -> Optional[List[Link]]:
     """The anomaly that a contradicted read is: from its source to the other writer, and from there derived back."""
     reader, writer = graph.numbers[one.reader], graph.numbers[one.writer]
     if graph.sessions[reader] == graph.sessions[writer]:
-        knew: Optional[List[Link]] = _session_steps(graph, writer, reader)
+        knew: Optional[List[Link]] = [Link("session", one.writer, one.reader)]
     else:
         knew = walk(graph, writer, reader)
     onward = [Link("session", "init", one.writer)] if one.source == "init" else walk(graph, graph.numbers[one.source], writer)

@@ -27,6 +27,7 @@ OUTCOMES = {"ok": OK, "fail": FAIL, "info": INFO}
 MARK = re.compile(r"[#*][0-9]+")
 DIGITS = re.compile(r"[1-9][0-9]{0,18}")
 NANOSECONDS = 1e9
+CLOCK = 10**16  # nanoseconds, some months
 MOST_SEALS, MOST_DOUBLED = 256, 5
 # The steps of a transaction as they came: the text of a usual map of EDN, a usual list of JSON, or steps; none where it had none.
 Raw = Union[None, str, list, Tuple[Step, ...]]
@@ -372,12 +373,17 @@ class Imported:
             yield label, "" if index is None else str(index), line
 
     def notes(self) -> Iterator[Tuple[str, Note]]:
-        """Of each transaction of the records what is known of the operation that ended it; times begin with the first one's."""
-        begin = min((time for time in self.times if time is not None), default=0)
+        """Of each transaction of the records what is known of the operation that ended it."""
+        begin = self.begin()
         for number, (label, index, time, line, outcome) in enumerate(
                 zip(self.labels(), self.indexes, self.times, self.lines, self.outcomes)):
             yield label, Note(self.nodes.get(number, ""), "" if time is None else "%.6f" % ((time - begin) / NANOSECONDS),
                               "" if index is None else str(index), str(line), "of unknown outcome" if outcome == INFO else "")
+
+    def begin(self) -> int:
+        """The time, in nanoseconds, at which the run began: 0, as Jepsen has it, or where times are those of a clock the first one."""
+        first = min((time for time in self.times if time is not None), default=0)
+        return first if first > CLOCK else 0
 
     def warnings(self, seal_every: Optional[int] = None) -> Iterator[str]:
         """Where the records pass a limit of `tcc explain`, and what to do; and which lists had a value twice."""

@@ -1,5 +1,5 @@
-"""What the demos of redis/ and postgres/ share: they run commands as they would be typed, and show the answers for what their
-recorder wrote."""
+"""What the demos of redis/, postgres/ and galera/ share: they run commands as they would be typed, show the answers for what their
+recorder wrote, and end with a report of the first history that isn't consistent."""
 import argparse
 import json
 import pathlib
@@ -13,7 +13,7 @@ from typing import Callable, Dict, List, Optional
 RECIPES = pathlib.Path(__file__).resolve().parent
 BUILT = RECIPES.parent / "crates/tcc/out/tcc"
 EXAMPLE = """example:
-  $ demo.py --tcc crates/tcc/out/tcc
+  $ demo.py --tcc crates/tcc/out/tcc --reports .
 """
 UNRESOLVED = 2  # the greatest status of an answer
 WITHOUT_SERVER = 77
@@ -61,15 +61,23 @@ def shown(text: bytes, most: int = 160) -> None:
 
 
 def answer(tcc: str, recorder: List[str], folder: pathlib.Path, name: str) -> dict:
-    """The answer for what a recorder writes, after it and what it speaks of were shown."""
+    """The answer for what a recorder writes, after it and what it speaks of were shown; beside its records it writes annotations."""
     records, told = folder / (name + ".csv"), folder / (name + ".json")
-    run(recorder, into=records)
+    run([*recorder, "--notes", str(folder / (name + "-notes.csv"))], into=records)
     shown(run([tcc, "explain"], given=records, most=UNRESOLVED))
     run([tcc, "explain", "--json"], given=records, into=told, most=UNRESOLVED)
     found = json.loads(told.read_bytes())
     if found["answer"] != "consistent":
         shown(run([sys.executable, str(RECIPES / "picture.py"), str(told), "--history", str(records), "--text"]))
     return found
+
+
+def report(tcc: str, folder: pathlib.Path, name: str, reports: pathlib.Path) -> None:
+    """Makes the page of a history, and says where it is."""
+    reports.mkdir(parents=True, exist_ok=True)
+    page = reports / (name + ".html")
+    words = [sys.executable, str(RECIPES / "report.py"), str(folder / (name + ".csv")), "--notes", str(folder / (name + "-notes.csv"))]
+    shown(run([*words, "--tcc", tcc, "-o", str(page)], most=UNRESOLVED))
 
 
 @dataclass(frozen=True)
@@ -89,24 +97,29 @@ class Demo:
         """Shows it; the exit status."""
         ask = argparse.ArgumentParser(description=self.about, epilog=EXAMPLE, formatter_class=argparse.RawDescriptionHelpFormatter)
         ask.add_argument("--tcc", help="the program, by default the built one, or else the one on the path")
+        ask.add_argument("--reports", metavar="FOLDER", type=pathlib.Path, help="where the report goes, by default a new folder, which stays")
         asked = ask.parse_args()
         python = python_with(self.library)
         if not has_server or python is None:
             print("demo.py: no %s" % self.needs, file=sys.stderr)
             return WITHOUT_SERVER
         try:
-            found = self.is_expected(self.answers(python, program(asked.tcc)))
+            found = self.is_expected(self.answers(python, program(asked.tcc), asked.reports))
         except (Failed, OSError, subprocess.TimeoutExpired) as error:
             print("demo.py: %s" % error, file=sys.stderr)
             return 1
         print(self.said if found else "NOT what was expected")
         return 0 if found else 1
 
-    def answers(self, python: str, tcc: str) -> Dict[str, dict]:
+    def answers(self, python: str, tcc: str, reports: Optional[pathlib.Path]) -> Dict[str, dict]:
         """The answer of each round, by its name."""
         found = {}
-        with tempfile.TemporaryDirectory() as folder:
+        with tempfile.TemporaryDirectory() as given:
+            folder = pathlib.Path(given)
             for name, words in self.rounds.items():
-                found[name] = answer(tcc, [python, str(self.recorder), *words], pathlib.Path(folder), name)
+                found[name] = answer(tcc, [python, str(self.recorder), *words], folder, name)
                 print()
+            name = next((name for name, one in found.items() if one["answer"] != "consistent"), next(iter(found)))
+            report(tcc, folder, name, reports or pathlib.Path(tempfile.mkdtemp(prefix="tcc-report-")))
+            print()
         return found

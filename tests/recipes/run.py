@@ -22,7 +22,8 @@ A case is a JSON object:
 Behind the cases, the help of each script has to show an example, the clients in Python that README, GUIDE and RECORDING show have
 to write what they saw, also where their connections are cut at every call (`clients.py`), each way of reading a history has to
 give the same records, a script that is interrupted to say what it has, and the lines of RECORDING for a large history to end
-with its status (`scripts.py`); and the demos of recipes/redis, recipes/postgres and recipes/galera have to find what they show;
+with its status (`scripts.py`); the pages of report.py have to be whole, and right in a browser where Chromium is there
+(`pages.py`); and the demos of recipes/redis, recipes/postgres and recipes/galera have to find what they show;
 where their servers or their library for Python aren't there, they are passed over, which is said.
 
 The wanted texts were worked out by hand from the definitions. Each difference is one line; the last line is
@@ -45,6 +46,7 @@ TOP = HERE.parent.parent
 sys.path.insert(0, str(TOP / "tests"))
 import ci  # noqa: E402
 import clients  # noqa: E402
+import pages  # noqa: E402
 import scripts  # noqa: E402
 from arguments import ask_for_tcc  # noqa: E402
 from compared import first_difference, shown  # noqa: E402
@@ -154,17 +156,19 @@ def helps() -> Iterator[Outcome]:
 
 def demo(server: str, tcc: List[str]) -> Iterator[Outcome]:
     """The demo with real servers, where they are there: its status is 0 where each answer is what it has to be."""
-    command = [sys.executable, str(RECIPES / server / "demo.py"), "--tcc", tcc[-1]]
-    try:
-        ended = subprocess.run(command, capture_output=True, timeout=4 * SECONDS, check=False)
-    except subprocess.TimeoutExpired as error:
-        yield "demo of " + server, str(error)
-        return
-    if ended.returncode == WITHOUT_SERVER:
-        print("demo of %s: passed over: its server or its library isn't here" % server)
-        return
-    yield "demo of " + server, None if ended.returncode == 0 else "status %d, %r" % (
-        ended.returncode, ended.stdout + ended.stderr)
+    with tempfile.TemporaryDirectory() as folder:
+        command = [sys.executable, str(RECIPES / server / "demo.py"), "--tcc", tcc[-1], "--reports", folder]
+        try:
+            ended = subprocess.run(command, capture_output=True, timeout=4 * SECONDS, check=False)
+        except subprocess.TimeoutExpired as error:
+            yield "demo of " + server, str(error)
+            return
+        if ended.returncode == WITHOUT_SERVER:
+            print("demo of %s: passed over: its server or its library isn't here" % server)
+            return
+        has_report = len(list(pathlib.Path(folder).glob("*.html"))) == 1
+        yield "demo of " + server, None if ended.returncode == 0 and has_report else "status %d, %s report, %r" % (
+            ended.returncode, "a" if has_report else "no", ended.stdout + ended.stderr)
 
 
 def unknown_outcomes() -> Iterator[Outcome]:
@@ -260,6 +264,7 @@ def outcomes(names: List[str], tcc: List[str]) -> Iterator[Outcome]:
         yield from clients.outcomes(tcc)
         yield from scripts.outcomes(tcc)
         yield from ci.outcomes(tcc)
+        yield from pages.outcomes(tcc)
         yield from unknown_outcomes()
         yield from packed(tcc)
         yield from demo("redis", tcc)

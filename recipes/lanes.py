@@ -1,0 +1,454 @@
+"""Swim lanes of an anomaly, as SVG: each session a column, its transactions below one another, and the links between them.
+
+What is drawn is chosen first (`scene`): long walks are one line, and of a cycle with many derived links the first ones. Then it is
+laid out: a transaction stands below those that its session or its reads put before it, and each row is as high as its highest
+box; labels move along their lines until they are free of one another.
+"""
+from dataclasses import dataclass, field, replace
+from html import escape
+from typing import Dict, Iterable, List, NamedTuple, Sequence, Set, Tuple
+
+from answers import Link, joined, place, said, session_of
+from notes import Note
+from rows import History, Operation
+
+MOST_STEPS = 6  # of a walk that are drawn one by one
+MOST_DERIVED, MOST_COLUMNS = 6, 6  # derived links that are drawn, and columns, where there is more than one
+MOST_OPERATIONS = 6  # of a transaction that are drawn
+MORE = ".."
+
+
+@dataclass
+class Edge:
+    """A line of the picture: what it is, its ends, what stands at it, and what is said of it."""
+
+    kind: str  # session, reads, walk, derived, against or fault
+    source: str
+    target: str
+    label: str
+    told: str
+    number: int = 0
+
+
+@dataclass
+class Scene:
+    """What of an anomaly is drawn: its edges, for each transaction the operations that matter, and its part in the anomaly."""
+
+    edges: List[Edge] = field(default_factory=list)
+    keys: Dict[str, Set[str]] = field(default_factory=dict)
+    parts: Dict[str, str] = field(default_factory=dict)
+    hidden: int = 0  # links of the cycle that aren't drawn
+
+    def labels(self) -> List[str]:
+        return sorted({name for one in self.edges for name in (one.source, one.target)}, key=place)
+
+    def add(self, one: Edge, *keys: str) -> None:
+        for name in (one.source, one.target):
+            self.keys.setdefault(name, set()).update(keys)
+        if not any((each.kind, each.source, each.target, each.label) == (one.kind, one.source, one.target, one.label)
+                   for each in self.edges):
+            one.number = len(self.edges) + 1
+            self.edges.append(one)
+
+
+def rows_of(history: History, *labels: str) -> str:
+    """The rows of transactions, for the end of a sentence."""
+    told = ["%s is in rows %d to %d" % (name, history.find(name).first, history.find(name).last)
+            for name in dict.fromkeys(labels) if name != "init"]
+    return "; ".join(told)
+
+
+def walk_edge(steps: List[Link], history: History) -> Edge:
+    first, last = steps[0].source, steps[-1].target
+    reads = sum(one.kind == "reads" for one in steps)
+    return Edge("walk", first, last, "%d steps" % len(steps), "%s comes before %s by %d steps, %d of them reads; all are listed below. %s." % (
+        first, last, len(steps), reads, rows_of(history, first, last)))
+
+
+def pair_edge(one: Link, history: History) -> Edge:
+    if one.kind == "session":
+        if one.source == "init":
+            return Edge("session", "init", one.target, "", "The initial state is before all transactions, also before %s. %s." % (
+                one.target, rows_of(history, one.target)))
+        between = place(one.target)[1] - place(one.source)[1] - 1
+        label = "%d between" % between if between else ""
+        return Edge("session", one.source, one.target, label, "%s comes before %s in session %s. %s." % (
+            one.source, one.target, session_of(one.source), rows_of(history, one.source, one.target)))
+    value = history.value_read(one.source, one.target, one.key)
+    return Edge("reads", one.source, one.target, "%s = %s" % (one.key, said(value)), "%s read %s = %s, which %s wrote, so it comes behind it. %s." % (
+        one.target, one.key, said(value), one.source, rows_of(history, one.source, one.target)))
+
+
+def drawn(steps: Iterable[Link], scene: Scene, history: History) -> None:
+    """Draws a walk, as one line where it is long."""
+    steps = list(steps)
+    few = joined(steps)
+    if len(few) > MOST_STEPS:
+        scene.add(walk_edge(steps, history))
+        return
+    for one in few:
+        scene.add(pair_edge(one, history), *([one.key] if one.key else []))
+
+
+def draw_derived(one: Link, scene: Scene, history: History) -> None:
+    """Draws a derived link: its walk, the read that it contradicts, and itself."""
+    drawn(one.walk, scene, history)
+    value = said(history.value_read(one.target, one.reader, one.key))
+    write = history.find(one.source).written(one.key)
+    newer = write.value if write else ""
+    source = "the initial state" if one.target == "init" else one.target
+    scene.add(Edge("against", one.target, one.reader, "%s = %s" % (one.key, value),
+                   "%s read %s = %s from %s, though it knew of %s, which wrote %s = %s. %s." % (
+                       one.reader, one.key, value, source, one.source, one.key, newer, rows_of(history, one.reader, one.source))), one.key)
+    scene.add(Edge("derived", one.source, one.target, "would come first",
+                   "%s would have to come before %s: else %s would have read its %s = %s, of which it knew. %s." % (
+                       one.source, source, one.reader, one.key, newer, rows_of(history, one.source, one.target, one.reader))), one.key)
+
+
+def columns_with(scene: Scene, one: Link) -> Set[str]:
+    """The sessions of a scene to which a derived link is added."""
+    names = {name for step in joined(one.walk)[:MOST_STEPS] for name in (step.source, step.target)}
+    return {session_of(name) for name in [*scene.labels(), one.source, one.target, one.reader, *names] if name != "init"}
+
+
+def scene_of(cycle: List[Link], history: History) -> Scene:
+    """What is drawn of an anomaly."""
+    scene = Scene()
+    derived = [one for one in cycle if one.kind == "derived"]
+    run: List[Link] = []
+    count = 0
+    last = max((number for number, one in enumerate(cycle) if one.kind == "derived"), default=len(cycle) - 1)
+    for one in [*cycle[last + 1:], *cycle[:last + 1]]:
+        if one.kind != "derived":
+            run.append(one)
+            continue
+        if count == MOST_DERIVED or count > 1 and len(columns_with(scene, one)) > MOST_COLUMNS:
+            break
+        if run:
+            drawn(run, scene, history)
+        run = []
+        count += 1
+        draw_derived(one, scene, history)
+    if run and count == len(derived):
+        drawn(run, scene, history)
+    scene.hidden = 0 if count == len(derived) else len(derived) - count
+    if len(derived) == 1:
+        one = derived[0]
+        scene.parts = {one.target: "wrote what was read", one.source: "wrote over it", one.reader: "knew that, read the old"}
+    return scene
+
+
+class Box(NamedTuple):
+    """A transaction where it is drawn: its lines, each with how it is set."""
+
+    name: str
+    x: float
+    y: float
+    width: float
+    height: float
+    lines: Tuple[Tuple[str, str], ...]
+
+    @property
+    def middle(self) -> float:
+        return self.x + self.width / 2
+
+
+@dataclass(frozen=True)
+class Size:
+    """How large things are drawn: a box, the room between columns, and that at the sides; how wide all would like to be."""
+
+    box: float
+    font: float
+    gutter: float
+    margin: float
+    wish: float
+    least: float
+    pad: float = 8
+
+    @property
+    def letters(self) -> int:
+        """How many letters a line of a box has room for."""
+        return int((self.box - 2 * self.pad) / (self.font * 0.602))
+
+    def for_columns(self, count: int) -> "Size":
+        """The same with boxes as narrow as so many columns need, but no narrower than they may be."""
+        gutter = self.gutter if count < 5 else self.gutter * 0.7
+        box = (self.wish - 2 * self.margin - gutter * (count - 1)) / max(count, 1)
+        return replace(self, box=max(self.least, min(self.box, box)), gutter=gutter)
+
+
+def short(text: str, letters: int) -> str:
+    """A text that has room; what is left out in the middle is two points."""
+    if len(text) <= letters:
+        return text
+    keep = max(letters - len(MORE), 2)
+    return text[:keep - keep // 2] + MORE + text[len(text) - keep // 2:]
+
+
+def folded(text: str, letters: int) -> List[str]:
+    """Words in lines that have room."""
+    lines: List[str] = []
+    for word in text.split():
+        if lines and len(lines[-1]) + 1 + len(word) <= letters:
+            lines[-1] += " " + word
+        else:
+            lines.append(short(word, letters))
+    return lines
+
+
+def lines_of(name: str, scene: Scene, history: History, notes: Dict[str, Note], letters: int) -> Tuple[Tuple[str, str], ...]:
+    """The lines of a transaction's box."""
+    part = [("part", line) for line in folded(scene.parts.get(name, ""), letters)]
+    if name == "init":
+        keys = sorted(scene.keys.get(name, ()))
+        told = ", ".join("%s = nil" % key for key in keys[:3]) + (" .." if len(keys) > 3 else "")
+        return (("name", "before all transactions"), ("meta", short(told or "nothing is written", 60)),
+                *([("part", scene.parts[name])] if name in scene.parts else []))
+    one = history.find(name)
+    note = notes.get(name, Note())
+    meta = folded("rows %d to %d" % (one.first, one.last), letters)
+    known = [form % part for form, part in (("index %s", note.index), ("%s s", shortened(note.time)), ("at %s", note.node)) if part]
+    meta += folded(", ".join(known), letters)
+    meta += folded(note.note, letters)[:2]
+    if not one.committed:
+        meta.append("aborted")
+    shown = [each for each in one.operations if each.key in scene.keys.get(name, ())]
+    hidden = len(one.operations) - len(shown[:MOST_OPERATIONS])
+    told = [("operation", operation_text(each, letters)) for each in shown[:MOST_OPERATIONS]]
+    more = [("meta", "and %d more" % hidden)] if hidden else []
+    return (("name", short(name, letters)), *[("meta", line) for line in meta],
+            *[(kind, short(line, letters)) for kind, line in told], *more, *part)
+
+
+def operation_text(one: Operation, letters: int) -> str:
+    """What a transaction did, in one letter where there is no room for the word."""
+    what = "%s = %s" % (one.key, said(one.value) if one.does == "r" else one.value)
+    words = ("wrote " if one.does == "w" else "read ") + what
+    return words if len(words) <= letters else "%s %s" % (one.does, what)
+
+
+def shortened(time: str) -> str:
+    """A time to the millisecond."""
+    try:
+        return "%.3f" % float(time) if time else ""
+    except ValueError:
+        return time
+
+
+def depths(scene: Scene) -> Dict[str, int]:
+    """The row of each transaction: below all that come before it; on a circle by session and place."""
+    labels = [name for name in scene.labels() if name != "init"]
+    before: Dict[str, Set[str]] = {name: set() for name in labels}
+    for one, other in zip(labels, labels[1:]):
+        if session_of(one) == session_of(other):
+            before[other].add(one)
+    for edge in scene.edges:
+        if edge.kind in ("session", "reads", "walk", "against", "fault") and edge.source != "init" and edge.source != edge.target:
+            before[edge.target].add(edge.source)
+    depth: Dict[str, int] = {}
+    left = list(labels)
+    while left:
+        free = next((name for name in left if all(one in depth for one in before[name])), left[0])
+        above = [depth[one] for one in before[free] if one in depth]
+        depth[free] = max(above, default=-1) + 1
+        left.remove(free)
+    return depth
+
+
+Point = Tuple[float, float]
+Line = Tuple[float, float, float, float]
+
+
+def cuts(one: Line, other: Line) -> bool:
+    return one[0] < other[2] and other[0] < one[2] and one[1] < other[3] and other[1] < one[3]
+
+
+@dataclass
+class Picture:
+    """A scene that is laid out."""
+
+    scene: Scene
+    size: Size
+    boxes: Dict[str, Box]
+    heads: List[Tuple[str, float]]
+    width: float
+    height: float
+
+    def svg(self, name: str, about: str) -> str:
+        """The text of the picture; the ids in it begin with its name."""
+        out = ['<svg class="lanes" role="group" aria-label="%s" viewBox="0 0 %d %d" width="%d" height="%d" font-size="%g">' % (
+            escape(about, True), self.width, self.height, self.width, self.height, self.size.font)]
+        out.append(MARKERS % {"name": name})
+        for session, middle in self.heads:
+            top = 1.9 * self.size.font
+            out.append('<line class="rail" x1="%g" y1="%g" x2="%g" y2="%g"/>' % (middle, top, middle, self.height - 6))
+            out.append('<text class="head" x="%g" y="%g"><title>session %s</title>%s</text>' % (
+                middle, 1.3 * self.size.font, escape(session), escape(short(session, self.size.letters))))
+        lines = [self.line(edge, name) for edge in self.scene.edges]
+        out += [line for line, _, _ in lines]
+        out += [self.box(one) for one in self.boxes.values()]
+        taken: List[Line] = [(one.x, one.y, one.x + one.width, one.y + one.height) for one in self.boxes.values()]
+        out += [self.label(edge, points, taken) for edge, (_, points, _) in zip(self.scene.edges, lines)]
+        return "\n".join(out + ["</svg>"])
+
+    def box(self, one: Box) -> str:
+        step = self.size.font * 1.32
+        told = []
+        for number, (kind, line) in enumerate(one.lines):
+            told.append('<text class="%s" x="%g" y="%g">%s</text>' % (
+                kind, one.x + self.size.pad, one.y + self.size.pad + step * (number + 0.78), escape(line)))
+        return '<g class="box"><title>%s</title><rect x="%g" y="%g" width="%g" height="%g" rx="4"/>%s</g>' % (
+            escape(one.name), one.x, one.y, one.width, one.height, "".join(told))
+
+    def line(self, edge: Edge, name: str) -> Tuple[str, List[Point], str]:
+        """The line of an edge, and where its label may stand."""
+        path, points = self.path(edge)
+        shape = '<path d="%s" marker-end="url(#%s-%s)"/>' % (path, name, edge.kind)
+        if edge.kind == "derived":  # two lines: a thick one, and a thin one in it
+            shape = '<path class="outer" d="%s"/><path class="inner" d="%s" marker-end="url(#%s-derived)"/>' % (path, path, name)
+        return ('<g class="link %s" data-link="%d"><path class="wide" d="%s"/>%s</g>' % (edge.kind, edge.number, path, shape),
+                points, path)
+
+    def path(self, edge: Edge) -> Tuple[str, List[Point]]:
+        one, other = self.boxes[edge.source], self.boxes[edge.target]
+        if edge.source == edge.target:
+            x, y = one.x + one.width, one.y + one.height / 2
+            return curve((x, y - 10), (x + 44, y - 30), (x + 44, y + 30), (x, y + 10))
+        if edge.source == "init" or edge.target == "init":
+            return self.path_of_init(edge, one, other)
+        if one.x == other.x:
+            return self.path_in_lane(edge, one, other)
+        return self.path_across(edge, one, other)
+
+    def path_of_init(self, edge: Edge, one: Box, other: Box) -> Tuple[str, List[Point]]:
+        box = other if edge.source == "init" else one
+        init = self.boxes["init"]
+        is_blocked = any(each.x == box.x and init.y < each.y < box.y for each in self.boxes.values())
+        if is_blocked:  # around what stands between
+            side = -1 if edge.kind == "session" else 1
+            x = box.x if side < 0 else box.x + box.width
+            out = x + side * self.size.margin * 0.62
+            points = ((x - side * 12, init.y + init.height), (out, init.y + init.height + 30), (out, box.y + box.height * 0.2 - 20),
+                      (x, box.y + box.height * 0.5))
+        else:
+            shift = {"session": -0.3, "against": 0.0, "derived": 0.3}.get(edge.kind, 0.15) * box.width
+            x = box.middle + shift
+            points = ((x, init.y + init.height), (x, init.y + init.height + 12), (x, box.y - 12), (x, box.y))
+        return curve(*(points if edge.source == "init" else points[::-1]))
+
+    def path_in_lane(self, edge: Edge, one: Box, other: Box) -> Tuple[str, List[Point]]:
+        is_down = other.y > one.y
+        upper, lower = (one, other) if is_down else (other, one)
+        is_next = not any(each.x == one.x and upper.y < each.y < lower.y for each in self.boxes.values())
+        if edge.kind in ("session", "walk") and is_next:
+            x = one.middle
+            return curve((x, upper.y + upper.height), (x, upper.y + upper.height + 4), (x, lower.y - 4), (x, lower.y))
+        side = -1 if edge.kind in ("derived",) else 1
+        x = one.x if side < 0 else one.x + one.width
+        bend = side * self.size.margin * 0.9
+        begin, end = (x, one.y + one.height * 0.6), (x, other.y + other.height * 0.4)
+        return curve(begin, (x + bend, begin[1]), (x + bend, end[1]), end)
+
+    def path_across(self, edge: Edge, one: Box, other: Box) -> Tuple[str, List[Point]]:
+        side = 1 if other.x > one.x else -1
+        begins = {"derived": 0.62 if side > 0 else 0.86, "against": 0.36, "reads": 0.5}
+        ends = {"derived": 0.62 if side > 0 else 0.86, "against": 0.66, "reads": 0.34}
+        begin = (one.x + one.width if side > 0 else one.x, one.y + one.height * begins.get(edge.kind, 0.5))
+        end = (other.x if side > 0 else other.x + other.width, other.y + other.height * ends.get(edge.kind, 0.5))
+        reach = max(min(abs(end[0] - begin[0]) * 0.5, 160), self.size.gutter * 0.55)
+        ways = [(begin, (begin[0] + side * reach, begin[1]), (end[0] - side * reach, end[1]), end)]
+        if other.y > one.y + one.height:  # on to its column and down, or down and on to its side
+            x, low = other.middle, one.middle
+            ways.append((begin, (x, begin[1]), (x, begin[1]), (x, other.y)))
+            ways.append(((low, one.y + one.height), (low, end[1]), (low, end[1]), end))
+            ways.append(((low, one.y + one.height), (low, end[1] * 1.08), (low, end[1]), end))
+        elif other.y + other.height < one.y:  # up and on to its side, or on to its column and up
+            x, high = other.middle, one.middle
+            ways.append(((high, one.y), (high, end[1]), (high, end[1]), end))
+            ways.append((begin, (x, begin[1]), (x, begin[1]), (x, other.y + other.height)))
+        return curve(*min(ways, key=lambda way: self.covered(way, one, other)))
+
+    def covered(self, way: Sequence[Point], one: Box, other: Box) -> int:
+        """How many points of a curve lie in another box than those two."""
+        return sum(each.x < x < each.x + each.width and each.y < y < each.y + each.height
+                   for x, y in (at(way, step / 32) for step in range(1, 32)) for each in self.boxes.values()
+                   if each.name not in (one.name, other.name))
+
+    def label(self, edge: Edge, points: List[Point], taken: List[Line]) -> str:
+        """The text at an edge, with its number, where nothing else stands; the number alone where there is no room."""
+        texts = ["%d. %s" % (edge.number, short(edge.label, 24)), "%d" % edge.number] if edge.label else ["%d" % edge.number]
+        font = self.size.font * 0.92
+        found = [self.room(text, font, points, taken) for text in texts]
+        overlap, frame, text = next((one for one in found if one[0] <= 40), min(found, key=lambda one: one[0]))
+        taken.append(frame)
+        return ('<g class="link label %s" data-link="%d" tabindex="0" role="button" aria-label="%s"><title>%s</title>'
+                '<rect x="%g" y="%g" width="%g" height="%g" rx="3"/><text x="%g" y="%g" font-size="%g">%s</text></g>' % (
+                    edge.kind, edge.number, escape(edge.told, True), escape(edge.told), frame[0], frame[1], frame[2] - frame[0],
+                    frame[3] - frame[1], (frame[0] + frame[2]) / 2, frame[3] - 0.42 * font, font, escape(text)))
+
+    def room(self, text: str, font: float, points: List[Point], taken: List[Line]) -> Tuple[float, Line, str]:
+        """Where at some points a text has most room, and how much of something else it covers there."""
+        width, height = len(text) * font * 0.602 + 8, font * 1.4
+        best: Tuple[float, Line, str] = (float("inf"), (0.0, 0.0, 0.0, 0.0), text)
+        for x, y in points:
+            for across, down in ((0.0, 0.0), (0.0, -0.7 * height), (0.0, 0.7 * height), (-0.4 * width, 0.0), (0.4 * width, 0.0)):
+                left = min(max(x - width / 2 + across, 1), self.width - width - 1)
+                top = min(max(y - height / 2 + down, 1), self.height - height - 1)
+                frame = (left, top, left + width, top + height)
+                overlap = sum(area(frame, other) for other in taken)
+                if overlap < best[0]:
+                    best = overlap, frame, text
+            if best[0] == 0:
+                break
+        return best
+
+
+def area(one: Line, other: Line) -> float:
+    if not cuts(one, other):
+        return 0.0
+    return (min(one[2], other[2]) - max(one[0], other[0])) * (min(one[3], other[3]) - max(one[1], other[1]))
+
+
+def at(points: Sequence[Point], t: float) -> Point:
+    """A point of a curve of Bezier."""
+    u = 1 - t
+    x, y = (u * u * u * points[0][i] + 3 * u * u * t * points[1][i] + 3 * u * t * t * points[2][i] + t * t * t * points[3][i] for i in (0, 1))
+    return x, y
+
+
+def curve(*points: Point) -> Tuple[str, List[Point]]:
+    """A curve of Bezier, and points on it from its middle outwards."""
+    text = "M%.1f %.1fC%.1f %.1f %.1f %.1f %.1f %.1f" % tuple(one for point in points for one in point)
+    return text, [at(points, t) for t in (0.5, 0.42, 0.58, 0.34, 0.66, 0.26, 0.74, 0.18, 0.82)]
+
+
+KINDS = ("session", "reads", "walk", "derived", "against", "fault")
+MARKERS = "<defs>%s</defs>" % "".join(
+    '<marker id="%%(name)s-%s" class="%s" viewBox="0 0 10 10" refX="9" refY="5" markerUnits="userSpaceOnUse" markerWidth="11" '
+    'markerHeight="11" orient="auto"><path d="M0 1L10 5L0 9%s"/></marker>' % (kind, kind, "z" if kind != "derived" else "") for kind in KINDS)
+
+
+def picture(scene: Scene, history: History, notes: Dict[str, Note], size: Size) -> Picture:
+    """Lays a scene out."""
+    labels = scene.labels()
+    depth = depths(scene)
+    sessions = list(dict.fromkeys(session_of(name) for name in sorted(depth, key=lambda name: (depth[name], place(name)))))
+    size = size.for_columns(len(sessions))
+    lines = {name: lines_of(name, scene, history, notes, 60 if name == "init" else size.letters) for name in labels}
+    step = size.font * 1.32
+    heights = {name: len(told) * step + 2 * size.pad for name, told in lines.items()}
+    gap = 4.4 * size.font
+    width = 2 * size.margin + size.box * len(sessions) + size.gutter * (len(sessions) - 1)
+    y = 2.4 * size.font
+    boxes: Dict[str, Box] = {}
+    if "init" in labels:
+        boxes["init"] = Box("init", size.margin, y, width - 2 * size.margin, heights["init"], lines["init"])
+        y += heights["init"] + gap
+    for row in range(max(depth.values(), default=-1) + 1):
+        mine = [name for name in labels if depth.get(name) == row]
+        for name in mine:
+            x = size.margin + (size.box + size.gutter) * sessions.index(session_of(name))
+            boxes[name] = Box(name, x, y, size.box, heights[name], lines[name])
+        y += max((heights[name] for name in mine), default=0.0) + gap
+    heads = [(session, size.margin + (size.box + size.gutter) * number + size.box / 2) for number, session in enumerate(sessions)]
+    return Picture(scene, size, boxes, heads, width, y - gap + 14)
