@@ -1,0 +1,4 @@
+-- What nobody has to believe: private functions say it to one another, or proofs to themselves.
+pub mod Least
+pub mod Positions
+pub mod NextWriters

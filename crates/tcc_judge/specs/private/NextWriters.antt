@@ -1,0 +1,37 @@
+-- Of each key and each session of a block the least transaction that writes the key and stands behind some place of an order.
+use Rattle.std.specs.Prelude.{ℕ, ◌<◌, ◌≤◌, ◌≡◌, ◌+◌, true, min, List, All, length, replicate, set, slice_index}
+use Rattle.tcc_reads.specs.History.{History, count, owner}
+use Rattle.tcc_graph.specs.Keys.{keys, key_at, writes}
+use Rattle.tcc_graph.specs.Tables.{row_of}
+use Rattle.tcc_judge.specs.declared.least.TheConstants.{NONE}
+use Rattle.tcc_judge.specs.declared.next_writers.TheConstants.{WIDE}
+use Rattle.tcc_judge.specs.private.Least.{IsLeastOf}
+
+-- rows of which each is held for one key, but for the first, which is that of all keys that nobody was noted for
+pub record AreHeldOnce (rows : List (List ℕ)) (which : List ℕ) : Type 0 where
+  pub some : 0 < length rows
+  pub none : row_of rows 0 ≡ replicate WIDE NONE
+  pub inside : All (λ n. n < length rows) which
+  pub once : (j k : ℕ) → j < length which → k < length which → slice_index which j ≡ slice_index which k → 0 < slice_index which j → j ≡ k
+
+-- a row with the number of a session lowered to this one
+abbrev pub lowered : List ℕ → ℕ → ℕ → List ℕ
+lowered row session number = set row session (min number (slice_index row session))
+
+-- b, a committed transaction of the session, writes the key, and stands at this place of the order or behind it
+pub record IsNextWriter (h : History) (order : List ℕ) (x : List ℕ) (session : ℕ) (place : ℕ) (b : ℕ) : Type 0 where
+  pub committed : 0 < b
+  pub below : b < count h
+  pub owned : owner h b ≡ session
+  pub writes : writes h b x ≡ true
+  pub index : ℕ
+  pub behind : place ≤ index
+  pub inside : index < length order
+  pub here : slice_index order index ≡ b
+
+-- of each key and each session of the block that begins at `from` the least of them
+pub record AreNextWriters (h : History) (order : List ℕ) (from : ℕ) (place : ℕ) (table : List (List ℕ)) : Type 0 where
+  pub long : length table ≡ length (keys h)
+  pub wide : (k : ℕ) → k < length (keys h) → length (row_of table k) ≡ WIDE
+  pub each : (k session : ℕ) → k < length (keys h) → session < WIDE
+      → IsLeastOf (IsNextWriter h order (key_at h k) (from + session) place) (slice_index (row_of table k) session)

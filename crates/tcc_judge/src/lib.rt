@@ -1,0 +1,11 @@
+//! The judge of claims on a history of any size: an order that is told by runs, or a cycle by its links. It uses the history
+//! and the claim alone, and searches nothing.
+#![tactic(auto)]
+
+mod least;
+mod next_writers;
+mod positions;
+mod turned;
+mod verdict;
+
+pub use verdict::{Rule, Verdict};

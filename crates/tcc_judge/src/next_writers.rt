@@ -1,0 +1,86 @@
+//! Of each key and each session of a block the next writer behind a place of an order, along the order backwards.
+ghost use Rattle.std.specs.Prelude.{◌≡◌, ◌<◌, ℕ, List, length, map, set, slice_index, All, IfOk, OnOk, min, replicate};
+ghost use Rattle.tcc_graph.specs.Tables.{row_of};
+ghost use Rattle.tcc_judge.specs.declared.least.TheConstants.{NONE};
+ghost use Rattle.tcc_judge.specs.declared.next_writers.TheConstants.{WIDE};
+ghost use Rattle.tcc_judge.specs.private.NextWriters.{lowered};
+
+use crate::least::NONE;
+use std::alloc::{AllocError, Global};
+use std::marker::Model;
+use tcc_txn::NoMemory;
+
+/// How many sessions are looked at together.
+pub(crate) const WIDE: usize = 64;
+
+/// A row: a number for each session of a block.
+type Lanes = [u32; WIDE];
+
+/// A row for each key, which contracts see as a list of lists. One row, held once, is that of all keys that nobody was noted for.
+#[derive(Drop)]
+pub(crate) struct NextWriters {
+    rows: Vec<Lanes>,
+    which: Vec<u32>,
+}
+
+impl Model for NextWriters {
+    ghost use Rattle.std.specs.Prelude.{◌<◌, ℕ, List, length, map, All};
+    ghost use Rattle.tcc_judge.specs.private.NextWriters.{AreHeldOnce};
+    ghost use Rattle.tcc_graph.specs.Tables.{row_of};
+
+    ghost Value = { List (List ℕ) };
+
+    ghost view = { λ t. map (row_of t.rows.items) t.which.items };
+
+    ghost invariant = { λ t. AreHeldOnce t.rows.items t.which.items };
+}
+
+impl NextWriters {
+    /// Of so many keys nobody yet.
+    pub(crate) fn new(alloc: Global, keys: usize) -> Result<NextWriters, AllocError>
+        ensures { IfOk result (λ t. t ≡ replicate keys (replicate WIDE NONE)) }
+    {
+        let mut rows = Vec::new(alloc);
+        rows.push([NONE; WIDE])?;
+        let which = vec![in alloc; 0; keys]?;
+        Ok(NextWriters { rows, which })
+    }
+
+    /// Forgets all; the room that the rows took is kept.
+    pub(crate) fn clear(&mut self)
+        ensures { self.new ≡ replicate (length self.old) (replicate WIDE NONE) }
+    {
+        self.rows.truncate(1);
+        self.which.fill(0);
+    }
+
+    /// The row of a key.
+    pub(crate) fn get(&self, key_index: u32) -> &[u32]
+        requires { key_index < length self.now }
+        ensures { result.now ≡ row_of self.now key_index }
+    {
+        &self.rows[self.which[key_index as usize] as usize]
+    }
+
+    /// Lowers the number of a key and a session to this one.
+    pub(crate) fn lower(&mut self, key_index: u32, session: usize, number: u32) -> Result<(), NoMemory>
+        requires key { key_index < length self.old }
+        requires session { session < WIDE }
+        ensures { OnOk result (self.new ≡ set self.old key_index (lowered (row_of self.old key_index) session number)) }
+    {
+        let held = self.which[key_index as usize];
+        if held != 0 {
+            let row = &mut self.rows[held as usize];
+            row[session] = number.min(row[session]);
+            return Ok(());
+        }
+        let Ok(own) = u32::try_from(self.rows.len()) else {
+            return Err(NoMemory);
+        };
+        let mut row = [NONE; WIDE];
+        row[session] = number;
+        self.rows.push(row)?;
+        self.which[key_index as usize] = own;
+        Ok(())
+    }
+}

@@ -1,0 +1,56 @@
+//! What is answered of a claim, and the rules that it names.
+ghost use Rattle.std.specs.Prelude.{◌≡◌};
+ghost use Rattle.tcc_judge.specs.Verdicts.{rule_number};
+
+/// The rules, in the order in which they are judged. Of a claim that runs tell a commit order the first and the last two are
+/// asked, of a claim of a cycle the first two, and where it is claimed to be a least one the first seven.
+#[derive(Clone, Copy, Debug, PartialEq, Eq)]
+pub enum Rule {
+    /// The sizes are those of the history, no number is out of its range, and the runs of each session come to its size.
+    Sizes,
+    /// The links are those of the history at the level, one at least, close a cycle, and cost what is claimed.
+    Links,
+    /// No two pairs lead round, and where the cost is 4, no three.
+    ShortPairs,
+    /// Where the cost is 4, no derived link with a single pair as its walk leads back over a pair.
+    ShortLinks,
+    /// Every reads-from pair is in order by the runs beside the cycle.
+    Onward,
+    /// The cost and the work that the claim asks for are within their limits.
+    Limits,
+    /// No cycle through a link that leads back in the order costs less.
+    Windows,
+    /// Every reads-from pair is in order.
+    Pairs,
+    /// What is contradicted stands behind what contradicts it.
+    Axiom,
+}
+
+impl Rule {
+    /// The rule's number, from 1 to 9.
+    pub fn number(&self) -> u32
+        ensures { result ≡ rule_number self.now }
+    {
+        match self {
+            Rule::Sizes => 1,
+            Rule::Links => 2,
+            Rule::ShortPairs => 3,
+            Rule::ShortLinks => 4,
+            Rule::Onward => 5,
+            Rule::Limits => 6,
+            Rule::Windows => 7,
+            Rule::Pairs => 8,
+            Rule::Axiom => 9,
+        }
+    }
+}
+
+/// What the rules say of a claim.
+#[derive(Clone, Copy, Debug, PartialEq, Eq)]
+pub enum Verdict {
+    /// All of them hold, and so the claim is true.
+    Accepted,
+    /// This is the first broken rule, and where it is broken first: two transactions; of `Links` the number of the first wrong
+    /// link, from 1, and 0; and 0 and 0 where the rule names nothing.
+    Rejected { rule: Rule, at: (u32, u32) },
+}
