@@ -2,3 +2,4 @@
 pub mod Least
 pub mod Positions
 pub mod NextWriters
+pub mod Behind

@@ -2,6 +2,7 @@
 //! and the claim alone, and searches nothing.
 #![tactic(auto)]
 
+mod behind;
 mod least;
 mod next_writers;
 mod positions;

@@ -18,7 +18,7 @@ fn least_turned(graph: &LargeGraph, positions: &[u32], a: u32) -> u32
     let mut least = NONE;
     for reader in readers {
         if positions[*reader as usize] <= position {
-            least = least.min(*reader);
+            least = (*reader).min(least);
         }
     }
     least

@@ -1,10 +1,10 @@
 -- Of each key and each session of a block the least transaction that writes the key and stands behind some place of an order.
-use Rattle.std.specs.Prelude.{ℕ, ◌<◌, ◌≤◌, ◌≡◌, ◌+◌, true, min, List, All, length, replicate, set, slice_index}
+use Rattle.std.specs.Prelude.{ℕ, ◌<◌, ◌≤◌, ◌≡◌, ◌+◌, true, min, List, All, Contains, length, replicate, set, slice_index}
 use Rattle.tcc_reads.specs.History.{History, count, owner}
 use Rattle.tcc_graph.specs.Keys.{keys, key_at, writes}
 use Rattle.tcc_graph.specs.Tables.{row_of}
 use Rattle.tcc_judge.specs.declared.least.TheConstants.{NONE}
-use Rattle.tcc_judge.specs.declared.next_writers.TheConstants.{WIDE}
+use Rattle.tcc_clocks.specs.declared.latest.TheConstants.{WIDE}
 use Rattle.tcc_judge.specs.private.Least.{IsLeastOf}
 
 -- rows of which each is held for one key, but for the first, which is that of all keys that nobody was noted for
@@ -17,6 +17,14 @@ pub record AreHeldOnce (rows : List (List ℕ)) (which : List ℕ) : Type 0 wher
 -- a row with the number of a session lowered to this one
 abbrev pub lowered : List ℕ → ℕ → ℕ → List ℕ
 lowered row session number = set row session (min number (slice_index row session))
+
+-- of these keys the number of a session is lowered to this one, and all others are kept
+pub record AreLowered (key_indices : List ℕ) (session : ℕ) (number : ℕ) (old : List (List ℕ)) (new : List (List ℕ)) : Type 0 where
+  pub long : length new ≡ length old
+  pub wide : (k : ℕ) → k < length old → length (row_of new k) ≡ length (row_of old k)
+  pub here : (k : ℕ) → k < length old → Contains key_indices k
+      → slice_index (row_of new k) session ≡ min number (slice_index (row_of old k) session)
+  pub kept : (k s : ℕ) → k < length old → (Contains key_indices k → s ≡ session → ⊥) → slice_index (row_of new k) s ≡ slice_index (row_of old k) s
 
 -- b, a committed transaction of the session, writes the key, and stands at this place of the order or behind it
 pub record IsNextWriter (h : History) (order : List ℕ) (x : List ℕ) (session : ℕ) (place : ℕ) (b : ℕ) : Type 0 where

@@ -1,0 +1,55 @@
+use Rattle.std.proofs.Common.{◌≡◌, ◌<◌, ◌+◌, ℕ, length, get_or, sym, ap, ◌∙◌, arith}
+use Rattle.tcc_reads.specs.History.{count}
+use Rattle.tcc_graph.specs.Keys.{keys, key_at}
+use Rattle.tcc_graph.specs.Tables.{row_of}
+use Rattle.tcc_judge.specs.private.Least.{IsLeastOf}
+use Rattle.tcc_judge.specs.private.Behind.{IsBehindBy, IsWithin}
+use Rattle.tcc_judge.proofs.ReadingLemmas.{reading_at, reader_below}
+use Rattle.tcc_judge.proofs.BehindLemmas.{behind_by, behind_none, behind_more, behind_all}
+use Rattle.tcc_judge.proofs.behind.least_behind.Goals.{After-get}
+use Rattle.tcc_judge.proofs.behind.least_behind.Goals as goal
+
+pub loop-index-init : goal.loop-index-init
+loop-index-init c = λ from clocks nexts.
+    behind_none c.args.graph.now c.args.order.now from (c.args.place + 1) (get_or c.args.order.now c.args.place 0) c.readings_at.result.0.now
+    c.readings_at.result.1.now
+
+pub get-requires-in-loop-index : goal.get-requires-in-loop-index
+get-requires-in-loop-index c =
+    omega (arith, reader_below c.args.graph.now (get_or c.args.order.now c.args.place 0) c.readings_at.result.0.now c.readings_at.result.1.now
+    c.readings_at.ensures c.loop-index.index c.loop-index-test.true, c.requires.table.long)
+
+pub least_within-within-requires : goal.least_within-within-requires
+least_within-within-requires c =
+    let h = c.args.graph.now in
+    let i = c.loop-index.index in
+    let reading =
+    reading_at h (get_or c.args.order.now c.args.place 0) c.readings_at.result.0.now c.readings_at.result.1.now c.readings_at.ensures i c.loop-index-test.true in
+    rw (c.get.ensures, c.get-in-loop-index.ensures)
+    (c.requires.next.wide (get_or c.readings_at.result.1.now i 0) reading.key
+    ∙ sym (c.requires.table.wide (get_or c.readings_at.result.0.now i 0) reading.pair.1))
+
+pub loop-index-preserved : goal.loop-index-preserved
+loop-index-preserved c = λ from clocks nexts.
+    let h = c.args.graph.now in
+    let order = c.args.order.now in
+    let place = c.args.place + 1 in
+    let a : ℕ = get_or order c.args.place 0 in
+    let readers = c.readings_at.result.0.now in
+    let key_indices = c.readings_at.result.1.now in
+    let i = c.loop-index.index in
+    let reading = reading_at h a readers key_indices c.readings_at.ensures i c.loop-index-test.true in
+    let key : ℕ = get_or key_indices i 0 in
+    let reader : ℕ = get_or readers i 0 in
+    let one : IsLeastOf (IsBehindBy h order from place (key_at h key) reader) c.least_within-within.result
+    = behind_by h c.requires.numbered order from place (key_at h key) reader (row_of c.args.next.now key) (row_of c.args.table.now reader)
+    (nexts.wide key reading.key) c.requires.few (clocks.each reader reading.pair.1 reading.pair.1) (λ session narrow. nexts.each key session reading.key narrow)
+    c.least_within-within.result (rw (c.get.ensures, c.get-in-loop-index.ensures) at c.least_within-within.ensures) in
+    rw c.min-least.ensures
+    (behind_more h order from place a readers key_indices i c.least_within-within.result c.loop-index.least one (c.loop-index.invariant from clocks nexts))
+
+pub returns : goal.returns
+returns c = λ from a clocks nexts same.
+    rw same
+    (behind_all c.args.graph.now c.args.order.now from (c.args.place + 1) (get_or c.args.order.now c.args.place 0) c.readings_at.result.0.now
+    c.readings_at.result.1.now c.readings_at.ensures c.loop-index.index c.loop-index.least (omega arith) (c.loop-index.invariant from clocks nexts))

@@ -1,0 +1,12 @@
+use Rattle.tcc_judge.proofs.PositionLemmas.{one_placed, all_placed}
+use Rattle.tcc_judge.proofs.positions.positions_of.Goals as goal
+
+pub loop-position-preserved : goal.loop-position-preserved
+loop-position-preserved c =
+    one_placed c.args.order.now c.loop-position.positions.items c.loop-position.position c.requires.numbering c.loop-position-test.true
+    c.loop-position.invariant
+
+pub returns : goal.returns
+returns c =
+    all_placed c.args.order.now c.loop-position.positions.items c.loop-position.position c.requires.numbering c.loop-position-test.false
+    c.loop-position.invariant
