@@ -1,6 +1,7 @@
 -- What stands behind a transaction and has to stand before it: by clocks and next writers.
-use Rattle.std.proofs.Common.{◌≡◌, ◌≢◌, ◌<◌, ◌≤◌, ◌+◌, ◌-◌, ◌⊎◌, inl, inr, ℕ, Option, None, Some, List, length, get_or, slice_index, refl, sym, ap, subst, ◌∙◌, arith}
+use Rattle.std.proofs.Common.{◌≡◌, ◌≢◌, ◌<◌, ◌≤◌, ◌+◌, ◌*◌, ◌-◌, ◌⊎◌, inl, inr, ℕ, Option, None, Some, List, length, get_or, slice_index, refl, sym, ap, subst, ◌∙◌, arith}
 use Rattle.std.specs.Prelude.{min, All}
+use Rattle.std.specs.Int.{div_ceil}
 use Rattle.std.proofs.lemmas.Bool.{cases_eq, cases_lt, cases_order}
 use Rattle.tcc_reads.specs.History.{History, IsBySession, count, owner}
 use Rattle.tcc_graph.specs.Relations.{IsReadsPair}
@@ -163,8 +164,13 @@ module _ (h : History) (order : List ℕ) (numbering : IsNumbering (count h) ord
         session = is.behind.session;
         narrow = is.behind.narrow;
         owned = next.owned;
-        broken = (is.key, is.reader, is.behind.reached.0, ((other, is.pair, (next.below, next.writes)), (is.behind.reached.1, tt)),
-            not_the_other_way numbering place next.index a b inside next.inside here next.here (omega (arith, next.behind)));
+        broken = (
+          is.key,
+          is.reader,
+          is.behind.reached.0,
+          ((other, is.pair, (next.below, next.writes)), (is.behind.reached.1, tt)),
+          not_the_other_way numbering place next.index a b inside next.inside here next.here (omega (arith, next.behind)),
+        );
       }
     where
       other : b ≢ a
@@ -290,3 +296,6 @@ module _ (h : History) (numbered : IsBySession h.entries) (order : List ℕ) (on
       go (x, c, walk, reason, apart) =
           let some = never_init at is in
           omega (arith, past at is some, owned at.0 some reason.0.2.0)
+
+pub blocks_cover : (sessions blocks : ℕ) → div_ceil sessions 64 ≤ blocks → sessions ≤ blocks * WIDE
+blocks_cover sessions blocks enough = omega (arith, enough)

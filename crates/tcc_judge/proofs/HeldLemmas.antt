@@ -52,8 +52,10 @@ changed_row rows row held [] k l here inside apart = absurd (omega arith)
 changed_row rows row held (n ∷ which) zero l here inside apart =
     rw (here, get_or-set_same rows held row [] inside, other_rows rows row held which (λ j m. apart (suc j) (omega arith) (omega arith))) refl
 changed_row rows row held (n ∷ which) (suc k) l here inside apart =
-    rw (get_or-set_other rows held n row [] (apart 0 (omega arith) (omega arith)),
-        changed_row rows row held which k (omega arith) here inside (λ j m other. apart (suc j) (omega arith) (λ e. other (omega arith)))) refl
+    rw (
+      get_or-set_other rows held n row [] (apart 0 (omega arith) (omega arith)),
+      changed_row rows row held which k (omega arith) here inside (λ j m other. apart (suc j) (omega arith) (λ e. other (omega arith))),
+    ) refl
 
 module _ (rows : List (List ℕ)) (which : List ℕ) (w : AreHeldOnce rows which) (k : ℕ) (inside : k < length which) where
   key_row : row_of (map (row_of rows) which) k ≡ row_of rows (get_or which k 0)

@@ -141,9 +141,9 @@ module _ (h : History) (order : List ℕ) (from place : ℕ) (inside : place < l
     long = w.long;
     wide = w.wide;
     each = λ k session l m.
-      least_same (IsNextWriter h order (key_at h k) (from + session) (place + 1)) (IsNextWriter h order (key_at h k) (from + session) place)
-      (slice_index (row_of table k) session) (λ b is. still_next (key_at h k) (from + session) b is)
-      (λ b is. go k session m b is (next_or_here (key_at h k) (from + session) b is)) (w.each k session l m);
+        least_same (IsNextWriter h order (key_at h k) (from + session) (place + 1)) (IsNextWriter h order (key_at h k) (from + session) place)
+        (slice_index (row_of table k) session) (λ b is. still_next (key_at h k) (from + session) b is)
+        (λ b is. go k session m b is (next_or_here (key_at h k) (from + session) b is)) (w.each k session l m);
   }
     where
       go : (k session : ℕ) → session < WIDE → (b : ℕ) → IsNextWriter h order (key_at h k) (from + session) place b
@@ -231,8 +231,8 @@ next_none h order from place keys_count is all = record {
   long = length-replicate keys_count (replicate WIDE NONE) ∙ is;
   wide = λ k l. ap length (row k l) ∙ length-replicate WIDE NONE;
   each = λ k s l m.
-    subst (IsLeastOf (IsNextWriter h order (key_at h k) (from + s) place)) (sym (ap (λ r. slice_index r s) (row k l) ∙ get_or-replicate WIDE s NONE 0 m))
-    (least_none (IsNextWriter h order (key_at h k) (from + s) place) (λ b w. absurd (omega (arith, w.behind, w.inside, all))));
+      subst (IsLeastOf (IsNextWriter h order (key_at h k) (from + s) place)) (sym (ap (λ r. slice_index r s) (row k l) ∙ get_or-replicate WIDE s NONE 0 m))
+      (least_none (IsNextWriter h order (key_at h k) (from + s) place) (λ b w. absurd (omega (arith, w.behind, w.inside, all))));
 }
   where
     row : (k : ℕ) → k < length (keys h) → row_of (replicate keys_count (replicate WIDE NONE)) k ≡ replicate WIDE NONE

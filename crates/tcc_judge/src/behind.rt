@@ -82,7 +82,11 @@ fn earlier_of(found: Option<(u32, u32)>, at: (u32, u32)) -> (u32, u32)
 fn first_with(found: Option<(u32, u32)>, b: u32, a: u32) -> Option<(u32, u32)>
     ensures { result ≡ first_with found b a }
 {
-    if b == NONE { found } else { Some(earlier_of(found, (b, a))) }
+    if b == NONE {
+        found
+    } else {
+        Some(earlier_of(found, (b, a)))
+    }
 }
 
 /// The first pair of a transaction of the block and one that it has to stand before and doesn't.

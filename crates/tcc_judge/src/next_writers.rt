@@ -61,7 +61,12 @@ impl NextWriters {
     }
 
     /// Lowers the number of a key and a session to this one.
-    pub(crate) fn lower(&mut self, key_index: u32, session: usize, number: u32) -> Result<(), NoMemory>
+    pub(crate) fn lower(
+        &mut self,
+        key_index: u32,
+        session: usize,
+        number: u32,
+    ) -> Result<(), NoMemory>
         requires key { key_index < length self.old }
         requires session { session < WIDE }
         ensures { OnOk result (self.new ≡ set self.old key_index (lowered (row_of self.old key_index) session number)) }
@@ -84,7 +89,12 @@ impl NextWriters {
 }
 
 /// Lowers the number of these keys and a session to this one.
-fn lower_all(next: &mut NextWriters, key_indices: &[u32], session: usize, number: u32) -> Result<(), NoMemory>
+fn lower_all(
+    next: &mut NextWriters,
+    key_indices: &[u32],
+    session: usize,
+    number: u32,
+) -> Result<(), NoMemory>
     requires keys { All (λ key_index. key_index < length next.old) key_indices.now }
     requires wide { (k : ℕ) → k < length next.old → length (row_of next.old k) ≡ WIDE }
     requires session { session < WIDE }

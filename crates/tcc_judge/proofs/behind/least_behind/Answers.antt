@@ -16,8 +16,12 @@ loop-index-init c = λ from clocks nexts.
 
 pub get-requires-in-loop-index : goal.get-requires-in-loop-index
 get-requires-in-loop-index c =
-    omega (arith, reader_below c.args.graph.now (get_or c.args.order.now c.args.place 0) c.readings_at.result.0.now c.readings_at.result.1.now
-    c.readings_at.ensures c.loop-index.index c.loop-index-test.true, c.requires.table.long)
+    omega (
+      arith,
+      reader_below c.args.graph.now (get_or c.args.order.now c.args.place 0) c.readings_at.result.0.now c.readings_at.result.1.now
+          c.readings_at.ensures c.loop-index.index c.loop-index-test.true,
+      c.requires.table.long,
+    )
 
 pub least_within-within-requires : goal.least_within-within-requires
 least_within-within-requires c =

@@ -22,7 +22,7 @@ returns-then-session-ge-WIDE c =
     let h = c.args.graph.now in
     next_outside h c.args.order.now c.args.from c.args.place c.requires.inside c.args.next.now
     (λ session narrow some same.
-      omega (arith, c.requires.owners.each (get_or c.args.order.now c.args.place 0) some (c.requires.below c.args.place 0 c.requires.inside), same, narrow))
+    omega (arith, c.requires.owners.each (get_or c.args.order.now c.args.place 0) some (c.requires.below c.args.place 0 c.requires.inside), same, narrow))
     c.requires.next
 
 pub lower_all-requires-clause-wide : goal.lower_all-requires-clause-wide

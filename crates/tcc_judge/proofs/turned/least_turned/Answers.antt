@@ -9,8 +9,12 @@ loop-reader-init c = turned_none c.readings_at.result.0.now c.args.positions.now
 
 pub bounds-positions-reader : goal.bounds-positions-reader
 bounds-positions-reader c =
-    omega (arith, reader_below c.args.graph.now c.args.a c.readings_at.result.0.now c.readings_at.result.1.now c.readings_at.ensures c.loop-reader.reader-index
-    c.loop-reader-test.true, c.requires.long)
+    omega (
+      arith,
+      reader_below c.args.graph.now c.args.a c.readings_at.result.0.now c.readings_at.result.1.now c.readings_at.ensures c.loop-reader.reader-index
+          c.loop-reader-test.true,
+      c.requires.long,
+    )
 
 pub loop-reader-preserved : goal.loop-reader-preserved
 loop-reader-preserved c =
