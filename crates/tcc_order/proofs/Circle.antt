@@ -1,7 +1,7 @@
 -- Where each number that is left has one before it that is left too, going back meets one twice: there is a circle.
-use Rattle.std.proofs.Common.{◌≡◌, ◌<◌, ◌≤◌, ℕ, zero, suc, ◌+◌, Bool, true, false, ◌&&◌, ◌⊎◌, inl, inr, List, [], ◌∷◌, length, not, eqb, refl, arith}
+use Rattle.std.proofs.Common.{◌≡◌, ◌<◌, ◌≤◌, ℕ, zero, suc, ◌+◌, Bool, true, false, ◌&&◌, ◌⊎◌, inl, inr, List, [], ◌∷◌, length, not, eqb, arith}
 use Rattle.std.specs.List.{IsDistinct, AllByRecursion}
-use Rattle.std.proofs.lemmas.Bool.{or_cases, and_parts, cases_Bool, cases_eq, false≢true, eqb-true, eq-eqb, not-true, not-false, or_parts}
+use Rattle.std.proofs.lemmas.Bool.{or_cases, and_parts, cases_Bool, cases_eq, false≢true, eqb-true, not-true, not-false, or_parts}
 use Rattle.std.proofs.lemmas.Map.Steps.{length-le_from_distinct_below, le-length_from_below}
 use Rattle.tcc_order.specs.private.Numbering.{Joins, HasCircle}
 use Rattle.tcc_order.proofs.Greedy.{has, IsFree, IsBelow}
@@ -55,72 +55,72 @@ unfolding IsDistinct
 distinct_one x = (tt, tt)
 
 -- each number that is left has one before it that is left
-abbrev pub HasBefore : (ℕ → ℕ → Bool) → ℕ → List ℕ → Type 0
-HasBefore precedes n done = (x : ℕ) → x < n → has done x ≡ false → (a : ℕ) × (a < n) × (precedes a x ≡ true) × (has done a ≡ false)
+abbrev pub HasBefore : (ℕ → ℕ → Bool) → (ℕ → Type 0) → Type 0
+HasBefore precedes Left = (x : ℕ) → Left x → (a : ℕ) × Left a × (precedes a x ≡ true)
 
 -- what was met going back
-record IsTrail (precedes : ℕ → ℕ → Bool) (n : ℕ) (done : List ℕ) (x : ℕ) (xs : List ℕ) : Type 0 where
-  left : has done x ≡ false
+record IsTrail (precedes : ℕ → ℕ → Bool) (n : ℕ) (Left : ℕ → Type 0) (x : ℕ) (xs : List ℕ) : Type 0 where
+  left : Left x
   below : (q : ℕ) → has (x ∷ xs) q ≡ true → q < n
   chain : Chain precedes x xs
   distinct : IsDistinct eqb (x ∷ xs)
 
-first_below : (precedes : ℕ → ℕ → Bool) (n : ℕ) (done : List ℕ) (x : ℕ) (xs : List ℕ) → IsTrail precedes n done x xs → x < n
-first_below precedes n done x xs trail = trail.below x (rw (eq-eqb x x refl) refl)
+module _ (precedes : ℕ → ℕ → Bool) (n : ℕ) (Left : ℕ → Type 0) (inside : (x : ℕ) → Left x → x < n) (prior : HasBefore precedes Left) where
+  back : (fuel : ℕ) (x : ℕ) (xs : List ℕ) → n ≤ fuel + length xs → IsTrail precedes n Left x xs → HasCircle precedes
+  back zero x xs enough trail = absurd (omega (arith, length-le_from_distinct_below (x ∷ xs) n trail.distinct trail.below))
+  back (suc fuel) x xs enough trail = step (prior x trail.left) (λ a t. back fuel a (x ∷ xs) (omega arith) t)
+    where
+      below : (a : ℕ) → a < n → (q : ℕ) → (eqb q a ≡ true) ⊎ (has (x ∷ xs) q ≡ true) → q < n
+      below a l q (inl same) = rw (eqb-true q a same) l
+      below a l q (inr old) = trail.below q old
 
-back : (precedes : ℕ → ℕ → Bool) (n : ℕ) (done : List ℕ) → HasBefore precedes n done → (fuel : ℕ) (x : ℕ) (xs : List ℕ) → n ≤ fuel + length xs
-    → IsTrail precedes n done x xs → HasCircle precedes
-back precedes n done prior zero x xs enough trail = absurd (omega (arith, length-le_from_distinct_below (x ∷ xs) n trail.distinct trail.below))
-back precedes n done prior (suc fuel) x xs enough trail =
-    step (prior x (first_below precedes n done x xs trail) trail.left) (λ a t. back precedes n done prior fuel a (x ∷ xs) (omega arith) t)
-  where
-    below : (a : ℕ) → a < n → (q : ℕ) → (eqb q a ≡ true) ⊎ (has (x ∷ xs) q ≡ true) → q < n
-    below a l q (inl same) = rw (eqb-true q a same) l
-    below a l q (inr old) = trail.below q old
+      go : (a : ℕ) → Left a → precedes a x ≡ true → (IsTrail precedes n Left a (x ∷ xs) → HasCircle precedes)
+          → (has (x ∷ xs) a ≡ true) ⊎ (has (x ∷ xs) a ≡ false) → HasCircle precedes
+      go a left p rest (inl met) = let w = to_member precedes a (x ∷ xs) a (p, trail.chain) met in (a, w.0, w.1)
+      go a left p rest (inr new) = rest (record {
+        left = left;
+        below = λ q h. below a (inside a left) q (or_cases (eqb q a) (has (x ∷ xs) q) h);
+        chain = (p, trail.chain);
+        distinct = distinct_cons a (x ∷ xs) new trail.distinct;
+      })
 
-    go : (a : ℕ) → a < n → precedes a x ≡ true → has done a ≡ false → (IsTrail precedes n done a (x ∷ xs) → HasCircle precedes)
-        → (has (x ∷ xs) a ≡ true) ⊎ (has (x ∷ xs) a ≡ false) → HasCircle precedes
-    go a l p left rest (inl met) = let w = to_member precedes a (x ∷ xs) a (p, trail.chain) met in (a, w.0, w.1)
-    go a l p left rest (inr new) = rest (record {
-      left = left;
-      below = λ q h. below a l q (or_cases (eqb q a) (has (x ∷ xs) q) h);
-      chain = (p, trail.chain);
-      distinct = distinct_cons a (x ∷ xs) new trail.distinct;
-    })
+      step : (a : ℕ) × Left a × (precedes a x ≡ true) → ((a : ℕ) → IsTrail precedes n Left a (x ∷ xs) → HasCircle precedes) → HasCircle precedes
+      step (a, left, p) rest = go a left p (rest a) (cases_Bool (has (x ∷ xs) a))
 
-    step : (a : ℕ) × (a < n) × (precedes a x ≡ true) × (has done a ≡ false) → ((a : ℕ) → IsTrail precedes n done a (x ∷ xs) → HasCircle precedes)
-        → HasCircle precedes
-    step (a, l, p, left) rest = go a l p left (rest a) (cases_Bool (has (x ∷ xs) a))
+  -- so where some number is left there is a circle
+  pub left_circle : (x : ℕ) → Left x → HasCircle precedes
+  left_circle x left =
+      back n x [] (omega arith) (record {
+        left = left;
+        below = λ q h. here q (or_cases (eqb q x) false h);
+        chain = tt;
+        distinct = distinct_one x;
+      })
+    where
+      here : (q : ℕ) → (eqb q x ≡ true) ⊎ (false ≡ true) → q < n
+      here q (inl same) = rw (eqb-true q x same) (inside x left)
+      here q (inr no_more) = absurd (false≢true no_more)
 
 -- a number before x that is left
 abbrev pub lacks : (ℕ → ℕ → Bool) → List ℕ → ℕ → ℕ → Bool
 lacks precedes done x a = precedes a x && not (has done a)
 
-prior_of : (precedes : ℕ → ℕ → Bool) (n : ℕ) (done : List ℕ) → IsBelow precedes n → ((x : ℕ) → IsFree precedes n done x → ⊥) → HasBefore precedes n done
-prior_of precedes n done bounds stuck x l left = go (search_below (lacks precedes done x) n)
+-- x was not picked
+abbrev pub IsNotDone : ℕ → List ℕ → ℕ → Type 0
+IsNotDone n done x = (x < n) × (has done x ≡ false)
+
+-- where none can be picked, each that is left has one before it that is left
+pub prior_of : (precedes : ℕ → ℕ → Bool) (n : ℕ) (done : List ℕ) → IsBelow precedes n → ((x : ℕ) → IsFree precedes n done x → ⊥)
+    → HasBefore precedes (IsNotDone n done)
+prior_of precedes n done bounds stuck x (l, left) = go (search_below (lacks precedes done x) n)
   where
     seen : ((y : ℕ) → y < n → lacks precedes done x y ≡ false) → (a : ℕ) → precedes a x ≡ true → has done a ≡ true
     seen none a p = not-false (has done a) (rw p at (none a (bounds a x p).0))
 
-    go : Search (lacks precedes done x) n → (a : ℕ) × (a < n) × (precedes a x ≡ true) × (has done a ≡ false)
+    go : Search (lacks precedes done x) n → (a : ℕ) × IsNotDone n done a × (precedes a x ≡ true)
     go (inl found) =
-        let w = and_parts (precedes found.0 x) (not (has done found.0)) found.1.passes in (found.0, found.1.below, w.0, not-true (has done found.0) w.1)
+        let w = and_parts (precedes found.0 x) (not (has done found.0)) found.1.passes in (found.0, (found.1.below, not-true (has done found.0) w.1), w.0)
     go (inr none) = absurd (stuck x (record { below = l; new = left; ready = seen none }))
-
--- where some number is left and none can be picked, there is a circle
-pub stuck_circle : (precedes : ℕ → ℕ → Bool) (n : ℕ) (done : List ℕ) → IsBelow precedes n → ((x : ℕ) → IsFree precedes n done x → ⊥) → (x : ℕ) → x < n
-    → has done x ≡ false → HasCircle precedes
-stuck_circle precedes n done bounds stuck x l left =
-    back precedes n done (prior_of precedes n done bounds stuck) n x [] (omega arith) (record {
-      left = left;
-      below = λ q h. here q (or_cases (eqb q x) false h);
-      chain = tt;
-      distinct = distinct_one x;
-    })
-  where
-    here : (q : ℕ) → (eqb q x ≡ true) ⊎ (false ≡ true) → q < n
-    here q (inl same) = rw (eqb-true q x same) l
-    here q (inr no_more) = absurd (false≢true no_more)
 
 -- where less than all were picked, some number is left
 pub some_left : (n : ℕ) (done : List ℕ) → length done < n → (x : ℕ) × (x < n) × (has done x ≡ false)
@@ -134,4 +134,4 @@ pub short_circle : (precedes : ℕ → ℕ → Bool) (n : ℕ) (done : List ℕ)
     → HasCircle precedes
 short_circle precedes n done bounds stuck short =
     let w = some_left n done short in
-    stuck_circle precedes n done bounds stuck w.0 w.1 w.2
+    left_circle precedes n (IsNotDone n done) (λ x left. left.0) (prior_of precedes n done bounds stuck) w.0 (w.1, w.2)

@@ -1,7 +1,5 @@
 -- An order by what holds each transaction back is a commit order, the first is the first, and a circle is a cycle.
 use Rattle.std.proofs.Common.{◌≡◌, ◌≢◌, ◌<◌, ◌≤◌, ◌*◌, ℕ, zero, suc, Bool, true, ◌⊎◌, inl, inr, List, [], ◌∷◌, ◌++◌, length, length-append, sym, subst, arith}
-use Rattle.std.specs.Prelude.{Option, Some, None, MatchOption}
-use Rattle.std.specs.Global.{Vec}
 use Rattle.std.specs.Int.{div_ceil}
 use Rattle.tcc_clocks.specs.declared.latest.TheConstants.{WIDE}
 use Rattle.std.specs.List.{Contains}
@@ -14,7 +12,7 @@ use Rattle.tcc_graph.specs.Relations.{IsSessionPair}
 use Rattle.tcc_graph.specs.Levels.{Judged, causally}
 use Rattle.tcc_graph.specs.Walks.{step_to, Leads, IsReached}
 use Rattle.tcc_graph.specs.Tables.{row_of}
-use Rattle.tcc_graph.specs.Orders.{Before, IsCommitOrder}
+use Rattle.tcc_graph.specs.Orders.{Before, IsCommitOrder, IsFirstOrder}
 use Rattle.tcc_graph.specs.Routes.{IsRoute, LinksLead, HasCycle}
 use Rattle.tcc_graph.specs.declared.step.Step.{Step}
 use Rattle.tcc_graph.specs.declared.link.Link.{Link}
@@ -29,7 +27,7 @@ use Rattle.tcc_clocks.specs.Clocks.{LeadsOnward}
 use Rattle.tcc_order.specs.private.Numbering.{IsOrderOf, IsFirstOf, Joins, HasCircle}
 use Rattle.tcc_order.proofs.Fronts.{holds_there, holds_parts}
 use Rattle.tcc_order.proofs.Kept.{IsLinked, has_link, linked_before}
-use Rattle.tcc_order.proofs.Links.{linked_by, IsFound}
+use Rattle.tcc_order.proofs.Links.{linked_by}
 use Rattle.tcc_order.proofs.OrderOrCycle.{before_join}
 use Rattle.tcc_clocks.proofs.Reaching.{nearest, parent_before, parent_one, one_parent, parent_less, reads_source, source_reads, session_rises, session_init, session_ends}
 
@@ -138,13 +136,8 @@ module _ (j : Judged) (numbered : IsBySession j.history.entries) (kept : List (L
     ordered = λ a b p. linked_before j order is a b (holds_linked j numbered kept links.derived a b p);
   }
 
-  pub found_kept : (found : Option (Vec ℕ))
-      → MatchOption found (HasCircle (holds j.history kept)) (λ order. IsFirstOf (holds j.history kept) (count j.history) order.items) → IsFound j found
-  found_kept None circle = circle_cycle j numbered kept links.derived circle
-  found_kept (Some order) first = record {
-    commit = commit_of order.items first.is_order;
-    first = λ other p. first.first other (order_of other p);
-  }
+  pub first_kept : (order : List ℕ) → IsFirstOf (holds j.history kept) (count j.history) order → IsFirstOrder j order
+  first_kept order first = record { commit = commit_of order first.is_order; first = λ other p. first.first other (order_of other p) }
 
 -- ---- where nothing is kept
 pub none_derived : (Means : ℕ → ℕ → Type 0) (kept : List (List ℕ)) → HasNone kept → AreDerived Means kept

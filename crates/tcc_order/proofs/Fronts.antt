@@ -36,8 +36,8 @@ holds_parts h kept b x p =
 pub holds_below : (h : History) (kept : List (List ℕ)) → IsBelow (holds h kept) (count h)
 holds_below h kept b x p = let w = holds_parts h kept b x p in (w.0, w.1)
 
--- where nothing is missing, all that holds x back was placed
-module _ (h : History) (ps : List ℕ) (are : ArePrevious h ps) (kept : List (List ℕ)) (placed : List ℕ) (x : ℕ) (low : x < count h) (reads : List (ℕ × ℕ))
+-- what is behind the parent of x
+module _ (h : History) (kept : List (List ℕ)) (placed : List ℕ) (x : ℕ) (low : x < count h) (reads : List (ℕ × ℕ))
     (read : map (λ read. (key_at h read.0, read.1)) reads ≡ (entry_at h x).reads) where
   read_source : (k : ℕ) → k < length reads → Contains (sources h x) (get_or reads k (0, 0)).1
   read_source k l =
@@ -51,29 +51,22 @@ module _ (h : History) (ps : List ℕ) (are : ArePrevious h ps) (kept : List (Li
       let v = from_map (λ (r : ℕ × ℕ). (key_at h r.0, r.1)) reads w.0 (rw read w.1) in
       (v.1.0, v.1.1, ap (λ (r : ℕ × ℕ). r.1) (get_or_default reads v.1.0 (0, 0) v.0 v.1.1 ∙ v.1.2) ∙ (ap (λ (r : List ℕ × ℕ). r.1) v.2 ∙ w.2))
 
-  pub none_missing : (0 < x → is_marked placed (slice_index ps x) ≡ true) → ((k : ℕ) → k < length reads → is_marked placed (get_or reads k (0, 0)).1 ≡ true)
-      → ((k : ℕ) → k < length (row_of kept x) → is_marked placed (slice_index (row_of kept x) k) ≡ true) → (b : ℕ) → holds h kept b x ≡ true
-      → is_marked placed b ≡ true
-  none_missing parent source link b p = go (Contains-append_cases (parents h x) (row_of kept x) b (holds_parts h kept b x p).2)
+  -- so nothing behind the parent is missing
+  pub none_behind : ((k : ℕ) → k < length reads → is_marked placed (get_or reads k (0, 0)).1 ≡ true)
+      → ((k : ℕ) → k < length (row_of kept x) → is_marked placed (slice_index (row_of kept x) k) ≡ true) → (b : ℕ)
+      → Contains (sources h x ++ row_of kept x) b → is_marked placed b ≡ true
+  none_behind source link b there = go (Contains-append_cases (sources h x) (row_of kept x) b there)
     where
-      before : Contains (previous_one h x) b ⊎ Contains (sources h x) b → is_marked placed b ≡ true
-      before (inl one) = let w = parent_one h x b one in rw (w.1, ← are.each x w.0 low) (parent w.0)
-      before (inr one) = let w = source_read b one in rw (← w.2) (source w.0 w.1)
-
-      go : Contains (parents h x) b ⊎ Contains (row_of kept x) b → is_marked placed b ≡ true
-      go (inl one) = before (Contains-append_cases (previous_one h x) (sources h x) b one)
+      go : Contains (sources h x) b ⊎ Contains (row_of kept x) b → is_marked placed b ≡ true
+      go (inl one) = let w = source_read b one in rw (← w.2) (source w.0 w.1)
       go (inr (k, l, e)) = rw (← (get_or_default (row_of kept x) k 0 b l ∙ e)) (link k l)
 
-  pub source_missing : All (λ read. (read.0 < length (keys h)) × (read.1 < count h)) reads → (b : ℕ) → Contains (map (λ read. read.1) reads) b
-      → holds h kept b x ≡ true
-  source_missing within b there =
-      let w = from_map (λ (r : ℕ × ℕ). r.1) reads b there in
-      let at : (get_or reads w.1.0 (0, 0)).1 ≡ b = ap (λ (r : ℕ × ℕ). r.1) (get_or_default reads w.1.0 (0, 0) w.0 w.1.1 ∙ w.1.2) ∙ w.2 in
-      let bound : b < count h = subst (λ (z : ℕ). z < count h) at (within w.1.0 (0, 0) w.1.1).1 in
-      holds_there h kept b x bound low
-      (Contains-append_left (parents h x) (row_of kept x) b
-      (Contains-append_right (previous_one h x) (sources h x) b
-      (subst (λ (z : ℕ). Contains (sources h x) z) at (read_source w.1.0 w.1.1))))
+  pub source_holds : All (λ read. (read.0 < length (keys h)) × (read.1 < count h)) reads → (k : ℕ) → k < length reads
+      → holds h kept (get_or reads k (0, 0)).1 x ≡ true
+  source_holds within k l =
+      holds_there h kept (get_or reads k (0, 0)).1 x (within k (0, 0) l).1 low
+      (Contains-append_left (parents h x) (row_of kept x) (get_or reads k (0, 0)).1
+      (Contains-append_right (previous_one h x) (sources h x) (get_or reads k (0, 0)).1 (read_source k l)))
 
 -- and what is missing does hold it back
 module _ (h : History) (ps : List ℕ) (are : ArePrevious h ps) (kept : List (List ℕ)) (x : ℕ) (low : x < count h) where
@@ -84,6 +77,21 @@ module _ (h : History) (ps : List ℕ) (are : ArePrevious h ps) (kept : List (Li
       (Contains-append_left (parents h x) (row_of kept x) (previous h x)
       (Contains-append_left (previous_one h x) (sources h x) (previous h x) (one_parent h x some))))
 
+  -- where the parent was placed, and what is behind it
+  pub none_held : (placed : List ℕ) → (0 < x → is_marked placed (slice_index ps x) ≡ true)
+      → ((b : ℕ) → Contains (sources h x ++ row_of kept x) b → is_marked placed b ≡ true) → (b : ℕ) → holds h kept b x ≡ true → is_marked placed b ≡ true
+  none_held placed parent rest b p = go (Contains-append_cases (parents h x) (row_of kept x) b (holds_parts h kept b x p).2)
+    where
+      before : Contains (previous_one h x) b ⊎ Contains (sources h x) b → is_marked placed b ≡ true
+      before (inl one) = let w = parent_one h x b one in rw (w.1, ← are.each x w.0 low) (parent w.0)
+      before (inr one) = rest b (Contains-append_left (sources h x) (row_of kept x) b one)
+
+      go : Contains (parents h x) b ⊎ Contains (row_of kept x) b → is_marked placed b ≡ true
+      go (inl one) = before (Contains-append_cases (previous_one h x) (sources h x) b one)
+      go (inr one) = rest b (Contains-append_right (sources h x) (row_of kept x) b one)
+
+-- what is kept
+module _ (h : History) (kept : List (List ℕ)) (x : ℕ) (low : x < count h) where
   pub link_missing : AreInside h kept → (b : ℕ) → Contains (row_of kept x) b → holds h kept b x ≡ true
   link_missing inside b there = holds_there h kept b x (inside x b there) low (Contains-append_right (parents h x) (row_of kept x) b there)
 
@@ -132,6 +140,6 @@ session_fronts h kept ps are = record {
         (Contains-append_left (previous_one h x) (sources h x) (previous h x) (one_parent h x (omega arith)))))
 
 -- ---- what is missing
-pub option_same : (found : Option ℕ) (A B : Type 0) (P Q : ℕ → Type 0) → (A → B) → ((b : ℕ) → P b → Q b) → MatchOption found A P → MatchOption found B Q
+pub option_same : {X : Type 0} (found : Option X) (A B : Type 0) (P Q : X → Type 0) → (A → B) → ((b : X) → P b → Q b) → MatchOption found A P → MatchOption found B Q
 option_same None A B P Q none some p = none p
 option_same (Some b) A B P Q none some p = some b p

@@ -15,6 +15,7 @@ pub mod Readings
 pub mod KeptRows
 pub mod Needing
 pub mod Finding
+pub mod LeftOver
 pub mod Stepped
 pub mod Rising
 pub mod Spans

@@ -1,5 +1,5 @@
 -- The least of the numbers that are ready, and what is ready or waits once one more was placed.
-use Rattle.std.proofs.Common.{◌≡◌, ◌≢◌, ◌<◌, ◌≤◌, ◌+◌, ◌==◌, ◌&&◌, ◌||◌, ◌⊎◌, ◌↔◌, inl, inr, ℕ, zero, suc, Bool, true, false, List, [], ◌∷◌, ◌++◌, map, length, get_or, set, take, slice_index, nat_lt}
+use Rattle.std.proofs.Common.{◌≡◌, ◌≢◌, ◌<◌, ◌≤◌, ◌+◌, ◌==◌, ◌&&◌, ◌||◌, ◌⊎◌, ◌↔◌, inl, inr, ℕ, zero, suc, Bool, true, false, List, [], ◌∷◌, ◌++◌, map, length, set, slice_index, nat_lt}
 use Rattle.std.proofs.Common.{refl, sym, ap, ◌∙◌, subst, arith}
 use Rattle.std.specs.List.{Contains}
 use Rattle.std.specs.List.Sorted.{IsPermutation}
@@ -9,15 +9,15 @@ use Rattle.std.specs.Cmp.{nat_cmp_is}
 use Rattle.std.specs.declared.cmp.Ordering.TheVariants.{Less}
 use Rattle.std.proofs.lemmas.Bool.{cases_lt, cases_eq, cases_Bool, and_parts, and_from, or_parts, or_cases, lt-ltb, ltb-true, eqb-true, eq-eqb, ne_eqb, false≢true}
 use Rattle.std.proofs.lemmas.List.{get_or-set_same, get_or-set_other, length-set, length-map}
-use Rattle.std.proofs.lemmas.List.Elements.{Contains-append_left, Contains-push, Contains-push_cases}
+use Rattle.std.proofs.lemmas.List.Elements.{Contains-append_left, Contains-append_right, Contains-append_cases, Contains-push, Contains-push_cases}
 use Rattle.std.proofs.lemmas.List.Sorted.{Contains-permutation, IsPermutation-sym, length_permutation}
 use Rattle.tcc_graph.specs.Tables.{row_of}
 use Rattle.tcc_bits.specs.Bits.{is_marked}
-use Rattle.tcc_bits.proofs.Lists.{one_of_taken, still_taken, last_taken, nothing_in}
+use Rattle.tcc_bits.proofs.Lists.{nothing_in}
 use Rattle.tcc_reads.specs.History.{History, count}
 use Rattle.tcc_clocks.specs.Parents.{ArePrevious}
 use Rattle.tcc_order.specs.private.Held.{holds, IsFreeBy, AreRoots, onward}
-use Rattle.tcc_order.specs.private.Queued.{IsPopped, IsQueued, AreQueued, IsAny, IsNot}
+use Rattle.tcc_order.specs.private.Queued.{IsPopped, IsQueued, AreQueued, AreSure, IsAny, IsNot}
 use Rattle.tcc_order.proofs.Fronts.{AreParentsBy, session_fronts}
 use Rattle.tcc_txn.proofs.Lists.{in_map, from_map}
 
@@ -89,22 +89,22 @@ module _ (precedes : ℕ → ℕ → Bool) (n : ℕ) (ps : List ℕ) (are : AreP
 
 -- one is taken out
 pub queued_popped : (precedes : ℕ → ℕ → Bool) (ps placed old new : List ℕ) (waiting : List (List ℕ)) (x : ℕ) → AreQueued precedes ps placed IsAny old waiting
-    → ((y : ℕ) → Contains old y → (y ≡ x) ⊎ Contains new y) → ((y : ℕ) → Contains new y → Contains old y)
+    → ((y : ℕ) → Contains old y → is_marked placed y ≡ false → (y ≡ x) ⊎ Contains new y) → ((y : ℕ) → Contains new y → Contains old y)
     → AreQueued precedes ps placed (IsNot x) new waiting
 queued_popped precedes ps placed old new waiting x is rest still = record {
   long = is.long;
   inside = λ y there. is.inside y (still y there);
   waits = is.waits;
-  all = λ y other low left way. go y other (is.all y tt low left way);
+  all = λ y other low left way. go y other left (is.all y tt low left way);
 }
   where
-    go : (y : ℕ) → (y ≡ x → ⊥) → IsQueued precedes placed old waiting y → IsQueued precedes placed new waiting y
-    go y other (inl there) = by (rest y there)
+    go : (y : ℕ) → (y ≡ x → ⊥) → is_marked placed y ≡ false → IsQueued precedes placed old waiting y → IsQueued precedes placed new waiting y
+    go y other left (inl there) = by (rest y there left)
       where
         by : (y ≡ x) ⊎ Contains new y → IsQueued precedes placed new waiting y
         by (inl same) = absurd (other same)
         by (inr still_there) = inl still_there
-    go y other (inr w) = inr w
+    go y other left (inr w) = inr w
 
 -- and was placed before
 pub queued_placed : (precedes : ℕ → ℕ → Bool) (ps placed ready : List ℕ) (waiting : List (List ℕ)) (x : ℕ) → AreQueued precedes ps placed (IsNot x) ready waiting
@@ -225,33 +225,58 @@ module _ (precedes : ℕ → ℕ → Bool) (n : ℕ) (ps : List ℕ) (are : AreP
           by (inl was) = queued y (is.all y other low left (inr was))
           by (inr at) = grown (eqb-true (slice_index ps y) next at) (cases_eq (slice_index ps y) 0)
 
-pub queued_after : (precedes : ℕ → ℕ → Bool) (n : ℕ) (ps : List ℕ) (are : AreParentsBy precedes n ps) (placed old mid new marks : List ℕ) (waiting : List (List ℕ))
-    (next : ℕ) → AreQueued precedes ps placed (IsNot next) old waiting → IsFreeBy precedes n placed next
+pub queued_after : (precedes : ℕ → ℕ → Bool) (n : ℕ) (ps : List ℕ) (are : AreParentsBy precedes n ps) (placed ready woken marks : List ℕ) (waiting : List (List ℕ))
+    (next : ℕ) → AreQueued precedes ps placed (IsNot next) ready waiting → IsFreeBy precedes n placed next
     → ((b : ℕ) → is_marked marks b ≡ (is_marked placed b || (b == next)))
-    → ((y : ℕ) → Contains mid y ↔ (Contains old y ⊎ Contains (row_of waiting next) y))
-    → ((y : ℕ) → Contains new y ↔ (Contains mid y ⊎ (y ≡ onward ps next))) → AreQueued precedes ps marks IsAny new waiting
-queued_after precedes n ps are placed old mid new marks waiting next is free now wake push =
-    queued_next precedes n ps are placed old new marks waiting next is free now (λ y w. put y ((push y).0 w)) (λ y w. (push y).1 (inl ((wake y).1 (inl w))))
-    (λ y w. (push y).1 (inl ((wake y).1 (inr w)))) ((push (onward ps next)).1 (inr refl))
+    → ((y : ℕ) → Contains woken y ↔ ((Contains [] y ⊎ Contains (row_of waiting next) y) ⊎ (y ≡ onward ps next)))
+    → AreQueued precedes ps marks IsAny (woken ++ ready) waiting
+queued_after precedes n ps are placed ready woken marks waiting next is free now wake =
+    queued_next precedes n ps are placed ready (woken ++ ready) marks waiting next is free now (λ y w. put y (Contains-append_cases woken ready y w))
+    (λ y w. Contains-append_right woken ready y w) (λ y w. Contains-append_left woken ready y ((wake y).1 (inl (inr w))))
+    (Contains-append_left woken ready (onward ps next) ((wake (onward ps next)).1 (inr refl)))
   where
-    put : (y : ℕ) → Contains mid y ⊎ (y ≡ onward ps next) → (Contains old y ⊎ Contains (row_of waiting next) y) ⊎ (y ≡ onward ps next)
-    put y (inl m) = inl ((wake y).0 m)
-    put y (inr e) = inr e
+    from : (y : ℕ) → (Contains [] y ⊎ Contains (row_of waiting next) y) ⊎ (y ≡ onward ps next) → (Contains ready y ⊎ Contains (row_of waiting next) y) ⊎ (y ≡ onward ps next)
+    from y (inl (inl none)) = absurd (nothing_in y none)
+    from y (inl (inr row)) = inl (inr row)
+    from y (inr at) = inr at
 
--- nothing is placed, and the roots are ready
-pub queued_begin : (precedes : ℕ → ℕ → Bool) (ps placed ready : List ℕ) (waiting : List (List ℕ)) → length waiting ≡ length ps
-    → ((b x : ℕ) → Contains (row_of waiting b) x → ⊥) → ((b : ℕ) → is_marked placed b ≡ false)
-    → ((x : ℕ) → Contains ready x → x < length ps) → ((x : ℕ) → x < length ps → slice_index ps x ≡ 0 → Contains ready x)
-    → AreQueued precedes ps placed IsAny ready waiting
-queued_begin precedes ps placed ready waiting long none empty inside roots = record {
+    put : (y : ℕ) → Contains woken y ⊎ Contains ready y → (Contains ready y ⊎ Contains (row_of waiting next) y) ⊎ (y ≡ onward ps next)
+    put y (inl w) = from y ((wake y).0 w)
+    put y (inr w) = inl (inl w)
+
+-- all that is ready is sure once more are placed, and fewer are ready
+pub sure_after : (precedes : ℕ → ℕ → Bool) (placed marks old new : List ℕ) (next : ℕ) → AreSure precedes placed old → ((y : ℕ) → Contains new y → Contains old y)
+    → ((b : ℕ) → is_marked marks b ≡ (is_marked placed b || (b == next))) → AreSure precedes marks new
+sure_after precedes placed marks old new next sure still now x there b p = now b ∙ rw (sure x (still x there) b p) refl
+
+-- and one more is sure
+pub sure_more : (precedes : ℕ → ℕ → Bool) (placed old new : List ℕ) (x : ℕ) → AreSure precedes placed old → ((b : ℕ) → precedes b x ≡ true → is_marked placed b ≡ true)
+    → ((y : ℕ) → Contains new y ↔ (Contains old y ⊎ (y ≡ x))) → AreSure precedes placed new
+sure_more precedes placed old new x sure free put y there b p = go ((put y).0 there)
+  where
+    go : Contains old y ⊎ (y ≡ x) → is_marked placed b ≡ true
+    go (inl was) = sure y was b p
+    go (inr at) = free b (rw at at p)
+
+-- nothing is placed, and the roots are woken
+pub queued_begin : (precedes : ℕ → ℕ → Bool) (ps placed woken ready : List ℕ) (waiting : List (List ℕ)) → length waiting ≡ length ps
+    → ((b x : ℕ) → Contains (row_of waiting b) x → ⊥) → ((x : ℕ) → Contains ready x → ⊥) → ((b : ℕ) → is_marked placed b ≡ false)
+    → ((x : ℕ) → Contains woken x → x < length ps) → ((x : ℕ) → x < length ps → slice_index ps x ≡ 0 → Contains woken x)
+    → AreQueued precedes ps placed IsAny (woken ++ ready) waiting
+queued_begin precedes ps placed woken ready waiting long none no_ready empty inside roots = record {
   long = long;
-  inside = inside;
+  inside = λ x there. within x (Contains-append_cases woken ready x there);
   waits = λ b x there. absurd (none b x there);
   all = λ x any low left way. go x low way;
 }
   where
-    go : (x : ℕ) → x < length ps → (slice_index ps x ≡ 0) ⊎ (is_marked placed (slice_index ps x) ≡ true) → IsQueued precedes placed ready waiting x
-    go x low (inl root) = inl (roots x low root)
+    within : (x : ℕ) → Contains woken x ⊎ Contains ready x → x < length ps
+    within x (inl there) = inside x there
+    within x (inr there) = absurd (no_ready x there)
+
+    go : (x : ℕ) → x < length ps → (slice_index ps x ≡ 0) ⊎ (is_marked placed (slice_index ps x) ≡ true)
+        → IsQueued precedes placed (woken ++ ready) waiting x
+    go x low (inl root) = inl (Contains-append_left woken ready x (roots x low root))
     go x low (inr m) = absurd (false≢true (sym (empty (slice_index ps x)) ∙ m))
 
 -- ---- roots
@@ -264,6 +289,17 @@ roots_skip ps ready n are other x = (λ there. let w = (are x).0 there in (omega
     go : x < n + 1 → slice_index ps x ≡ 0 → (x ≡ n) ⊎ (x ≢ n) → Contains ready x
     go l root (inl at) = absurd (other (ap (λ z. slice_index ps z) (sym at) ∙ root))
     go l root (inr apart) = (are x).1 (omega (arith, l, apart), root)
+
+pub pushed_here : (old new : List ℕ) (n : ℕ) → new ≡ old ++ n ∷ [] → (x : ℕ) → Contains new x ↔ (Contains old x ⊎ (x ≡ n))
+pushed_here old new n is x = rw is ((λ there. to (Contains-push_cases old n x there)), back)
+  where
+    to : Contains old x ⊎ (n ≡ x) → Contains old x ⊎ (x ≡ n)
+    to (inl was) = inl was
+    to (inr at) = inr (sym at)
+
+    back : Contains old x ⊎ (x ≡ n) → Contains (old ++ n ∷ []) x
+    back (inl was) = Contains-append_left old (n ∷ []) x was
+    back (inr at) = rw at (Contains-push old n)
 
 pub roots_more : (ps old new : List ℕ) (n : ℕ) → AreRoots ps n old → slice_index ps n ≡ 0 → ((x : ℕ) → Contains new x ↔ (Contains old x ⊎ (x ≡ n)))
     → AreRoots ps (n + 1) new
@@ -278,33 +314,75 @@ roots_more ps old new n are root put x = (λ there. from ((put x).0 there), λ w
     to l zero_parent (inr apart) = inl ((are x).1 (omega (arith, l, apart), zero_parent))
 
 -- ---- those that are woken
-pub woken_none : (ready numbers : List ℕ) (x : ℕ) → Contains ready x ↔ (Contains ready x ⊎ Contains (take 0 numbers) x)
-woken_none ready numbers x = (inl, back)
+-- others are ready, and all that were
+pub queued_wider : (precedes : ℕ → ℕ → Bool) (ps placed old new : List ℕ) (waiting : List (List ℕ)) → AreQueued precedes ps placed IsAny old waiting
+    → ((y : ℕ) → Contains old y → Contains new y) → ((y : ℕ) → Contains new y → Contains old y) → AreQueued precedes ps placed IsAny new waiting
+queued_wider precedes ps placed old new waiting is more still = record {
+  long = is.long;
+  inside = λ y there. is.inside y (still y there);
+  waits = is.waits;
+  all = λ y any low left way. go y (is.all y any low left way);
+}
   where
-    back : Contains ready x ⊎ Contains (take 0 numbers) x → Contains ready x
-    back (inl was) = was
-    back (inr there) = absurd (nothing_in x there)
+    go : (y : ℕ) → IsQueued precedes placed old waiting y → IsQueued precedes placed new waiting y
+    go y (inl there) = inl (more y there)
+    go y (inr w) = inr w
 
-pub woken_more : (old mid new numbers : List ℕ) (n : ℕ) → n < length numbers
-    → ((x : ℕ) → Contains mid x ↔ (Contains old x ⊎ Contains (take n numbers) x)) → ((x : ℕ) → Contains new x ↔ (Contains mid x ⊎ (x ≡ get_or numbers n 0)))
-    → (x : ℕ) → Contains new x ↔ (Contains old x ⊎ Contains (take (n + 1) numbers) x)
-woken_more old mid new numbers n inside before put x = (λ there. from ((put x).0 there), λ w. (put x).1 (to w))
+-- the last one that was woken, and the others
+pub last_woken : (rest ready : List ℕ) (x y : ℕ) → Contains ((rest ++ x ∷ []) ++ ready) y → (y ≡ x) ⊎ Contains (rest ++ ready) y
+last_woken rest ready x y there = go (Contains-append_cases (rest ++ x ∷ []) ready y there)
   where
-    was : Contains old x ⊎ Contains (take n numbers) x → Contains old x ⊎ Contains (take (n + 1) numbers) x
-    was (inl there) = inl there
-    was (inr there) = inr (still_taken numbers n inside x there)
+    by : Contains rest y ⊎ (x ≡ y) → (y ≡ x) ⊎ Contains (rest ++ ready) y
+    by (inl was) = inr (Contains-append_left rest ready y was)
+    by (inr at) = inl (sym at)
 
-    from : Contains mid x ⊎ (x ≡ get_or numbers n 0) → Contains old x ⊎ Contains (take (n + 1) numbers) x
-    from (inl there) = was ((before x).0 there)
-    from (inr at) = inr (rw at (last_taken numbers n inside))
+    go : Contains (rest ++ x ∷ []) y ⊎ Contains ready y → (y ≡ x) ⊎ Contains (rest ++ ready) y
+    go (inl woken) = by (Contains-push_cases rest x y woken)
+    go (inr was) = inr (Contains-append_right rest ready y was)
 
-    one : Contains (take n numbers) x ⊎ (get_or numbers n 0 ≡ x) → Contains mid x ⊎ (x ≡ get_or numbers n 0)
-    one (inl there) = inl ((before x).1 (inr there))
-    one (inr at) = inr (sym at)
+pub other_woken : (rest ready : List ℕ) (x y : ℕ) → Contains (rest ++ ready) y → Contains ((rest ++ x ∷ []) ++ ready) y
+other_woken rest ready x y there = go (Contains-append_cases rest ready y there)
+  where
+    go : Contains rest y ⊎ Contains ready y → Contains ((rest ++ x ∷ []) ++ ready) y
+    go (inl woken) = Contains-append_left (rest ++ x ∷ []) ready y (Contains-append_left rest (x ∷ []) y woken)
+    go (inr was) = Contains-append_right (rest ++ x ∷ []) ready y was
 
-    to : Contains old x ⊎ Contains (take (n + 1) numbers) x → Contains mid x ⊎ (x ≡ get_or numbers n 0)
-    to (inl there) = inl ((before x).1 (inl there))
-    to (inr there) = one (one_of_taken numbers n inside x there)
+-- it is ready
+pub queued_ready : (precedes : ℕ → ℕ → Bool) (ps placed rest ready new : List ℕ) (waiting : List (List ℕ)) (x : ℕ)
+    → AreQueued precedes ps placed IsAny ((rest ++ x ∷ []) ++ ready) waiting → ((y : ℕ) → Contains new y ↔ (Contains ready y ⊎ (y ≡ x)))
+    → AreQueued precedes ps placed IsAny (rest ++ new) waiting
+queued_ready precedes ps placed rest ready new waiting x is put =
+    queued_wider precedes ps placed ((rest ++ x ∷ []) ++ ready) (rest ++ new) waiting is (λ y there. to y (last_woken rest ready x y there))
+    (λ y there. from y (Contains-append_cases rest new y there))
+  where
+    old : (y : ℕ) → Contains rest y ⊎ Contains ready y → Contains (rest ++ new) y
+    old y (inl woken) = Contains-append_left rest new y woken
+    old y (inr was) = Contains-append_right rest new y ((put y).1 (inl was))
+
+    to : (y : ℕ) → (y ≡ x) ⊎ Contains (rest ++ ready) y → Contains (rest ++ new) y
+    to y (inl at) = Contains-append_right rest new y ((put y).1 (inr at))
+    to y (inr there) = old y (Contains-append_cases rest ready y there)
+
+    by : (y : ℕ) → Contains ready y ⊎ (y ≡ x) → Contains ((rest ++ x ∷ []) ++ ready) y
+    by y (inl was) = Contains-append_right (rest ++ x ∷ []) ready y was
+    by y (inr at) = Contains-append_left (rest ++ x ∷ []) ready y (rw at (Contains-push rest x))
+
+    from : (y : ℕ) → Contains rest y ⊎ Contains new y → Contains ((rest ++ x ∷ []) ++ ready) y
+    from y (inl woken) = other_woken rest ready x y (Contains-append_left rest ready y woken)
+    from y (inr is_new) = by y ((put y).0 is_new)
+
+-- what waited, and one more
+pub woken_all : (old row : List ℕ) (x y : ℕ) → Contains ((old ++ row) ++ x ∷ []) y ↔ ((Contains old y ⊎ Contains row y) ⊎ (y ≡ x))
+woken_all old row x y = (λ there. to (Contains-push_cases (old ++ row) x y there), back)
+  where
+    to : Contains (old ++ row) y ⊎ (x ≡ y) → (Contains old y ⊎ Contains row y) ⊎ (y ≡ x)
+    to (inl was) = inl (Contains-append_cases old row y was)
+    to (inr at) = inr (sym at)
+
+    back : (Contains old y ⊎ Contains row y) ⊎ (y ≡ x) → Contains ((old ++ row) ++ x ∷ []) y
+    back (inl (inl was)) = Contains-append_left (old ++ row) (x ∷ []) y (Contains-append_left old row y was)
+    back (inl (inr was)) = Contains-append_left (old ++ row) (x ∷ []) y (Contains-append_right old row y was)
+    back (inr at) = rw at (Contains-push (old ++ row) x)
 
 -- ---- by what is kept
 -- who may come next is ready

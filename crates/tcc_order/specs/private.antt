@@ -2,6 +2,8 @@
 pub mod Numbering
 pub mod Lasts
 pub mod Held
+pub mod Placed
 pub mod Queued
 pub mod Keeping
+pub mod Found
 pub mod Stepping

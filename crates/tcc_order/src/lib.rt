@@ -6,9 +6,11 @@ mod clocking;
 mod keeping;
 pub mod laws;
 mod ordering;
+mod placement;
 mod placing;
 mod ready;
 mod stepping;
 
 pub use clocking::clocks;
-pub use ordering::order;
+pub use ordering::{order, order_of_pairs, place};
+pub use placement::{Placement, Stuck};

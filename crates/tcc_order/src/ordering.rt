@@ -1,15 +1,19 @@
-//! The first commit order of a history at a level.
-ghost use Rattle.std.specs.Prelude.{◌≡◌, length, IfOk, MatchOption};
-ghost use Rattle.tcc_reads.specs.History.{IsBySession};
-ghost use Rattle.tcc_graph.specs.Orders.{IsFirstOrder};
+//! The first commit order of a history at a level, or where it stops.
+ghost use Rattle.std.specs.Prelude.{ℕ, IfOk, MatchOption};
+ghost use Rattle.tcc_reads.specs.History.{IsBySession, count};
+ghost use Rattle.tcc_graph.specs.Orders.{IsFirstOrder, IsNumbering};
 ghost use Rattle.tcc_graph.specs.Routes.{HasCycle};
+ghost use Rattle.tcc_graph.specs.Walks.{IsReached};
 ghost use Rattle.tcc_graph.specs.Levels.{causally, judged};
 ghost use Rattle.tcc_graph.specs.declared.level.Level.{Level};
 ghost use Rattle.tcc_clocks.specs.Parents.{ArePrevious};
-ghost use Rattle.tcc_order.specs.private.Keeping.{AreLinks};
+ghost use Rattle.tcc_clocks.specs.Clocks.{LeadsOnward};
+ghost use Rattle.tcc_order.specs.Placements.{IsPlacement};
+ghost use Rattle.tcc_order.specs.private.Found.{AreFound};
 
 use crate::keeping::{causal_links, no_links};
-use crate::placing::first_placing;
+use crate::placement::{Placement, Stuck};
+use crate::placing::{Placed, first_placing};
 use crate::stepping::atomic_links;
 use std::alloc::Global;
 use tcc_bits::Row;
@@ -17,39 +21,58 @@ use tcc_clocks::previous_of_each;
 use tcc_graph::{LargeGraph, Level};
 use tcc_txn::NoMemory;
 
-/// The links at `Causal` that are kept, by the first order of causal pairs alone; none where these stand in a circle.
-fn links_by_clocks(
-    alloc: Global,
-    graph: &LargeGraph,
-    parents: &[u32],
-) -> Result<Option<Vec<Row<u32>>>, NoMemory>
-    requires numbered { IsBySession graph.now.entries }
-    requires parents { ArePrevious graph.now parents.now }
-    ensures { IfOk result (λ found. MatchOption found (HasCycle (causally graph.now)) (λ kept. AreLinks (causally graph.now) kept.items)) }
-{
-    let none = no_links(alloc, graph.count())?;
-    let Some(order) = first_placing(alloc, graph, parents, &none)? else {
-        return Ok(None);
-    };
-    Ok(Some(causal_links(alloc, graph, parents, &order)?))
+/// The links at a level that are kept, or where an order stops because causal pairs alone stand in a circle.
+#[derive(Drop)]
+enum Links {
+    Kept(Vec<Row<u32>>),
+    Circle(Stuck),
 }
 
-/// The links at a level that are kept, or none where causal pairs alone stand in a circle.
+/// The links at `Causal` that are kept, by the first order of causal pairs alone.
+fn links_by_clocks(alloc: Global, graph: &LargeGraph, parents: &[u32]) -> Result<Links, NoMemory>
+    requires numbered { IsBySession graph.now.entries }
+    requires parents { ArePrevious graph.now parents.now }
+    ensures { IfOk result (AreFound (causally graph.now)) }
+{
+    let none = no_links(alloc, graph.count())?;
+    match first_placing(alloc, graph, parents, &none)? {
+        Placed::Order(order) => Ok(Links::Kept(causal_links(alloc, graph, parents, &order)?)),
+        Placed::Stuck(placed) => Ok(Links::Circle(Stuck { kept: none, placed })),
+    }
+}
+
+/// The links at a level that are kept.
 fn links_kept(
     alloc: Global,
     graph: &LargeGraph,
     level: Level,
     parents: &[u32],
-) -> Result<Option<Vec<Row<u32>>>, NoMemory>
+) -> Result<Links, NoMemory>
     requires numbered { IsBySession graph.now.entries }
     requires parents { ArePrevious graph.now parents.now }
-    ensures { IfOk result (λ found. MatchOption found
-        (HasCycle (judged graph.now level))
-        (λ kept. AreLinks (judged graph.now level) kept.items)) }
+    ensures { IfOk result (AreFound (judged graph.now level)) }
 {
     match level {
-        Level::Atomic => Ok(Some(atomic_links(alloc, graph, parents)?)),
+        Level::Atomic => Ok(Links::Kept(atomic_links(alloc, graph, parents)?)),
         Level::Causal => links_by_clocks(alloc, graph, parents),
+    }
+}
+
+/// The first commit order of a history at a level, compared as lists of numbers; or where it stops: links of the level, and
+/// transactions of which each is held back by another, by causal pairs and these links.
+pub fn place(alloc: Global, graph: &LargeGraph, level: Level) -> Result<Placement, NoMemory>
+    ensures { IfOk result (IsPlacement (judged graph.now level)) }
+{
+    // transactions stand by session and by place, as this call says
+    graph.sessions();
+    let parents = previous_of_each(alloc, graph)?;
+    let kept = match links_kept(alloc, graph, level, &parents)? {
+        Links::Kept(kept) => kept,
+        Links::Circle(stuck) => return Ok(Placement::Stuck(stuck)),
+    };
+    match first_placing(alloc, graph, &parents, &kept)? {
+        Placed::Order(order) => Ok(Placement::Order(order)),
+        Placed::Stuck(placed) => Ok(Placement::Stuck(Stuck { kept, placed })),
     }
 }
 
@@ -59,11 +82,26 @@ pub fn order(alloc: Global, graph: &LargeGraph, level: Level) -> Result<Option<V
         (HasCycle (judged graph.now level))
         (λ order. IsFirstOrder (judged graph.now level) order.items)) }
 {
+    // what a link joins is numbered by session and by place, as this call says
+    graph.sessions();
+    match place(alloc, graph, level)? {
+        Placement::Order(order) => Ok(Some(order)),
+        Placement::Stuck(_stuck) => Ok(None),
+    }
+}
+
+/// An order of all transactions in which causal pairs lead onward; none exactly where a transaction reaches itself by them.
+pub fn order_of_pairs(alloc: Global, graph: &LargeGraph) -> Result<Option<Vec<u32>>, NoMemory>
+    ensures { IfOk result (λ found. MatchOption found
+        ((a : ℕ) × IsReached graph.now a a)
+        (λ order. IsNumbering (count graph.now) order.items × LeadsOnward graph.now order.items)) }
+{
     // transactions stand by session and by place, as this call says
     graph.sessions();
     let parents = previous_of_each(alloc, graph)?;
-    let Some(kept) = links_kept(alloc, graph, level, &parents)? else {
-        return Ok(None);
-    };
-    first_placing(alloc, graph, &parents, &kept)
+    let none = no_links(alloc, graph.count())?;
+    match first_placing(alloc, graph, &parents, &none)? {
+        Placed::Order(order) => Ok(Some(order)),
+        Placed::Stuck(_placed) => Ok(None),
+    }
 }

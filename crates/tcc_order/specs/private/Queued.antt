@@ -24,6 +24,10 @@ pub record AreQueued (precedes : ℕ → ℕ → Bool) (parents : List ℕ) (pla
   pub all : (x : ℕ) → IsMeant x → x < length parents → is_marked placed x ≡ false
       → (slice_index parents x ≡ 0) ⊎ (is_marked placed (slice_index parents x) ≡ true) → IsQueued precedes placed ready waiting x
 
+-- all that holds these back was placed
+abbrev pub AreSure : (ℕ → ℕ → Bool) → List ℕ → List ℕ → Type 0
+AreSure precedes placed ready = (x : ℕ) → Contains ready x → (b : ℕ) → precedes b x ≡ true → is_marked placed b ≡ true
+
 -- any number, and any but x
 abbrev pub IsAny : ℕ → Type 0
 IsAny x = Unit {0}

@@ -1,6 +1,6 @@
-use Rattle.std.proofs.Common.{◌≡◌, ◌<◌, ℕ, true, slice_index}
+use Rattle.std.proofs.Common.{◌≡◌, ◌<◌, ◌≤◌, ℕ, true, slice_index}
 use Rattle.tcc_bits.specs.Bits.{is_marked}
 use Rattle.tcc_order.proofs.placing.missing_of.Given as goal
 
-abbrev pub invariant-loop-number : goal.invariant-loop-number
-invariant-loop-number l = (k : ℕ) → k < l.number-index → is_marked l.placed (slice_index l.numbers k) ≡ true
+abbrev pub invariant-loop-index : goal.invariant-loop-index
+invariant-loop-index l = (k : ℕ) → l.from ≤ k → k < l.index → is_marked l.placed (slice_index l.numbers k) ≡ true

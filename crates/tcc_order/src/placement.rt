@@ -1,0 +1,19 @@
+//! What comes of looking for a commit order.
+use tcc_bits::Row;
+
+/// The first commit order, or where it stops.
+#[derive(Drop)]
+pub enum Placement {
+    /// The numbers of all transactions in the first commit order.
+    Order(Vec<u32>),
+    /// There is no commit order.
+    Stuck(Stuck),
+}
+
+/// Where there is no commit order: of each transaction those that were found to have to stand before it by a link; and marks of
+/// the transactions that were placed until none could be placed next. Each that is left stands behind one that is left.
+#[derive(Drop)]
+pub struct Stuck {
+    pub kept: Vec<Row<u32>>,
+    pub placed: Vec<u64>,
+}
