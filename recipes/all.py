@@ -263,8 +263,8 @@ def arguments() -> argparse.Namespace:
 
 
 def run(asked: argparse.Namespace, doing: Doing, out: TextIO) -> int:
-    options = {"encoding": "utf-8-sig", "errors": "surrogateescape", "newline": ""}
-    with open(asked.records, **options) if asked.records else open(sys.stdin.fileno(), closefd=False, **options) as file:
+    given, closes = (asked.records, True) if asked.records else (sys.stdin.fileno(), False)
+    with open(given, encoding="utf-8-sig", errors="surrogateescape", newline="", closefd=closes) as file:
         records = read_records(file)
     places = {}
     if asked.places:

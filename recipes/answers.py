@@ -75,8 +75,8 @@ def cycle_of(answer: dict, places: Optional[Dict[str, str]] = None) -> List[Link
 
 def place(name: str) -> Tuple[str, int]:
     """Where a label stands among others: `init`, then by session and place."""
-    session, number = LABEL.fullmatch(name).groups()
-    return (session or "", int(number or 0))
+    session, _, number = name.rpartition("/")
+    return session, int(number) if session else 0
 
 
 def session_of(name: str) -> str:

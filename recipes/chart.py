@@ -2,7 +2,7 @@
 import math
 from dataclasses import dataclass, field
 from html import escape
-from typing import Iterator, List, Optional, Tuple
+from typing import Callable, Iterator, List, Optional
 
 
 @dataclass
@@ -106,7 +106,7 @@ def chart(course: Course, width: int, bins: int) -> str:
     return "\n".join(out + ["</svg>"])
 
 
-def spans_of(course: Course, across, top: int, plot: int, band: int, width: int) -> Iterator[str]:
+def spans_of(course: Course, across: Callable[[float], float], top: int, plot: int, band: int, width: int) -> Iterator[str]:
     """What the nemesis did: a hatched ground, and a strip below with its name."""
     free = 0.0
     for one in course.spans:

@@ -12,7 +12,7 @@ and as many looks as there are such writes.
 from bisect import bisect_right
 from collections import deque
 from dataclasses import dataclass
-from functools import lru_cache
+from heapq import heapify, heappop, heappush
 from typing import Callable, Dict, Iterator, List, NamedTuple, Optional, Set, Tuple
 
 from answers import Link
@@ -72,60 +72,59 @@ class Graph:
         self._resolve(history)
 
     def _resolve(self, history: History) -> None:
-        first: Dict[Tuple[str, str], Tuple[str, bool, Operation]] = {}
+        """Traces each external read to the transaction whose last write of the key it is, or notes why that can't be done."""
+        first: Dict[Tuple[str, str], Transaction] = {}
         twice: Set[Tuple[str, str]] = set()
         for one in sorted(history.transactions.values(), key=lambda one: (one.session, one.place)):
             for each in one.operations:
                 if each.does == "w":
                     pair = each.key, each.value
-                    if pair in first:
+                    if first.setdefault(pair, one) is not one or pair in twice:
                         twice.add(pair)
-                        self.faults.append(Fault("Duplicate", one.label, each, first[pair][0]))
-                    else:
-                        first[pair] = one.label, one.committed, each
+                        self.faults.append(Fault("Duplicate", one.label, each, first[pair].label))
+        visible: Dict[Tuple[str, str], int] = {}
+        for number, one in enumerate(self.transactions):
+            last = {each.key: each.value for each in one.operations if each.does == "w"}
+            for pair in last.items():
+                if pair not in twice or first[pair] is one:
+                    self.writers.setdefault(pair[0], []).append(number)
+                    if pair not in twice:
+                        visible[pair] = number
         for number, one in enumerate(self.transactions):
             own: Dict[str, str] = {}
             reads: List[Read] = []
             for each in one.operations:
-                pair = each.key, each.value
+                key, value = each.key, each.value
                 if each.does == "w":
-                    own[each.key] = each.value
-                elif each.key in own:
-                    if own[each.key] != each.value:
+                    own[key] = value
+                elif key in own:
+                    if own[key] != value:
                         self.faults.append(Fault("BrokenInternal", one.label, each, one.label))
-                elif each.value == "0":
+                elif value == "0":
                     reads.append(Read(each, INIT))
-                elif pair not in twice:
-                    self._trace(one, each, first.get(pair), reads)
-            for key, value in own.items():
-                if (key, value) not in twice or first[key, value][0] == one.label:
-                    self.writers.setdefault(key, []).append(number)
+                else:
+                    source = visible.get((key, value), number)
+                    if source != number:
+                        reads.append(Read(each, source))
+                    elif (key, value) not in twice:
+                        self._untraced(one, each, first.get((key, value)))
             self.reads.append(reads)
 
-    def _trace(self, one: Transaction, each: Operation, found: Optional[Tuple[str, bool, Operation]], reads: List[Read]) -> None:
-        """Notes from whom the transaction reads, or why that can't be said."""
-        if found is None:
+    def _untraced(self, one: Transaction, each: Operation, writer: Optional[Transaction]) -> None:
+        """Notes why a read can't be traced."""
+        if writer is None:
             self.faults.append(Fault("ThinAir", one.label, each, ""))
             return
-        label, is_committed, write = found
-        if not is_committed:
-            self.faults.append(Fault("Aborted", one.label, each, label))
-        elif label == one.label:
-            self.faults.append(Fault("Future", one.label, each, label))
-        else:
-            number = self.numbers[label]
-            last = self.transactions[number].written(each.key)
-            if last is not None and last.value != write.value:
-                self.faults.append(Fault("Intermediate", one.label, each, label))
-            else:
-                reads.append(Read(each, number))
+        kind = "Aborted" if not writer.committed else "Future" if writer is one else "Intermediate"
+        self.faults.append(Fault(kind, one.label, each, writer.label))
 
     def before(self, number: int) -> Optional[int]:
         """The one before it in its session."""
         return None if number == self.begins[self.sessions[number]] else number - 1
 
     def order(self) -> List[int]:
-        """The transactions, each behind those that it follows or reads from; those on a cycle of pairs, and behind one, are left out."""
+        """The transactions, each behind those that it follows or reads from, and else by rows; those on a cycle of pairs, and behind
+        one, are left out."""
         count = len(self.transactions)
         readers: List[List[int]] = [[] for _ in range(count)]
         waits = [0] * count
@@ -134,38 +133,46 @@ class Graph:
             waits[number] = len(sources) + (self.before(number) is not None)
             for source in sources:
                 readers[source].append(number)
-        found = [number for number in range(count) if waits[number] == 0]
-        for number in found:
+        rows = [one.last for one in self.transactions]
+        free = [(rows[number], number) for number in range(count) if waits[number] == 0]
+        heapify(free)
+        found: List[int] = []
+        while free:
+            _, number = heappop(free)
+            found.append(number)
             behind = readers[number]
             if number + 1 < count and self.sessions[number + 1] == self.sessions[number]:
                 behind = behind + [number + 1]
             for each in behind:
                 waits[each] -= 1
                 if waits[each] == 0:
-                    found.append(each)
+                    heappush(free, (rows[each], each))
         return found
 
-    def clocks(self, order: List[int], first: int) -> List[List[int]]:
-        """Of each transaction, for the sessions of a block, the greatest number from which it is reached, or its own; -1 for none."""
-        last = first + BLOCK
-        nothing = [-1] * min(BLOCK, len(self.names) - first)
+    def clocks(self, order: List[int], lanes: List[int]) -> List[List[int]]:
+        """Of each transaction, for some sessions, the greatest number from which it is reached, or its own; -1 for none."""
+        lane_of = {session: lane for lane, session in enumerate(lanes)}
+        nothing = [-1] * len(lanes)
         rows: List[List[int]] = [nothing] * len(self.transactions)
-        sessions, all_reads = self.sessions, self.reads
+        sessions, all_reads, begins = self.sessions, self.reads, self.begins
+        lane_of_number = [lane_of.get(session, -1) for session in sessions]
         for number in order:
-            session = sessions[number]
-            row = rows[number - 1] if number and sessions[number - 1] == session else nothing
-            for source in {read.source for read in all_reads[number]}:
+            row = rows[number - 1] if number != begins[sessions[number]] else nothing
+            for read in all_reads[number]:
+                source = read.source
                 if source == INIT:
                     continue
-                lane = sessions[source] - first
-                if 0 <= lane < BLOCK and row[lane] >= source:
-                    continue
                 other = rows[source]
-                if other is not row and other is not nothing:
-                    row = other if row is nothing else list(map(max, row, other))
-            if first <= session < last:
+                if other is row or other is nothing:
+                    continue
+                lane = lane_of_number[source]
+                if lane >= 0 and row[lane] >= source:
+                    continue
+                row = other if row is nothing else list(map(max, row, other))  # type: ignore[arg-type]
+            lane = lane_of_number[number]
+            if lane >= 0:
                 row = list(row)
-                row[session - first] = number
+                row[lane] = number
             rows[number] = row
         return rows
 
@@ -192,24 +199,33 @@ def _between(graph: Graph, order: List[int]) -> Iterator[_Candidate]:
                 yield _Candidate(reader, read, [one for _, one in every[begin:end]])
 
 
-def _filtered(graph: Graph, clocks: Callable[[int], List[List[int]]], found: List[_Candidate], of_writer: bool) -> List[_Candidate]:
-    """The candidates whose writers the reader knew of; or, of the writers, those that knew of the source."""
+def _known(graph: Graph, order: List[int], found: List[_Candidate]) -> List[_Candidate]:
+    """The candidates with those of their writers of which the reader knew."""
     kept: List[List[int]] = [[] for _ in found]
-    for first in range(0, len(graph.names), BLOCK):
-        rows = clocks(first)
-        for index, (reader, read, writers) in enumerate(found):
-            if not of_writer:
-                row = rows[reader]
-                for one in writers:
-                    lane = graph.sessions[one] - first
-                    if 0 <= lane < BLOCK and row[lane] >= one:
-                        kept[index].append(one)
-            elif read.source == INIT:
-                kept[index] = writers
-            else:
-                lane = graph.sessions[read.source] - first
-                if 0 <= lane < BLOCK:
-                    kept[index] = [one for one in writers if rows[one][lane] >= read.source]
+    lanes = sorted({graph.sessions[one] for each in found for one in each.writers})
+    for first in range(0, len(lanes), BLOCK):
+        block = lanes[first:first + BLOCK]
+        rows, lane_of = graph.clocks(order, block), {session: lane for lane, session in enumerate(block)}
+        for index, each in enumerate(found):
+            row = rows[each.reader]
+            for one in each.writers:
+                lane = lane_of.get(graph.sessions[one], -1)
+                if lane >= 0 and row[lane] >= one:
+                    kept[index].append(one)
+    return [_Candidate(each.reader, each.read, writers) for each, writers in zip(found, kept) if writers]
+
+
+def _behind(graph: Graph, order: List[int], found: List[_Candidate]) -> List[_Candidate]:
+    """The candidates with those of their writers that knew of the source; behind the initial state all stand."""
+    kept: List[List[int]] = [each.writers if each.read.source == INIT else [] for each in found]
+    lanes = sorted({graph.sessions[each.read.source] for each in found if each.read.source != INIT})
+    for first in range(0, len(lanes), BLOCK):
+        block = lanes[first:first + BLOCK]
+        rows, lane_of = graph.clocks(order, block), {session: lane for lane, session in enumerate(block)}
+        for index, each in enumerate(found):
+            lane = lane_of.get(graph.sessions[each.read.source], -1) if each.read.source != INIT else -1
+            if lane >= 0:
+                kept[index] = [one for one in each.writers if rows[one][lane] >= each.read.source]
     return [_Candidate(each.reader, each.read, writers) for each, writers in zip(found, kept) if writers]
 
 
@@ -246,14 +262,9 @@ def survey(history: History, level: str, doing: Callable[[str], None]) -> Tuple[
     if level == "atomic":
         found = list(_atomic(graph, order))
     else:
-        found = list(_between(graph, order))
-        clocks = lru_cache(maxsize=1)(lambda first: graph.clocks(order, first))  # of one block, those for both
-        if found:
-            found = _filtered(graph, clocks, found, False)
-        if found:
-            found = _filtered(graph, clocks, found, True)
+        found = _behind(graph, order, _known(graph, order, list(_between(graph, order))))
     found.sort(key=lambda one: (one.reader, one.read.operation.row))
-    names = Names(graph)
+    names = Names(graph, found)
     told = [Contradicted(graph.transactions[one.reader].label, one.read.operation,
                          "init" if one.read.source == INIT else graph.transactions[one.read.source].label,
                          graph.transactions[min(one.writers)].label, names.name(one.reader, one.read, min(one.writers)))
@@ -264,12 +275,13 @@ def survey(history: History, level: str, doing: Callable[[str], None]) -> Tuple[
 class Names:
     """How contradicted reads are usually called."""
 
-    def __init__(self, graph: Graph):
+    def __init__(self, graph: Graph, found: List[_Candidate]):
         self.graph = graph
-        self.readers: Dict[Tuple[int, str], List[int]] = {}
+        self.readers: Dict[Tuple[int, str], List[int]] = {(min(one.writers), one.read.operation.key): [] for one in found}
         for number, reads in enumerate(graph.reads):
-            for read in reads:
-                self.readers.setdefault((read.source, read.operation.key), []).append(number)
+            for operation, source in reads:
+                if (source, operation.key) in self.readers:
+                    self.readers[source, operation.key].append(number)
         self.session = -1
         self.seen: Dict[int, int] = {}
         self.next = 0

@@ -62,9 +62,14 @@ class Reader:
     def fails(self, why: str, at: int) -> NoEdn:
         return NoEdn("line %d: %s" % (self.text.count("\n", 0, at) + self.number - self.text.count("\n", 0, self.counted), why))
 
+    def past_gap(self) -> int:
+        """Where behind what stands between tokens something else does."""
+        found = GAP.match(self.text, self.at)
+        return found.end() if found else self.at
+
     def drop(self) -> None:
         """Lets go of the text where it was read to its end: nothing in it can be told any more."""
-        if GAP.match(self.text, self.at).end() == len(self.text):
+        if self.past_gap() == len(self.text):
             self.at = len(self.text)
             self.line()
             self.text, self.at, self.counted, self.pulled = "", 0, 0, PULLED
@@ -79,7 +84,7 @@ class Reader:
     def skip(self) -> bool:
         """Goes past what stands between tokens; whether there is one."""
         while True:
-            self.at = GAP.match(self.text, self.at).end()
+            self.at = self.past_gap()
             if self.at < len(self.text):
                 return True
             if not self.more():

@@ -9,7 +9,7 @@ import re
 from array import array
 from collections import Counter
 from dataclasses import dataclass, field
-from typing import Dict, Iterator, List, NamedTuple, Optional, Set, Tuple, Union
+from typing import Any, Dict, Iterator, List, Optional, Sequence, Set, Tuple, Union
 
 from edn import Reader, atom
 from notes import Note
@@ -33,7 +33,8 @@ MOST_SEALS, MOST_DOUBLED = 256, 5
 Raw = Union[None, str, list, Tuple[Step, ...]]
 
 
-class Waiting(NamedTuple):
+@dataclass(frozen=True)
+class Waiting:
     """An invoke that nothing followed so far."""
 
     line: int
@@ -41,7 +42,8 @@ class Waiting(NamedTuple):
     index: Optional[int]
 
 
-class Nemesis(NamedTuple):
+@dataclass(frozen=True)
+class Nemesis:
     """A line that isn't about a transaction: when, by whom, and what."""
 
     line: int
@@ -224,7 +226,8 @@ class Imported:
         if type(raw) is str:
             return self._parts_of_text(line, raw, with_reads)
         parts: List[str] = []
-        for one in raw:
+        every: Sequence[Any] = raw or ()
+        for one in every:
             does, key, what = one if type(one) is list else (one.does, json.loads(one.key), json.loads(one.value))
             if does == "r" and not with_reads:
                 self.left_out += 1
@@ -318,7 +321,7 @@ class Imported:
         for number, (thing, line) in enumerate(zip(self.values.listed, self.values.lines)):
             what = json.loads(thing)
             if isinstance(what, list):
-                found["*%d" % number] = self._value(line, "r", "", what[-1]) if what else "0"
+                found["*%d" % number] = (self._value(line, "r", "", what[-1]) if what else None) or "0"
         return found
 
     def _small_values(self) -> Set[str]:
@@ -422,16 +425,18 @@ class Imported:
 
 def appends(raw: Raw) -> bool:
     """Whether a transaction appends to a list."""
-    if type(raw) is str:
+    if isinstance(raw, str):
         return ":append " in raw
-    return any((one[0] if type(one) is list else one.does) == "append" for one in raw or ())
+    every: Sequence[Any] = raw or ()
+    return any((one[0] if type(one) is list else one.does) == "append" for one in every)
 
 
 def steps_of(line: int, raw: Raw) -> Tuple[Step, ...]:
     """The steps of a transaction, in whatever form they came."""
-    if type(raw) is str:
-        raw = Reader(iter([raw])).value_of_all()
-    return steps(line, raw) or () if type(raw) is list else raw or ()
+    told = Reader(iter([raw])).value_of_all() if isinstance(raw, str) else raw
+    if isinstance(told, list):
+        return steps(line, told) or ()
+    return told or ()
 
 
 def same_writes(line: int, raw: Raw, invoked: Waiting) -> bool:

@@ -73,9 +73,15 @@ def no_constant(word: str):
 DECODER = json.JSONDecoder(parse_constant=no_constant)
 
 
+def past_gap(text: str, at: int) -> int:
+    """Where behind whitespace and commas something else stands."""
+    found = GAP.match(text, at)
+    return found.end() if found else at
+
+
 def is_edn(text: str) -> bool:
     """Whether a text begins as EDN does, and not as JSON."""
-    begin = FORM.match(text).end()
+    begin = len(text) - len(FORM.sub("", text, count=1))
     return text.startswith(EDN_BEGINS, begin) and not JSON_OBJECT.match(text, begin)
 
 
@@ -129,7 +135,7 @@ class Reading:
         at, before = len(text) - len(text.lstrip()) + 1, 0
         self.line = 1
         while True:
-            at = GAP.match(text, at).end()
+            at = past_gap(text, at)
             self.line, before = self.line + text.count("\n", before, at), at
             if text[at:at + 1] == "]" and not text[at + 1:].strip():
                 return

@@ -214,10 +214,10 @@ def lines_of(name: str, scene: Scene, history: History, notes: Dict[str, Note], 
         meta.append("aborted")
     shown = [each for each in one.operations if each.key in scene.keys.get(name, ())]
     hidden = len(one.operations) - len(shown[:MOST_OPERATIONS])
-    told = [("operation", operation_text(each, letters)) for each in shown[:MOST_OPERATIONS]]
+    done = [("operation", operation_text(each, letters)) for each in shown[:MOST_OPERATIONS]]
     more = [("meta", "and %d more" % hidden)] if hidden else []
     return (("name", short(name, letters)), *[("meta", line) for line in meta],
-            *[(kind, short(line, letters)) for kind, line in told], *more, *part)
+            *[(kind, short(line, letters)) for kind, line in done], *more, *part)
 
 
 def operation_text(one: Operation, letters: int) -> str:

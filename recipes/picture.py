@@ -279,7 +279,7 @@ def shown(answer: dict, history: Optional[History], places: Dict[str, str], as_t
     links = cycle_of(answer, places) if answer["answer"] == "anomaly" else []
     if places and answer["answer"] != "anomaly":
         raise Unfit("a table of places is for an anomaly of a slice")
-    if as_text:
+    if as_text and history is not None:
         return list_answer(answer, links, history)
     if answer["answer"] == "unresolved":
         raise Unfit("what is unresolved has no picture; --text lists its faults")

@@ -444,12 +444,12 @@ def anomalies(told: Findings, examples: Examples) -> Iterator[str]:
         if not shown:
             yield legend()
     for name in names:
-        cycle = example_of(told, name)
-        if cycle is not None:
+        example = example_of(told, name)
+        if example is not None:
             of_it = sum(one.name == name for one in told.contradicted)
             yield "<h3>%s</h3>" % text(capital(name))
             yield '<p class="faint">%s: one of %s.</p>' % (text(capital(ABOUT[name])), text(number(of_it)))
-            yield from examples.anomaly(cycle, "an example of " + name)
+            yield from examples.anomaly(example, "an example of " + name)
 
 
 def example_of(told: Findings, name: str) -> Optional[List[Link]]:
@@ -462,7 +462,7 @@ def example_of(told: Findings, name: str) -> Optional[List[Link]]:
             found.append(cycle)
             if steps_of(cycle) <= FEW_STEPS and usual_name(cycle) == name:
                 break
-    return min(found, key=lambda cycle: (usual_name(cycle) != name, steps_of(cycle)), default=None)
+    return min(found, key=lambda links: (usual_name(links) != name, steps_of(links))) if found else None
 
 
 def faults_of(told: Findings) -> List[Fault]:
