@@ -1,4 +1,3 @@
-#!/usr/bin/env python3
 """Lists the anomalies of a history, each with its usual name and the read at which it shows.
 
 First come all contradicted reads: those that one other write contradicts, of which the reader knew. `tcc survey` lists them
@@ -34,11 +33,11 @@ from collections import Counter
 from dataclasses import dataclass, field
 from typing import Dict, Iterable, Iterator, List, NamedTuple, Set, TextIO, Tuple
 
-from answers import Link, cycle_of, usual_name
-from contradicted import Contradicted, surveyed
-from program import NoAnswer, Program
-from progress import INTERRUPTED, Doing
-from rows import History, Operation, Transaction, Unfit, history_of, read_places
+from tcc.answers import Link, cycle_of, usual_name
+from tcc.contradicted import Contradicted, surveyed
+from tcc.program import NoAnswer, Program
+from tcc.progress import INTERRUPTED, Doing
+from tcc.rows import History, Operation, Transaction, Unfit, history_of, read_places
 
 EXAMPLE = """example: session a doesn't see its own write, and b sees one write of a transaction and not the other
   $ cat records.csv

@@ -4,7 +4,7 @@ import re
 from dataclasses import dataclass
 from typing import Dict, Iterable, Iterator, List, Optional, Tuple
 
-from rows import History, Transaction, Unfit
+from tcc.rows import History, Transaction, Unfit
 
 NAME = re.compile(r"[A-Za-z0-9_.-]{1,32}")
 LABEL = re.compile(r"init|(%s)/([1-9][0-9]*)" % NAME.pattern)

@@ -13,8 +13,8 @@ import time
 from dataclasses import dataclass, field
 from typing import Any, Callable, Iterator, List, Optional, Sequence, Tuple, Type
 
-from noted import Transaction, annotations, records, session_name, settle, summary, warnings
-from notes import write_notes
+from tcc.noted import Transaction, annotations, records, session_name, settle, summary, warnings
+from tcc.notes import write_notes
 
 MOST_TRANSACTIONS = 1048575
 MOST_KEYS = 1048576

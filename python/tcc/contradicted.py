@@ -15,9 +15,9 @@ from dataclasses import dataclass
 from heapq import heapify, heappop, heappush
 from typing import Callable, Dict, Iterator, List, NamedTuple, Optional, Set, Tuple
 
-from answers import Link
-from program import Program
-from rows import History, Operation, Transaction
+from tcc.answers import Link
+from tcc.program import Program
+from tcc.rows import History, Operation, Transaction
 
 BLOCK = 64
 INIT = -1

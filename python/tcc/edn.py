@@ -1,4 +1,3 @@
-#!/usr/bin/env python3
 """Turns values of EDN, such as the maps of Jepsen's history.edn, into lines of JSON, one a value.
 
 Where the whole input is one vector of maps, as some histories are, each map has a line. Keywords and symbols become texts
@@ -18,7 +17,7 @@ from collections import Counter
 from dataclasses import dataclass, field
 from typing import Iterator, List, TextIO
 
-from progress import INTERRUPTED, Doing
+from tcc.progress import INTERRUPTED, Doing
 
 EXAMPLE = """example:
   $ echo '{:type :ok, :process 3, :f :txn, :value [[:r :x nil] [:w :y 5]]}' | edn.py

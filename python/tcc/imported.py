@@ -11,9 +11,9 @@ from collections import Counter
 from dataclasses import dataclass, field
 from typing import Any, Dict, Iterator, List, Optional, Sequence, Set, Tuple, Union
 
-from edn import Reader, atom
-from notes import Note
-from operations import STEP, WRITE, Operation, Step, Untold, is_number, spelled, steps, written
+from tcc.edn import Reader, atom
+from tcc.notes import Note
+from tcc.operations import STEP, WRITE, Operation, Step, Untold, is_number, spelled, steps, written
 
 NAME = re.compile(r"[A-Za-z0-9_.-]{1,32}")
 GREATEST_VALUE = 2**64 - 1

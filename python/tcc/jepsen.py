@@ -1,4 +1,3 @@
-#!/usr/bin/env python3
 """Turns a history of transactions on registers or lists, as Jepsen and Elle have it, into records for `tcc explain`.
 
 The input is Jepsen's history.edn, maps of EDN one behind the other or one vector of them; or lines of JSON, each one operation;
@@ -40,11 +39,11 @@ import sys
 from collections import Counter
 from typing import BinaryIO, Iterable, Iterator, Tuple
 
-from edn import NoEdn, Reader
-from imported import Imported, Nemesis
-from notes import write_notes
-from operations import USUAL, Untold, is_number, operation, spelled
-from progress import INTERRUPTED, Doing
+from tcc.edn import NoEdn, Reader
+from tcc.imported import Imported, Nemesis
+from tcc.notes import write_notes
+from tcc.operations import USUAL, Untold, is_number, operation, spelled
+from tcc.progress import INTERRUPTED, Doing
 
 EXAMPLE = """example: session p1 doesn't see its own write
   $ cat history.jsonl

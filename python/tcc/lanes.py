@@ -8,9 +8,9 @@ from dataclasses import dataclass, field, replace
 from html import escape
 from typing import Dict, Iterable, List, NamedTuple, Sequence, Set, Tuple
 
-from answers import Link, joined, place, said, session_of
-from notes import Note
-from rows import History, Operation
+from tcc.answers import Link, joined, place, said, session_of
+from tcc.notes import Note
+from tcc.rows import History, Operation
 
 MOST_STEPS = 6  # of a walk that are drawn one by one
 MOST_DERIVED, MOST_COLUMNS = 6, 6  # derived links that are drawn, and columns, where there is more than one

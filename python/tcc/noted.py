@@ -3,7 +3,7 @@ from collections import Counter
 from dataclasses import dataclass
 from typing import Counter as Count, Dict, Iterable, Iterator, List, Optional, Tuple
 
-from notes import Note
+from tcc.notes import Note
 
 # What `tcc explain` takes at most, and with `--large`.
 LIMITS = {"sessions": 64, "transactions": 4095, "keys": 1024}

@@ -1,4 +1,3 @@
-#!/usr/bin/env python3
 """Draws an answer of `tcc explain --json` as a graph for Graphviz, or tells where its transactions stand in the records.
 
 Of an anomaly the picture has the transactions that it speaks of, each session a column, and its links:
@@ -27,10 +26,10 @@ import sys
 from dataclasses import dataclass, field
 from typing import Dict, Iterable, Iterator, List, Optional, TextIO, Tuple
 
-from answers import (Link, anomaly_head, columns, cycle_of, key, label, order_head, place, read_answer, sentences,
+from tcc.answers import (Link, anomaly_head, columns, cycle_of, key, label, order_head, place, read_answer, sentences,
                      transactions_of)
-from progress import INTERRUPTED, Doing
-from rows import History, Operation, Transaction, Unfit, open_records, read_history, read_places
+from tcc.progress import INTERRUPTED, Doing
+from tcc.rows import History, Operation, Transaction, Unfit, open_records, read_history, read_places
 
 EXAMPLE = """example: draw the anomaly of a history, then show the records that it speaks of
   $ tcc explain --json < examples/stale-read.csv > answer.json

@@ -1,4 +1,3 @@
-#!/usr/bin/env python3
 """Says which transactions of the whole history those of a slice are: annotations with the columns `transaction` and `whole`.
 
 `tcc explain --large --slice PATH` writes records in which a session's transactions are counted anew, so that p1/187 may be p1/1
@@ -10,9 +9,9 @@ import csv
 import sys
 from typing import Dict, Iterator, Tuple
 
-from answers import columns, cycle_of, read_answer, transactions_of
-from progress import INTERRUPTED
-from rows import History, Unfit, open_records, read_history
+from tcc.answers import columns, cycle_of, read_answer, transactions_of
+from tcc.progress import INTERRUPTED
+from tcc.rows import History, Unfit, open_records, read_history
 
 EXAMPLE = """example: the answer speaks of p1/187 and of p2/9 alone, so they are the first ones of the slice
   $ tcc explain --large --json --slice slice.csv records.csv > answer.json

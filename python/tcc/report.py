@@ -1,4 +1,3 @@
-#!/usr/bin/env python3
 """Makes one page of HTML of a history: what is wrong with it, how often, where, and how one sees that.
 
 The history is one of records, as `tcc explain` takes them, or one of Jepsen or Elle, EDN or JSON, as jepsen.py takes them. The
@@ -22,19 +21,19 @@ from collections import Counter
 from dataclasses import dataclass, field
 from typing import Dict, Iterable, Iterator, List, Optional, Tuple
 
-import jepsen
-from answers import FIELD_NAMES, Link, cycle_of, said, sentence_of, sentences, session_of, usual_name
-from chart import Course, Span, chart
-from contradicted import Contradicted, Fault, Graph, Survey, cycle_of_read, survey
-from imported import Imported, LIMITS
-from lanes import Edge, Scene, Size, picture, rows_of, scene_of
-from notes import NoNotes, Note, read_notes
-from operations import Untold
-from page import counts, facts, page, text
-from places import table
-from program import NoAnswer, Program, last_answer
-from progress import INTERRUPTED, Doing
-from rows import History, Unfit, open_records, read_history
+from tcc import jepsen
+from tcc.answers import FIELD_NAMES, Link, cycle_of, said, sentence_of, sentences, session_of, usual_name
+from tcc.chart import Course, Span, chart
+from tcc.contradicted import Contradicted, Fault, Graph, Survey, cycle_of_read, survey
+from tcc.imported import Imported, LIMITS
+from tcc.lanes import Edge, Scene, Size, picture, rows_of, scene_of
+from tcc.notes import NoNotes, Note, read_notes
+from tcc.operations import Untold
+from tcc.page import counts, facts, page, text
+from tcc.places import table
+from tcc.program import NoAnswer, Program, last_answer
+from tcc.progress import INTERRUPTED, Doing
+from tcc.rows import History, Unfit, open_records, read_history
 
 EXAMPLE = """example: one page of the history that Jepsen left
   $ report.py store/latest/history.edn -o report.html

@@ -3,7 +3,7 @@ import csv
 from dataclasses import dataclass, field
 from typing import Dict, Iterable, List, NamedTuple, Optional, Set, TextIO, Tuple
 
-from notes import NoNotes, read_notes
+from tcc.notes import NoNotes, read_notes
 
 
 class Unfit(Exception):

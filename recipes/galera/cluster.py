@@ -9,7 +9,7 @@ asked of the user who started them. They run as the user of --user where the scr
 runs is found by the files `pid` there, and is ended by these numbers alone. No service of the system is touched.
 
 Needs MariaDB's server with Galera, and rsync, on the path or in /usr/sbin (in Debian the packages mariadb-server, galera-4 and
-rsync), and the library PyMySQL (python3-pymysql); and recorder.py, noted.py and notes.py in the folder above.
+rsync), and the library PyMySQL (python3-pymysql); and the package in python/.
 """
 import argparse
 import contextlib
@@ -26,8 +26,8 @@ import time
 from dataclasses import dataclass, field
 from typing import Any, Dict, List, Optional, Tuple
 
-sys.path.insert(0, str(pathlib.Path(__file__).resolve().parent.parent))
-from recorder import LOOPBACK, NoServer, command_line, free_ports, wait_until  # noqa: E402
+sys.path.insert(0, str(pathlib.Path(__file__).resolve().parents[2] / "python"))
+from tcc.clients import LOOPBACK, NoServer, command_line, free_ports, wait_until  # noqa: E402
 
 EXAMPLE = """example: two rounds of clients on one cluster
   $ cluster.py start /tmp/galera

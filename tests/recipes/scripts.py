@@ -20,7 +20,7 @@ TOP = pathlib.Path(__file__).resolve().parent.parent.parent
 RECIPES = TOP / "recipes"
 SECONDS = 60
 INTERRUPTED = 130
-sys.path.insert(0, str(RECIPES))
+sys.path.insert(0, str(TOP / "python"))
 
 
 def random_history(seed: int, is_edn: bool, appends: bool) -> bytes:
@@ -63,9 +63,9 @@ def random_history(seed: int, is_edn: bool, appends: bool) -> bytes:
 
 def both_ways() -> Iterator[Outcome]:
     """The usual lines and the reader of any line give the same records, table and map."""
-    import jepsen
-    from imported import Imported
-    from progress import Doing
+    from tcc import jepsen
+    from tcc.imported import Imported
+    from tcc.progress import Doing
 
     def told(text: bytes, is_usual: bool) -> List[object]:
         into = Imported({"null"})
