@@ -1,0 +1,11 @@
+pub mod GroupRange
+pub mod Listed
+pub mod Overwritten
+pub mod PlaceLemmas
+pub mod ReadLemmas
+pub mod RoundLemmas
+pub mod SessionRanges
+pub mod Sessions
+pub mod Shapes
+pub mod Within
+pub mod WorkedShapes

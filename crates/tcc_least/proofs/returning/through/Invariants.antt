@@ -1,0 +1,6 @@
+use Rattle.tcc_least.specs.private.Places.{IsAsGood}
+use Rattle.tcc_least.proofs.Overwritten.{AreThrough}
+use Rattle.tcc_least.proofs.returning.through.Given as goal
+
+abbrev pub invariant-loop-read : goal.invariant-loop-read
+invariant-loop-read l = IsAsGood l.graph l.initial.least l.least × AreThrough l.graph l.reader l.read-items l.read-index l.least

@@ -1,0 +1,10 @@
+//! Whether a cycle costs less than a given cost, looked for locally, in a history of any size and with no search: up to three steps
+//! a cycle has few shapes, and each shows at one place.
+#![tactic(auto)]
+
+pub mod laws;
+mod returning;
+mod rounds;
+mod short;
+
+pub use short::{ShortCycle, short_cycle};
