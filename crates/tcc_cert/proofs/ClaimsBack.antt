@@ -5,6 +5,7 @@ use Rattle.std.proofs.Common.{lit≤, lit<}
 use Rattle.tcc_graph.specs.declared.level.Level.{Level}
 use Rattle.tcc_graph.specs.declared.level.Level.TheVariants.{Causal, Atomic}
 use Rattle.tcc_cert.specs.declared.version.Version.{Version}
+use Rattle.tcc_cert.specs.declared.ranges.Scale.TheVariants.{Small}
 use Rattle.tcc_cert.specs.declared.version.Version.TheVariants.{One, Two}
 use Rattle.tcc_cert.specs.declared.ranges.TheConstants.{MAX_HEADER_BYTES}
 use Rattle.tcc_cert.specs.Ranges.{ranges_of}
@@ -44,12 +45,12 @@ table-at v rows columns most table le few h n rest =
     let capped = recursion_from_All (λ row. All (λ number. number ≤ most) row) table h.capped in
     let back =
     each-two (λ i row. length row ≡ columns i) (λ row. All (λ number. number ≤ most) row)
-    (λ i row. IsReadAt (words v (numbers_line (columns i) most)) (λ r. line_text (numbers_words r)) row) 0 table
-    (λ i row long all. line-at v (numbers_line (columns i) most) numbers_words row
+    (λ i row. IsReadAt (words (Small v) (numbers_line (columns i) most)) (λ r. line_text (numbers_words r)) row) 0 table
+    (λ i row long all. line-at (Small v) (numbers_line (columns i) most) numbers_words row
     (row-back v (columns i) most row le (few i) long (recursion_from_All (λ number. number ≤ most) row all))) wide capped in
     let read : (end : ℕ) × (table_at v (length table) columns most (at n (lines_text (table_lines table) ++ rest)) ≡ Ok (table, at end rest)) =
     rw (flat_map-map line_text numbers_words table)
-    (numbered-back (λ i. words v (numbers_line (columns i) most)) (λ row. line_text (numbers_words row)) 0 table back n rest) in
+    (numbered-back (λ i. words (Small v) (numbers_line (columns i) most)) (λ row. line_text (numbers_words row)) 0 table back n rest) in
     subst (λ count. (end : ℕ) × (table_at v count columns most (at n (lines_text (table_lines table) ++ rest)) ≡ Ok (table, at end rest))) h.size.long read
 
 -- ---- lines of one word
@@ -59,14 +60,14 @@ abbrev is_mark : List ℕ → Bool
 is_mark word = ltb 0 (length word) && (ltb (length word) 9 && is_above 32 word)
 
 mark-at : (v : Version) (word : List ℕ) (n : ℕ) (rest : List ℕ) → is_mark word ≡ true → word_line word (word ∷ []) ≡ Ok tt
-    → words v (word_line word) (at n (line_text (word ∷ []) ++ rest)) ≡ Ok (tt, at (n + 1) rest)
+    → words (Small v) (word_line word) (at n (line_text (word ∷ []) ++ rest)) ≡ Ok (tt, at (n + 1) rest)
 mark-at v word n rest is shown =
     let some = and_parts (ltb 0 (length word)) (ltb (length word) 9 && is_above 32 word) is in
     let few = and_parts (ltb (length word) 9) (is_above 32 word) some.1 in
     let long : 0 < length word = grind (arith, nat_tests, some.0) in
     let short : length word ≤ 8 = grind (arith, nat_tests, few.0) in
-    words-line v (word_line word) n (word ∷ []) rest (long, IsAbove-tested 32 word few.1, tt)
-    (omega (arith, lines v, words-short 8 word [] short tt)) tt shown
+    words-line (Small v) (word_line word) n (word ∷ []) rest (long, IsAbove-tested 32 word few.1, tt)
+    (omega (arith, lines (Small v), words-short 8 word [] short tt)) tt shown
 
 -- ---- claims of orders
 
@@ -96,9 +97,9 @@ order-back k h n =
     let v = k.version in
     let count = length k.order in
     let last = line_text (codes "end" ∷ []) ++ [] in
-    let row = row-back v count (ranges_of v).number k.order (numbers_costs v) h.count.limit refl (recursion_from_All (IsNumber v) k.order h.numbers) in
+    let row = row-back v count (ranges_of v).number k.order (numbers_costs v) h.count.limit refl (recursion_from_All (IsNumber (Small v)) k.order h.numbers) in
     let order =
-    words-line v (numbers_line count (ranges_of v).number) n (numbers_words k.order)
+    words-line (Small v) (numbers_line count (ranges_of v).number) n (numbers_words k.order)
     (lines_text (clocks_lines k.level k.clocks) ++ last) row.are row.short k.order row.back in
     let clocks = clocks-at v k.level count k.sessions k.clocks h.sessions h.clocks (n + 1) last in
     let end = mark-at v (codes "end") clocks.0 [] refl refl in (
@@ -123,11 +124,11 @@ cycle_text links near far =
     (flat_map-append line_text (table_lines near) ((codes "far" ∷ []) ∷ (table_lines far ++ (codes "end" ∷ []) ∷ []))
     ∙ ap (λ t. lines_text (table_lines near) ++ (line_text (codes "far" ∷ []) ++ t)) (flat_map-append line_text (table_lines far) ((codes "end" ∷ []) ∷ [])))
 
-links-at : (v : Version) (links : List Link) → All (HasLinkText v) links → (n : ℕ) (rest : List ℕ)
-    → (end : ℕ) × (repeated (link_at v) (length links) (at n (lines_text (flat_map link_lines links) ++ rest)) ≡ Ok (links, at end rest))
+links-at : (v : Version) (links : List Link) → All (HasLinkText (Small v)) links → (n : ℕ) (rest : List ℕ)
+    → (end : ℕ) × (repeated (link_at (Small v)) (length links) (at n (lines_text (flat_map link_lines links) ++ rest)) ≡ Ok (links, at end rest))
 links-at v links h n rest =
     rw (flat_map-flat_map line_text link_lines links)
-    (repeated-back (link_at v) (λ m. lines_text (link_lines m)) links (each links (link-back v) (recursion_from_All (HasLinkText v) links h)) n rest)
+    (repeated-back (link_at (Small v)) (λ m. lines_text (link_lines m)) links (each links (link-back (Small v)) (recursion_from_All (HasLinkText (Small v)) links h)) n rest)
 
 cycle-back : (k : CycleClaim) → HasCycleText k → (n : ℕ)
     → (end : ℕ) × (cycle_at k.version k.level (length k.near) (length k.links) k.least
@@ -168,34 +169,34 @@ numeral n h = (
   length-decimal-le 8 n (lit< tt) (omega (arith, h)) (omega (arith, h)),
 )
 
-order_sizes-at : (v : Version) (n s at_line : ℕ) (rest : List ℕ) → IsCount v n → s ≤ (ranges_of v).sessions
-    → words v (sizes_line v) (at at_line (line_text (codes "order" ∷ decimal n ∷ decimal s ∷ []) ++ rest)) ≡ Ok (Order n s, at (at_line + 1) rest)
+order_sizes-at : (v : Version) (n s at_line : ℕ) (rest : List ℕ) → IsCount (Small v) n → s ≤ (ranges_of v).sessions
+    → words (Small v) (sizes_line (Small v)) (at at_line (line_text (codes "order" ∷ decimal n ∷ decimal s ∷ []) ++ rest)) ≡ Ok (Order n s, at (at_line + 1) rest)
 order_sizes-at v n s at_line rest hn hs =
-    let few : n ≤ 16781312 = omega (arith, hn.limit, counts v) in
+    let few : n ≤ 16781312 = omega (arith, hn.limit, counts (Small v)) in
     let sessions : s ≤ 16781312 = omega (arith, hs, sessions_are v) in
     let first = numeral n few in
     let second = numeral s sessions in
-    words-line v (sizes_line v) at_line (codes "order" ∷ decimal n ∷ decimal s ∷ []) rest
+    words-line (Small v) (sizes_line (Small v)) at_line (codes "order" ∷ decimal n ∷ decimal s ∷ []) rest
     (lit< tt, IsAbove-tested 32 (codes "order") refl, (first.0, first.1, (second.0, second.1, tt)))
-    (omega (arith, lines v, words-short 8 (codes "order") (decimal n ∷ decimal s ∷ []) (lit≤ tt) (first.2, (second.2, tt))))
+    (omega (arith, lines (Small v), words-short 8 (codes "order") (decimal n ∷ decimal s ∷ []) (lit≤ tt) (first.2, (second.2, tt))))
     (Order n s)
     (rw (
       number_of-decimal 1 (ranges_of v).count n hn.some hn.limit (omega (arith, few)),
       number_of-decimal 0 (ranges_of v).sessions s (omega arith) hs (omega (arith, sessions)),
     ) refl)
 
-cycle_sizes-at : (v : Version) (n m l at_line : ℕ) (rest : List ℕ) → IsCount v n → IsCount v m → l ≤ (ranges_of v).cost
-    → words v (sizes_line v) (at at_line (line_text (codes "cycle" ∷ decimal n ∷ decimal m ∷ decimal l ∷ []) ++ rest)) ≡ Ok (Cycle n m l, at (at_line + 1) rest)
+cycle_sizes-at : (v : Version) (n m l at_line : ℕ) (rest : List ℕ) → IsCount (Small v) n → IsCount (Small v) m → l ≤ (ranges_of v).cost
+    → words (Small v) (sizes_line (Small v)) (at at_line (line_text (codes "cycle" ∷ decimal n ∷ decimal m ∷ decimal l ∷ []) ++ rest)) ≡ Ok (Cycle n m l, at (at_line + 1) rest)
 cycle_sizes-at v n m l at_line rest hn hm hl =
-    let few : n ≤ 16781312 = omega (arith, hn.limit, counts v) in
-    let links : m ≤ 16781312 = omega (arith, hm.limit, counts v) in
+    let few : n ≤ 16781312 = omega (arith, hn.limit, counts (Small v)) in
+    let links : m ≤ 16781312 = omega (arith, hm.limit, counts (Small v)) in
     let least : l ≤ 16781312 = omega (arith, hl, costs v) in
     let first = numeral n few in
     let second = numeral m links in
     let third = numeral l least in
-    words-line v (sizes_line v) at_line (codes "cycle" ∷ decimal n ∷ decimal m ∷ decimal l ∷ []) rest
+    words-line (Small v) (sizes_line (Small v)) at_line (codes "cycle" ∷ decimal n ∷ decimal m ∷ decimal l ∷ []) rest
     (lit< tt, IsAbove-tested 32 (codes "cycle") refl, (first.0, first.1, (second.0, second.1, (third.0, third.1, tt))))
-    (omega (arith, lines v, words-short 8 (codes "cycle") (decimal n ∷ decimal m ∷ decimal l ∷ []) (lit≤ tt) (first.2, (second.2, (third.2, tt)))))
+    (omega (arith, lines (Small v), words-short 8 (codes "cycle") (decimal n ∷ decimal m ∷ decimal l ∷ []) (lit≤ tt) (first.2, (second.2, (third.2, tt)))))
     (Cycle n m l)
     (rw (
       number_of-decimal 1 (ranges_of v).count n hn.some hn.limit (omega (arith, few)),

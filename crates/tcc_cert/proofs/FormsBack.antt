@@ -2,7 +2,9 @@
 use Rattle.std.proofs.Common.{◌≡◌, ℕ, ◌+◌, ◌*◌, ◌<◌, ◌≤◌, ◌^◌, true, eqb, List, [], ◌∷◌, length, Ok, refl, arith, codes, decimal, lit≤, lit<}
 use Rattle.tcc_cert.specs.declared.version.Version.{Version}
 use Rattle.tcc_cert.specs.declared.version.Version.TheVariants.{One, Two}
-use Rattle.tcc_cert.specs.Ranges.{ranges_of}
+use Rattle.tcc_cert.specs.declared.ranges.Scale.{Scale}
+use Rattle.tcc_cert.specs.declared.ranges.Scale.TheVariants.{Small}
+use Rattle.tcc_cert.specs.Ranges.{ranges_at, ranges_of}
 use Rattle.std.specs.List.{AllByRecursion}
 use Rattle.std.proofs.lemmas.Bool.Decides.{nat_tests}
 use Rattle.std.proofs.lemmas.List.{length-map}
@@ -67,7 +69,7 @@ at_most-less most more (n ∷ numbers) le all = (omega (arith, all.0), at_most-l
 -- a row of a table
 pub row-back : (v : Version) (columns most : ℕ) (row : List ℕ) → most ≤ (ranges_of v).cost → columns ≤ (ranges_of v).count → length row ≡ columns
     → AreAtMost most row
-    → IsReadBack v (numbers_line columns most) numbers_words row
+    → IsReadBack (Small v) (numbers_line columns most) numbers_words row
 row-back v columns most row le few long all =
     let small : most < 2 ^ 64 = omega (arith, le, costs v) in
     record {
@@ -87,21 +89,21 @@ IsPlainKey key = (0 < length key) × (length key ≤ 32) × IsAbove 32 key
 -- ---- steps
 
 -- a number's numeral
-pub number-word : (v : Version) (n : ℕ) → IsNumber v n → (0 < length (decimal n)) × IsAbove 32 (decimal n)
+pub number-word : (v : Scale) (n : ℕ) → IsNumber v n → (0 < length (decimal n)) × IsAbove 32 (decimal n)
 number-word v n h = (decimal_nonempty n (omega (arith, h, numbers v)), decimal-above n (omega (arith, h, numbers v)))
 
-pub number-back : (v : Version) (n : ℕ) → IsNumber v n → number_of 0 (ranges_of v).number (decimal n) ≡ Ok n
-number-back v n h = number_of-decimal 0 (ranges_of v).number n (omega arith) h (omega (arith, h, numbers v))
+pub number-back : (v : Scale) (n : ℕ) → IsNumber v n → number_of 0 (ranges_at v).number (decimal n) ≡ Ok n
+number-back v n h = number_of-decimal 0 (ranges_at v).number n (omega arith) h (omega (arith, h, numbers v))
 
-pub numbers-two : (v : Version) (a b : ℕ) → IsNumber v a → IsNumber v b → AreWords (decimal a ∷ decimal b ∷ [])
+pub numbers-two : (v : Scale) (a b : ℕ) → IsNumber v a → IsNumber v b → AreWords (decimal a ∷ decimal b ∷ [])
 numbers-two v a b ha hb = ((number-word v a ha).0, (number-word v a ha).1, ((number-word v b hb).0, (number-word v b hb).1, tt))
 
-pub four_digits : (v : Version) (n : ℕ) → IsNumber v n → length (decimal n) ≤ 4
-four_digits v n h = length-decimal-le 4 n (lit< tt) (omega (arith, h, numbers v)) (omega (arith, h, numbers v))
+pub seven_digits : (v : Scale) (n : ℕ) → IsNumber v n → length (decimal n) ≤ 7
+seven_digits v n h = length-decimal-le 7 n (lit< tt) (omega (arith, h, numbers v)) (omega (arith, h, numbers v))
 
-pub session-back : (v : Version) (a b : ℕ) → HasStepText v (step.Session a b) → IsReadBack v (step_line v) step_words (step.Session a b)
+pub session-back : (v : Scale) (a b : ℕ) → HasStepText v (step.Session a b) → IsReadBack v (step_line v) step_words (step.Session a b)
 session-back v a b h = record {
   are = (lit< tt, (lit< tt, tt), numbers-two v a b h.0 h.1);
-  short = omega (arith, lines v, words-short 4 (codes "S") (decimal a ∷ decimal b ∷ []) (lit≤ tt) (four_digits v a h.0, (four_digits v b h.1, tt)));
+  short = omega (arith, lines v, words-short 7 (codes "S") (decimal a ∷ decimal b ∷ []) (lit≤ tt) (seven_digits v a h.0, (seven_digits v b h.1, tt)));
   back = rw (number-back v a h.0, number-back v b h.1) refl;
 }

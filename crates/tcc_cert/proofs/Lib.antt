@@ -23,3 +23,8 @@ pub mod CollectFacts
 pub mod OneText
 pub mod OneClaim
 pub mod Ends
+mod LargeOnward
+mod LargeReads
+mod LargeBack
+mod LargeOne
+mod WorkedLarge

@@ -1,9 +1,9 @@
 -- Keys, steps and links are read as they were written.
 use Rattle.std.proofs.Common.{◌≡◌, ℕ, ◌+◌, ◌<◌, ◌≤◌, Bool, true, false, not, cond, eqb, ltb, List, [], ◌∷◌, ◌++◌, length, map}
 use Rattle.std.proofs.Common.{All, Option, Some, None, Ok, refl, ap, ◌∙◌, arith, append_assoc, append-nil, inl, inr, codes}
-use Rattle.std.proofs.Common.{decimal, lit≤, lit<}
-use Rattle.tcc_cert.specs.declared.version.Version.{Version}
-use Rattle.tcc_cert.specs.Ranges.{ranges_of}
+use Rattle.std.proofs.Common.{decimal, lit<}
+use Rattle.tcc_cert.specs.declared.ranges.Scale.{Scale}
+use Rattle.tcc_cert.specs.Ranges.{ranges_at}
 use Rattle.std.specs.Prelude.{nat_le, position, option_map}
 use Rattle.std.specs.List.{AllByRecursion, prefix_len}
 use Rattle.std.proofs.lemmas.Bool.{cases_lt}
@@ -19,10 +19,10 @@ use Rattle.tcc_graph.specs.declared.link.Link.TheVariants as link
 use Rattle.tcc_cert.specs.Texts.{Words, words_text, line_text, lines_text, step_words, link_lines, IsNumber, IsCount, IsKey, HasStepText, HasLinkText}
 use Rattle.tcc_cert.specs.Reading.{head_of_step, step_line, head_line, words, repeated, with_walk, walk_of, link_at}
 use Rattle.tcc_cert.proofs.Items.{flat_map-map}
-use Rattle.tcc_cert.proofs.ReadingFacts.{IsAbove, AreWords, words-short, decimal-above, number_of-decimal}
+use Rattle.tcc_cert.proofs.ReadingFacts.{IsAbove, AreWords, words-first, later-one, decimal-above, number_of-decimal}
 use Rattle.tcc_cert.proofs.LinesBack.{at, then_ok, words-line, line-at, IsReadBack, IsReadAt, repeated-back}
 use Rattle.tcc_cert.proofs.RangeFacts.{counts, lines}
-use Rattle.tcc_cert.proofs.FormsBack.{IsPlainKey, number-word, number-back, four_digits, session-back}
+use Rattle.tcc_cert.proofs.FormsBack.{IsPlainKey, number-word, number-back, seven_digits, session-back}
 
 -- ---- keys
 
@@ -70,11 +70,7 @@ key-parts key h =
 
 -- ---- steps
 
--- a number has no more bytes than a key may have
-within : (v : Version) (n : ℕ) → IsNumber v n → length (decimal n) ≤ 32
-within v n h = omega (arith, four_digits v n h)
-
-pub reads-back : (v : Version) (a b : ℕ) (key : List ℕ) → HasStepText v (step.Reads a b key) → IsReadBack v (step_line v) step_words (step.Reads a b key)
+pub reads-back : (v : Scale) (a b : ℕ) (key : List ℕ) → HasStepText v (step.Reads a b key) → IsReadBack v (step_line v) step_words (step.Reads a b key)
 reads-back v a b key h =
     let k = key-parts key h.2 in
     let first = number-word v a h.0 in
@@ -85,12 +81,18 @@ reads-back v a b key h =
           omega (
             arith,
             lines v,
-            words-short 32 (codes "R") (decimal a ∷ decimal b ∷ key ∷ []) (lit≤ tt) (within v a h.0, (within v b h.1, (k.1, tt))),
+            words-first (codes "R") (decimal a ∷ decimal b ∷ key ∷ []),
+            later-one (decimal a) (decimal b ∷ key ∷ []),
+            later-one (decimal b) (key ∷ []),
+            later-one key [],
+            seven_digits v a h.0,
+            seven_digits v b h.1,
+            k.1,
           );
       back = rw (number-back v a h.0, number-back v b h.1, h.2) refl;
     }
 
-pub step-back : (v : Version) (s : Step) → HasStepText v s → IsReadBack v (step_line v) step_words s
+pub step-back : (v : Scale) (s : Step) → HasStepText v s → IsReadBack v (step_line v) step_words s
 step-back v (step.Session a b) h = session-back v a b h
 step-back v (step.Reads a b key) h = reads-back v a b key h
 
@@ -100,24 +102,24 @@ pub each : {X : Type 0} {P Q : X → Type 0} (xs : List X) → ((x : X) → P x 
 each [] f all = tt
 each (x ∷ xs) f all = (f x all.0, each xs f all.1)
 
-pub walk-at : (v : Version) (walk : List Step) → All (HasStepText v) walk → (n : ℕ) (rest : List ℕ)
+pub walk-at : (v : Scale) (walk : List Step) → All (HasStepText v) walk → (n : ℕ) (rest : List ℕ)
     → (end : ℕ) × (repeated (words v (step_line v)) (length walk) (at n (lines_text (map step_words walk) ++ rest)) ≡ Ok (walk, at end rest))
 walk-at v walk h n rest =
     rw (flat_map-map line_text step_words walk)
     (repeated-back (words v (step_line v)) (λ s. line_text (step_words s)) walk
     (each walk (λ s t. line-at v (step_line v) step_words s (step-back v s t)) (recursion_from_All (HasStepText v) walk h)) n rest)
 
-session-head : (v : Version) (a b : ℕ) → HasStepText v (step.Session a b) → head_line v (step_words (step.Session a b)) ≡ Ok (head_of_step (step.Session a b))
+session-head : (v : Scale) (a b : ℕ) → HasStepText v (step.Session a b) → head_line v (step_words (step.Session a b)) ≡ Ok (head_of_step (step.Session a b))
 session-head v a b h = rw (number-back v a h.0, number-back v b h.1) refl
 
-reads-head : (v : Version) (a b : ℕ) (key : List ℕ) → HasStepText v (step.Reads a b key)
+reads-head : (v : Scale) (a b : ℕ) (key : List ℕ) → HasStepText v (step.Reads a b key)
     → head_line v (step_words (step.Reads a b key)) ≡ Ok (head_of_step (step.Reads a b key))
 reads-head v a b key h = rw (number-back v a h.0, number-back v b h.1, h.2) refl
 
 abbrev derived_words : ℕ → ℕ → List ℕ → ℕ → ℕ → Words
 derived_words b a key c w = codes "D" ∷ decimal b ∷ decimal a ∷ key ∷ decimal c ∷ decimal w ∷ []
 
-derived-are : (v : Version) (b a : ℕ) (key : List ℕ) (c w : ℕ) → IsNumber v b → IsNumber v a → IsKey key → IsNumber v c → IsCount v w
+derived-are : (v : Scale) (b a : ℕ) (key : List ℕ) (c w : ℕ) → IsNumber v b → IsNumber v a → IsKey key → IsNumber v c → IsCount v w
     → AreWords (derived_words b a key c w)
 derived-are v b a key c w hb ha hk hc hw =
     let k = key-parts key hk in
@@ -137,19 +139,28 @@ derived-are v b a key c w hb ha hk hc hw =
       ),
     )
 
-derived-short : (v : Version) (b a : ℕ) (key : List ℕ) (c w : ℕ) → IsNumber v b → IsNumber v a → IsKey key → IsNumber v c → IsCount v w
-    → length (words_text (derived_words b a key c w)) ≤ (ranges_of v).line_bytes
+derived-short : (v : Scale) (b a : ℕ) (key : List ℕ) (c w : ℕ) → IsNumber v b → IsNumber v a → IsKey key → IsNumber v c → IsCount v w
+    → length (words_text (derived_words b a key c w)) ≤ (ranges_at v).line_bytes
 derived-short v b a key c w hb ha hk hc hw =
     let k = key-parts key hk in
-    let steps = length-decimal-le 32 w (lit< tt) (omega (arith, hw.limit, counts v)) (omega (arith, hw.limit, counts v)) in
+    let steps = length-decimal-le 7 w (lit< tt) (omega (arith, hw.limit, counts v)) (omega (arith, hw.limit, counts v)) in
     omega (
       arith,
       lines v,
-      words-short 32 (codes "D") (decimal b ∷ decimal a ∷ key ∷ decimal c ∷ decimal w ∷ []) (lit≤ tt)
-          (within v b hb, (within v a ha, (k.1, (within v c hc, (steps, tt))))),
+      words-first (codes "D") (decimal b ∷ decimal a ∷ key ∷ decimal c ∷ decimal w ∷ []),
+      later-one (decimal b) (decimal a ∷ key ∷ decimal c ∷ decimal w ∷ []),
+      later-one (decimal a) (key ∷ decimal c ∷ decimal w ∷ []),
+      later-one key (decimal c ∷ decimal w ∷ []),
+      later-one (decimal c) (decimal w ∷ []),
+      later-one (decimal w) [],
+      seven_digits v b hb,
+      seven_digits v a ha,
+      k.1,
+      seven_digits v c hc,
+      steps,
     )
 
-derived-head : (v : Version) (b a : ℕ) (key : List ℕ) (c w : ℕ) → IsNumber v b → IsNumber v a → IsKey key → IsNumber v c → IsCount v w
+derived-head : (v : Scale) (b a : ℕ) (key : List ℕ) (c w : ℕ) → IsNumber v b → IsNumber v a → IsKey key → IsNumber v c → IsCount v w
     → head_line v (derived_words b a key c w) ≡ Ok (record { link = link.Derived b a key c []; steps = w })
 derived-head v b a key c w hb ha hk hc hw =
     rw (
@@ -157,13 +168,13 @@ derived-head v b a key c w hb ha hk hc hw =
       number-back v a ha,
       hk,
       number-back v c hc,
-      number_of-decimal 1 (ranges_of v).count w hw.some hw.limit (omega (arith, hw.limit, counts v)),
+      number_of-decimal 1 (ranges_at v).count w hw.some hw.limit (omega (arith, hw.limit, counts v)),
     ) refl
 
 one_line : (line rest : List ℕ) → (line ++ []) ++ rest ≡ line ++ rest
 one_line line rest = ap (λ l. l ++ rest) (append-nil line)
 
-pub link-back : (v : Version) (l : Link) → HasLinkText v l → IsReadAt (link_at v) (λ m. lines_text (link_lines m)) l
+pub link-back : (v : Scale) (l : Link) → HasLinkText v l → IsReadAt (link_at v) (λ m. lines_text (link_lines m)) l
 link-back v (link.Session a b) h n rest =
     let back = session-back v a b h in
     let head = words-line v (head_line v) n (step_words (step.Session a b)) rest back.are back.short (head_of_step (step.Session a b)) (session-head v a b h) in

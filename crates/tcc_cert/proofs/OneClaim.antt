@@ -5,6 +5,7 @@ use Rattle.std.proofs.Common.{codes, decimal}
 use Rattle.tcc_graph.specs.declared.level.Level.{Level}
 use Rattle.tcc_graph.specs.declared.level.Level.TheVariants.{Causal, Atomic}
 use Rattle.tcc_cert.specs.declared.version.Version.{Version}
+use Rattle.tcc_cert.specs.declared.ranges.Scale.TheVariants.{Small}
 use Rattle.tcc_cert.specs.declared.version.Version.TheVariants.{One, Two}
 use Rattle.tcc_cert.specs.declared.ranges.TheConstants.{MAX_HEADER_BYTES}
 use Rattle.tcc_cert.specs.Ranges.{ranges_of}
@@ -42,10 +43,10 @@ use Rattle.tcc_cert.proofs.OneText.{repeated-text, link-from}
 abbrev pub IsRowText : ℕ → ℕ → List ℕ → Type 0
 IsRowText columns most row = (length row ≡ columns) × AllByRecursion (λ n. n ≤ most) row
 
-row-from : (v : Version) (columns most : ℕ) → most < 2 ^ 64 → IsReadFrom (words v (numbers_line columns most)) (IsRowText columns most)
+row-from : (v : Version) (columns most : ℕ) → most < 2 ^ 64 → IsReadFrom (words (Small v) (numbers_line columns most)) (IsRowText columns most)
     (λ row. line_text (numbers_words row))
 row-from v columns most small at after row e =
-    let line = words-text v (numbers_line columns most) at after row e in
+    let line = words-text (Small v) (numbers_line columns most) at after row e in
     let is = row-text columns most line.0 row small line.1 in
     ((is.0, is.1.high), line.2 ∙ ap (λ ws. line_text ws ++ after.bytes) is.1.text)
 
@@ -54,7 +55,7 @@ table-text : (v : Version) (rows : ℕ) (columns : ℕ → ℕ) (most : ℕ) (at
     → HasTableText rows columns most table × (at.bytes ≡ lines_text (table_lines table) ++ after.bytes)
 table-text v rows columns most at after table small e =
     let read =
-    numbered-text (λ i. words v (numbers_line (columns i) most)) (λ i. IsRowText (columns i) most) (λ row. line_text (numbers_words row))
+    numbered-text (λ i. words (Small v) (numbers_line (columns i) most)) (λ i. IsRowText (columns i) most) (λ row. line_text (numbers_words row))
     (λ i. row-from v (columns i) most small) 0 rows at after table e in
     let wide = from-widths columns 0 table (each-one (λ i. IsRowText (columns i) most) (λ i row. length row ≡ columns i) 0 table (λ i row p. p.0) read.0) in
     let capped =
@@ -72,14 +73,14 @@ cost-small : (v : Version) → (ranges_of v).cost < 2 ^ 64
 cost-small v = omega (arith, costs v)
 
 number-small : (v : Version) → (ranges_of v).number < 2 ^ 64
-number-small v = omega (arith, numbers v)
+number-small v = omega (arith, numbers (Small v))
 
 -- ---- marks
 
-mark-text : (v : Version) (wanted : List ℕ) (at after : Position) (done : Unit {0}) → words v (word_line wanted) at ≡ Ok (done, after)
+mark-text : (v : Version) (wanted : List ℕ) (at after : Position) (done : Unit {0}) → words (Small v) (word_line wanted) at ≡ Ok (done, after)
     → at.bytes ≡ line_text (wanted ∷ []) ++ after.bytes
 mark-text v wanted at after done e =
-    let line = words-text v (word_line wanted) at after done e in
+    let line = words-text (Small v) (word_line wanted) at after done e in
     line.2 ∙ ap (λ ws. line_text ws ++ after.bytes) (mark wanted line.0 done line.1)
 
 -- ---- claims of orders
@@ -87,7 +88,7 @@ mark-text v wanted at after done e =
 clocks-text : (v : Version) (level : Level) (n s : ℕ) (at after : Position) (clocks : List (List ℕ)) → clocks_at v level n s at ≡ Ok (clocks, after)
     → HasClocksText v level n s clocks × (at.bytes ≡ lines_text (clocks_lines level clocks) ++ after.bytes)
 clocks-text v Causal n s at after clocks e =
-    let first = then_parts (words v (word_line (codes "clocks")) at) _ (clocks, after) e in
+    let first = then_parts (words (Small v) (word_line (codes "clocks")) at) _ (clocks, after) e in
     let middle = mark-text v (codes "clocks") at first.0.1 first.0.0 first.1 in
     let table = table-text v n (λ t. s) (ranges_of v).number first.0.1 after clocks (number-small v) first.2 in (
       table.0,
@@ -103,16 +104,16 @@ pub record IsOrderText (v : Version) (level : Level) (n s : ℕ) (at : Position)
   pub clocks : List (List ℕ)
   pub is : claim.Order (record { version = v; level = level; order = order; sessions = s; clocks = clocks }) ≡ certificate
   pub count : length order ≡ n
-  pub numbers : All (IsNumber v) order
+  pub numbers : All (IsNumber (Small v)) order
   pub table : HasClocksText v level n s clocks
   pub text : at.bytes ≡ lines_text (numbers_words order ∷ (clocks_lines level clocks ++ (codes "end" ∷ []) ∷ []))
 
 order-read : (v : Version) (level : Level) (n s : ℕ) (at after : Position) (certificate : Certificate) → order_at v level n s at ≡ Ok (certificate, after)
     → after.bytes ≡ [] → IsOrderText v level n s at certificate
 order-read v level n s at after certificate e end =
-    let first = then_parts (words v (numbers_line n (ranges_of v).number) at) _ (certificate, after) e in
+    let first = then_parts (words (Small v) (numbers_line n (ranges_of v).number) at) _ (certificate, after) e in
     let second = then_parts (clocks_at v level n s first.0.1) _ (certificate, after) first.2 in
-    let third = then_parts (words v (word_line (codes "end")) second.0.1) _ (certificate, after) second.2 in
+    let third = then_parts (words (Small v) (word_line (codes "end")) second.0.1) _ (certificate, after) second.2 in
     let is = same_pair third.2 in
     let order = first.0.0 in
     let clocks = second.0.0 in
@@ -125,7 +126,7 @@ order-read v level n s at after certificate e end =
       clocks = second.0.0;
       is = is.0;
       count = row.0.0;
-      numbers = All-from_recursion (IsNumber v) order row.0.1;
+      numbers = All-from_recursion (IsNumber (Small v)) order row.0.1;
       table = table.0;
       text =
           row.1
@@ -142,7 +143,7 @@ pub record IsCycleText (v : Version) (level : Level) (n m l : ℕ) (at : Positio
   pub far : List (List ℕ)
   pub is : claim.Cycle (record { version = v; level = level; links = links; least = l; near = near; far = far }) ≡ certificate
   pub count : length links ≡ m
-  pub each_link : All (HasLinkText v) links
+  pub each_link : All (HasLinkText (Small v)) links
   pub near_table : HasTableText n (λ a. n) (ranges_of v).cost near
   pub far_table : HasTableText n (λ s. n - lowest v s) (ranges_of v).cost far
   pub text : at.bytes
@@ -151,17 +152,17 @@ pub record IsCycleText (v : Version) (level : Level) (n m l : ℕ) (at : Positio
 cycle-read : (v : Version) (level : Level) (n m l : ℕ) (at after : Position) (certificate : Certificate) → cycle_at v level n m l at ≡ Ok (certificate, after)
     → after.bytes ≡ [] → IsCycleText v level n m l at certificate
 cycle-read v level n m l at after certificate e end =
-    let first = then_parts (repeated (link_at v) m at) _ (certificate, after) e in
-    let second = then_parts (words v (word_line (codes "near")) first.0.1) _ (certificate, after) first.2 in
+    let first = then_parts (repeated (link_at (Small v)) m at) _ (certificate, after) e in
+    let second = then_parts (words (Small v) (word_line (codes "near")) first.0.1) _ (certificate, after) first.2 in
     let third = then_parts (table_at v n (λ a. n) (ranges_of v).cost second.0.1) _ (certificate, after) second.2 in
-    let fourth = then_parts (words v (word_line (codes "far")) third.0.1) _ (certificate, after) third.2 in
+    let fourth = then_parts (words (Small v) (word_line (codes "far")) third.0.1) _ (certificate, after) third.2 in
     let fifth = then_parts (table_at v n (λ s. n - lowest v s) (ranges_of v).cost fourth.0.1) _ (certificate, after) fourth.2 in
-    let sixth = then_parts (words v (word_line (codes "end")) fifth.0.1) _ (certificate, after) fifth.2 in
+    let sixth = then_parts (words (Small v) (word_line (codes "end")) fifth.0.1) _ (certificate, after) fifth.2 in
     let is = same_pair sixth.2 in
     let links = first.0.0 in
     let near = third.0.0 in
     let far = fifth.0.0 in
-    let all = repeated-text (link_at v) (HasLinkText v) (λ one. lines_text (link_lines one)) (link-from v) m at first.0.1 links first.1 in
+    let all = repeated-text (link_at (Small v)) (HasLinkText (Small v)) (λ one. lines_text (link_lines one)) (link-from (Small v)) m at first.0.1 links first.1 in
     let near_mark = mark-text v (codes "near") first.0.1 second.0.1 second.0.0 second.1 in
     let near_table = table-text v n (λ a. n) (ranges_of v).cost second.0.1 third.0.1 near (cost-small v) third.1 in
     let far_mark = mark-text v (codes "far") third.0.1 fourth.0.1 fourth.0.0 fourth.1 in
@@ -174,7 +175,7 @@ cycle-read v level n m l at after certificate e end =
       far = far;
       is = is.0;
       count = all.1;
-      each_link = All-from_recursion (HasLinkText v) links all.0;
+      each_link = All-from_recursion (HasLinkText (Small v)) links all.0;
       near_table = near_table.0;
       far_table = far_table.0;
       text =
@@ -191,42 +192,42 @@ cycle-read v level n m l at after certificate e end =
 -- ---- sizes
 
 abbrev pub IsSizesText : Version → Words → Sizes → Type 0
-IsSizesText v ws (Order n s) = IsCount v n × (s ≤ (ranges_of v).sessions) × (ws ≡ codes "order" ∷ decimal n ∷ decimal s ∷ [])
-IsSizesText v ws (Cycle n m l) = IsCount v n × IsCount v m × (l ≤ (ranges_of v).cost) × (ws ≡ codes "cycle" ∷ decimal n ∷ decimal m ∷ decimal l ∷ [])
+IsSizesText v ws (Order n s) = IsCount (Small v) n × (s ≤ (ranges_of v).sessions) × (ws ≡ codes "order" ∷ decimal n ∷ decimal s ∷ [])
+IsSizesText v ws (Cycle n m l) = IsCount (Small v) n × IsCount (Small v) m × (l ≤ (ranges_of v).cost) × (ws ≡ codes "cycle" ∷ decimal n ∷ decimal m ∷ decimal l ∷ [])
 
-order-sizes : (v : Version) (a b : List ℕ) (sizes : Sizes) → order_sizes v a b ≡ Ok sizes → IsSizesText v (codes "order" ∷ a ∷ b ∷ []) sizes
+order-sizes : (v : Version) (a b : List ℕ) (sizes : Sizes) → order_sizes (Small v) a b ≡ Ok sizes → IsSizesText v (codes "order" ∷ a ∷ b ∷ []) sizes
 order-sizes v a b sizes e =
-    let first = then_parts (count_of v a) _ sizes e in
+    let first = then_parts (count_of (Small v) a) _ sizes e in
     let second = then_parts (number_of 0 (ranges_of v).sessions b) _ sizes first.2 in
-    let n = count v a first.0 first.1 in
+    let n = count (Small v) a first.0 first.1 in
     let s = number-text 0 (ranges_of v).sessions b second.0 (omega (arith, sessions_are v)) second.1 in
     subst (IsSizesText v (codes "order" ∷ a ∷ b ∷ [])) (same_ok second.2) (n.1, s.high, two_equal (codes "order") n.0 s.text)
 
-cycle-sizes : (v : Version) (a b c : List ℕ) (sizes : Sizes) → cycle_sizes v a b c ≡ Ok sizes → IsSizesText v (codes "cycle" ∷ a ∷ b ∷ c ∷ []) sizes
+cycle-sizes : (v : Version) (a b c : List ℕ) (sizes : Sizes) → cycle_sizes (Small v) a b c ≡ Ok sizes → IsSizesText v (codes "cycle" ∷ a ∷ b ∷ c ∷ []) sizes
 cycle-sizes v a b c sizes e =
-    let first = then_parts (count_of v a) _ sizes e in
-    let second = then_parts (count_of v b) _ sizes first.2 in
+    let first = then_parts (count_of (Small v) a) _ sizes e in
+    let second = then_parts (count_of (Small v) b) _ sizes first.2 in
     let third = then_parts (number_of 0 (ranges_of v).cost c) _ sizes second.2 in
-    let n = count v a first.0 first.1 in
-    let m = count v b second.0 second.1 in
+    let n = count (Small v) a first.0 first.1 in
+    let m = count (Small v) b second.0 second.1 in
     let l = number-text 0 (ranges_of v).cost c third.0 (cost-small v) third.1 in
     subst (IsSizesText v (codes "cycle" ∷ a ∷ b ∷ c ∷ [])) (same_ok third.2) (n.1, m.1, l.high, three_equal (codes "cycle") n.0 m.0 l.text)
 
 sizes-choice : (v : Version) (word : List ℕ) (fields : Words) (sizes : Sizes)
-    → ((word ≡ codes "order") × (two_words (order_sizes v) fields ≡ Ok sizes)) ⊎ ((word ≡ codes "cycle") × (three_words (cycle_sizes v) fields ≡ Ok sizes))
+    → ((word ≡ codes "order") × (two_words (order_sizes (Small v)) fields ≡ Ok sizes)) ⊎ ((word ≡ codes "cycle") × (three_words (cycle_sizes (Small v)) fields ≡ Ok sizes))
     → IsSizesText v (word ∷ fields) sizes
 sizes-choice v word fields sizes (inl is) =
-    let parts = two_parts (order_sizes v) fields sizes is.1 in
+    let parts = two_parts (order_sizes (Small v)) fields sizes is.1 in
     rw (is.0, parts.2) (order-sizes v parts.0 parts.1 sizes parts.3)
 sizes-choice v word fields sizes (inr is) =
-    let parts = three_parts (cycle_sizes v) fields sizes is.1 in
+    let parts = three_parts (cycle_sizes (Small v)) fields sizes is.1 in
     rw (is.0, parts.3) (cycle-sizes v parts.0 parts.1 parts.2 sizes parts.4)
 
-sizes-text : (v : Version) (ws : Words) (sizes : Sizes) → sizes_line v ws ≡ Ok sizes → IsSizesText v ws sizes
+sizes-text : (v : Version) (ws : Words) (sizes : Sizes) → sizes_line (Small v) ws ≡ Ok sizes → IsSizesText v ws sizes
 sizes-text v [] sizes e = absurd cc
 sizes-text v (word ∷ fields) sizes e =
     sizes-choice v word fields sizes
-    (by_word-parts (codes "order") (codes "cycle") (two_words (order_sizes v)) (three_words (cycle_sizes v)) word fields sizes e)
+    (by_word-parts (codes "order") (codes "cycle") (two_words (order_sizes (Small v))) (three_words (cycle_sizes (Small v))) word fields sizes e)
 
 -- ---- first lines
 
@@ -270,7 +271,7 @@ order-whole : (v : Version) (level : Level) (n s : ℕ) (at : Position) (ws : Wo
 order-whole v level n s at ws text certificate sizes is o =
     let k : OrderClaim = record { version = v; level = level; order = o.order; sessions = s; clocks = o.clocks } in
     let has : HasOrderText k = record {
-      count = subst (IsCount v) (sym o.count) sizes.0;
+      count = subst (IsCount (Small v)) (sym o.count) sizes.0;
       numbers = o.numbers;
       sessions = sizes.1;
       clocks = subst (λ m. HasClocksText v level m s o.clocks) (sym o.count) o.table;
@@ -286,8 +287,8 @@ cycle-whole v level n m l at ws text certificate sizes is o =
     let rows : length o.near ≡ n = o.near_table.size.long in
     let k : CycleClaim = record { version = v; level = level; links = o.links; least = l; near = o.near; far = o.far } in
     let has : HasCycleText k = record {
-      count = subst (IsCount v) (sym rows) sizes.0;
-      steps = subst (IsCount v) (sym o.count) sizes.1;
+      count = subst (IsCount (Small v)) (sym rows) sizes.0;
+      steps = subst (IsCount (Small v)) (sym o.count) sizes.1;
       links = o.each_link;
       least = sizes.2;
       near = subst (λ many. HasTableText many (λ a. many) (ranges_of v).cost o.near) (sym rows) o.near_table;
@@ -306,7 +307,7 @@ claim-whole v level (Order n s) at after ws text certificate sizes is e end =
 claim-whole v level (Cycle n m l) at after ws text certificate sizes is e end =
     cycle-whole v level n m l at ws text certificate sizes is (cycle-read v level n m l at after certificate e end)
 
-no-bytes : (bytes : List ℕ) → eqb (length bytes) 0 ≡ true → bytes ≡ []
+pub no-bytes : (bytes : List ℕ) → eqb (length bytes) 0 ≡ true → bytes ≡ []
 no-bytes [] e = refl
 no-bytes (byte ∷ bytes) e = absurd (grind (arith, nat_tests))
 
@@ -319,8 +320,8 @@ one-text bytes certificate e =
     let header = then_parts (next MAX_HEADER_BYTES header_line (start_of bytes)) behind_header read.0 read.1 in
     let v = header.0.0.0 in
     let level = header.0.0.1 in
-    let sizes = then_parts (words v (sizes_line v) header.0.1) _ read.0 header.2 in
-    let line = words-text v (sizes_line v) header.0.1 sizes.0.1 sizes.0.0 sizes.1 in
+    let sizes = then_parts (words (Small v) (sizes_line (Small v)) header.0.1) _ read.0 header.2 in
+    let line = words-text (Small v) (sizes_line (Small v)) header.0.1 sizes.0.1 sizes.0.0 sizes.1 in
     let whole =
     claim-whole v level sizes.0.0 sizes.0.1 read.0.1 line.0 header.0.1.bytes read.0.0 (sizes-text v line.0 sizes.0.0 line.1) line.2 sizes.2
     (no-bytes read.0.1.bytes last.0) in

@@ -3,8 +3,8 @@ use Rattle.std.proofs.Common.{◌≡◌, ◌⊎◌, ℕ, zero, suc, ◌+◌, ◌
 use Rattle.std.proofs.Common.{eqb, ltb, List, [], ◌∷◌, ◌++◌, length, get_or, take, drop, map, flat_map, Option}
 use Rattle.std.proofs.Common.{None, Some, Result, Ok, Err, inl, inr, refl, sym, ap, subst, ◌∙◌, arith, append_assoc}
 use Rattle.std.proofs.Common.{append-nil, codes, decimal}
-use Rattle.tcc_cert.specs.declared.version.Version.{Version}
-use Rattle.tcc_cert.specs.Ranges.{ranges_of}
+use Rattle.tcc_cert.specs.declared.ranges.Scale.{Scale}
+use Rattle.tcc_cert.specs.Ranges.{ranges_at}
 use Rattle.std.specs.Prelude.{is_some}
 use Rattle.std.specs.List.{AllByRecursion, join_with_byte}
 use Rattle.std.specs.Str.{all_ascii_digits}
@@ -97,12 +97,12 @@ number-text least most word n small e =
     decimal-digits_value (numerals_by_value _ tells_all_ascii_digits) word parts.1 some (λ is_zero. lone-zero word parts.2 is_zero some) (omega arith) in
     record { low = omega arith; high = omega arith; text = sym spelled ∙ ap decimal is }
 
-pub number : (v : Version) (word : List ℕ) (n : ℕ) → transaction_of v word ≡ Ok n → IsNumeralOf 0 (ranges_of v).number word n
-number v word n e = number-text 0 (ranges_of v).number word n (omega (arith, numbers v)) e
+pub number : (v : Scale) (word : List ℕ) (n : ℕ) → transaction_of v word ≡ Ok n → IsNumeralOf 0 (ranges_at v).number word n
+number v word n e = number-text 0 (ranges_at v).number word n (omega (arith, numbers v)) e
 
-pub count : (v : Version) (word : List ℕ) (n : ℕ) → count_of v word ≡ Ok n → (word ≡ decimal n) × IsCount v n
+pub count : (v : Scale) (word : List ℕ) (n : ℕ) → count_of v word ≡ Ok n → (word ≡ decimal n) × IsCount v n
 count v word n e =
-    let is = number-text 1 (ranges_of v).count word n (omega (arith, counts v)) e in
+    let is = number-text 1 (ranges_at v).count word n (omega (arith, counts v)) e in
     (is.text, record { some = is.low; limit = is.high })
 
 key-fault : (o : Option NameFault) (key : List ℕ) (word : List ℕ) → cond (is_some o) (Err Word) (Ok word) ≡ Ok key → (o ≡ None) × (word ≡ key)
@@ -177,23 +177,23 @@ more_equal p q = cc
 
 -- ---- steps
 
-session : (version : Version) (u v : List ℕ) (s : Step) → session_of version u v ≡ Ok s → HasStepText version s × (codes "S" ∷ u ∷ v ∷ [] ≡ step_words s)
-session version u v s e =
-    let first = then_parts (transaction_of version u) _ s e in
-    let second = then_parts (transaction_of version v) _ s first.2 in
-    let a = number version u first.0 first.1 in
-    let b = number version v second.0 second.1 in
-    subst (λ t. HasStepText version t × (codes "S" ∷ u ∷ v ∷ [] ≡ step_words t)) (same_ok second.2) ((a.high, b.high), two_equal (codes "S") a.text b.text)
+session : (scale : Scale) (u v : List ℕ) (s : Step) → session_of scale u v ≡ Ok s → HasStepText scale s × (codes "S" ∷ u ∷ v ∷ [] ≡ step_words s)
+session scale u v s e =
+    let first = then_parts (transaction_of scale u) _ s e in
+    let second = then_parts (transaction_of scale v) _ s first.2 in
+    let a = number scale u first.0 first.1 in
+    let b = number scale v second.0 second.1 in
+    subst (λ t. HasStepText scale t × (codes "S" ∷ u ∷ v ∷ [] ≡ step_words t)) (same_ok second.2) ((a.high, b.high), two_equal (codes "S") a.text b.text)
 
-reads : (version : Version) (u v w : List ℕ) (s : Step) → reads_of version u v w ≡ Ok s → HasStepText version s × (codes "R" ∷ u ∷ v ∷ w ∷ [] ≡ step_words s)
-reads version u v w s e =
-    let first = then_parts (transaction_of version u) _ s e in
-    let second = then_parts (transaction_of version v) _ s first.2 in
+reads : (scale : Scale) (u v w : List ℕ) (s : Step) → reads_of scale u v w ≡ Ok s → HasStepText scale s × (codes "R" ∷ u ∷ v ∷ w ∷ [] ≡ step_words s)
+reads scale u v w s e =
+    let first = then_parts (transaction_of scale u) _ s e in
+    let second = then_parts (transaction_of scale v) _ s first.2 in
     let third = then_parts (key_of w) _ s second.2 in
-    let a = number version u first.0 first.1 in
-    let b = number version v second.0 second.1 in
+    let a = number scale u first.0 first.1 in
+    let b = number scale v second.0 second.1 in
     let k = key w third.0 third.1 in
-    subst (λ t. HasStepText version t × (codes "R" ∷ u ∷ v ∷ w ∷ [] ≡ step_words t)) (same_ok third.2)
+    subst (λ t. HasStepText scale t × (codes "R" ∷ u ∷ v ∷ w ∷ [] ≡ step_words t)) (same_ok third.2)
     ((a.high, b.high, k.1), three_equal (codes "R") a.text b.text k.0)
 
 pub choice : {A : Type 0} (t : Bool) (x y z : A) → cond t x y ≡ z → ((t ≡ true) × (x ≡ z)) ⊎ ((t ≡ false) × (y ≡ z))
@@ -213,23 +213,23 @@ by_word-parts {X} one other behind_one behind_other word fields x e = by (choice
         let parts = allowed_parts (same word other) Word (behind_other fields) x is.1 in
         inr (same-bytes word other parts.0, parts.1)
 
-step-choice : (version : Version) (word : List ℕ) (fields : Words) (s : Step)
-    → ((word ≡ codes "S") × (two_words (session_of version) fields ≡ Ok s)) ⊎ ((word ≡ codes "R") × (three_words (reads_of version) fields ≡ Ok s))
-    → HasStepText version s × (word ∷ fields ≡ step_words s)
-step-choice version word fields s (inl is) =
-    let parts = two_parts (session_of version) fields s is.1 in
-    let read = session version parts.0 parts.1 s parts.3 in
+step-choice : (scale : Scale) (word : List ℕ) (fields : Words) (s : Step)
+    → ((word ≡ codes "S") × (two_words (session_of scale) fields ≡ Ok s)) ⊎ ((word ≡ codes "R") × (three_words (reads_of scale) fields ≡ Ok s))
+    → HasStepText scale s × (word ∷ fields ≡ step_words s)
+step-choice scale word fields s (inl is) =
+    let parts = two_parts (session_of scale) fields s is.1 in
+    let read = session scale parts.0 parts.1 s parts.3 in
     (read.0, rw (is.0, parts.2) read.1)
-step-choice version word fields s (inr is) =
-    let parts = three_parts (reads_of version) fields s is.1 in
-    let read = reads version parts.0 parts.1 parts.2 s parts.4 in
+step-choice scale word fields s (inr is) =
+    let parts = three_parts (reads_of scale) fields s is.1 in
+    let read = reads scale parts.0 parts.1 parts.2 s parts.4 in
     (read.0, rw (is.0, parts.3) read.1)
 
-pub step-text : (version : Version) (ws : Words) (s : Step) → step_line version ws ≡ Ok s → HasStepText version s × (ws ≡ step_words s)
-step-text version [] s e = absurd cc
-step-text version (word ∷ fields) s e =
-    step-choice version word fields s
-    (by_word-parts (codes "S") (codes "R") (two_words (session_of version)) (three_words (reads_of version)) word fields s e)
+pub step-text : (scale : Scale) (ws : Words) (s : Step) → step_line scale ws ≡ Ok s → HasStepText scale s × (ws ≡ step_words s)
+step-text scale [] s e = absurd cc
+step-text scale (word ∷ fields) s e =
+    step-choice scale word fields s
+    (by_word-parts (codes "S") (codes "R") (two_words (session_of scale)) (three_words (reads_of scale)) word fields s e)
 
 -- ---- lines of numbers
 
@@ -292,10 +292,10 @@ next-text most form at after x e =
     let shown = judged-parts at (behind at first.0.0) (form first.0.0) x after first.2 in
     (first.0.0, shown.0, line-text most at.bytes first.0.0 line.0 ∙ ap (λ p. first.0.0 ++ 10 ∷ p.bytes) shown.1)
 
-pub words-text : {X : Type 0} (v : Version) (form : Words → Result X CertFaultKind) (at after : Position) (x : X) → words v form at ≡ Ok (x, after)
+pub words-text : {X : Type 0} (v : Scale) (form : Words → Result X CertFaultKind) (at after : Position) (x : X) → words v form at ≡ Ok (x, after)
     → (ws : Words) × (form ws ≡ Ok x) × (at.bytes ≡ line_text ws ++ after.bytes)
 words-text v form at after x e =
-    let read = next-text (ranges_of v).line_bytes (λ line. form (words_of line)) at after x e in
+    let read = next-text (ranges_at v).line_bytes (λ line. form (words_of line)) at after x e in
     let split = append_assoc (words_text (words_of read.0)) (10 ∷ []) after.bytes in
     (words_of read.0, read.1, read.2 ∙ ap (λ l. l ++ 10 ∷ after.bytes) (sym (words-back read.0)) ∙ sym split)
 
@@ -331,46 +331,46 @@ repeated-text read property text from n at after xs e =
 
 -- ---- links
 
-pub step-from : (version : Version) → IsReadFrom (words version (step_line version)) (HasStepText version) (λ s. line_text (step_words s))
-step-from version at after s e =
-    let line = words-text version (step_line version) at after s e in
-    let is = step-text version line.0 s line.1 in
+pub step-from : (scale : Scale) → IsReadFrom (words scale (step_line scale)) (HasStepText scale) (λ s. line_text (step_words s))
+step-from scale at after s e =
+    let line = words-text scale (step_line scale) at after s e in
+    let is = step-text scale line.0 s line.1 in
     (is.0, line.2 ∙ ap (λ ws. line_text ws ++ after.bytes) is.1)
 
 -- what the first line of a link says
-pub record IsDerivedHead (version : Version) (ws : Words) (head : Head) : Type 0 where
+pub record IsDerivedHead (scale : Scale) (ws : Words) (head : Head) : Type 0 where
   pub b : ℕ
   pub a : ℕ
   pub name : List ℕ
   pub c : ℕ
   pub w : ℕ
-  pub from : IsNumber version b
-  pub to : IsNumber version a
+  pub from : IsNumber scale b
+  pub to : IsNumber scale a
   pub is_key : IsKey name
-  pub reader : IsNumber version c
-  pub steps : IsCount version w
+  pub reader : IsNumber scale c
+  pub steps : IsCount scale w
   pub text : ws ≡ codes "D" ∷ decimal b ∷ decimal a ∷ name ∷ decimal c ∷ decimal w ∷ []
   pub is : head ≡ record { link = link.Derived b a name c []; steps = w }
 
-pub record IsStepHead (version : Version) (ws : Words) (head : Head) : Type 0 where
+pub record IsStepHead (scale : Scale) (ws : Words) (head : Head) : Type 0 where
   pub step_of : Step
-  pub has : HasStepText version step_of
+  pub has : HasStepText scale step_of
   pub text : ws ≡ step_words step_of
   pub is : head ≡ head_of_step step_of
 
-derived : (version : Version) (t u v w x : List ℕ) (head : Head) → derived_of version t u v w x ≡ Ok head
-    → IsDerivedHead version (codes "D" ∷ t ∷ u ∷ v ∷ w ∷ x ∷ []) head
-derived version t u v w x head e =
-    let first = then_parts (transaction_of version t) _ head e in
-    let second = then_parts (transaction_of version u) _ head first.2 in
+derived : (scale : Scale) (t u v w x : List ℕ) (head : Head) → derived_of scale t u v w x ≡ Ok head
+    → IsDerivedHead scale (codes "D" ∷ t ∷ u ∷ v ∷ w ∷ x ∷ []) head
+derived scale t u v w x head e =
+    let first = then_parts (transaction_of scale t) _ head e in
+    let second = then_parts (transaction_of scale u) _ head first.2 in
     let third = then_parts (key_of v) _ head second.2 in
-    let fourth = then_parts (transaction_of version w) _ head third.2 in
-    let fifth = then_parts (count_of version x) _ head fourth.2 in
-    let nb = number version t first.0 first.1 in
-    let na = number version u second.0 second.1 in
+    let fourth = then_parts (transaction_of scale w) _ head third.2 in
+    let fifth = then_parts (count_of scale x) _ head fourth.2 in
+    let nb = number scale t first.0 first.1 in
+    let na = number scale u second.0 second.1 in
     let k = key v third.0 third.1 in
-    let nc = number version w fourth.0 fourth.1 in
-    let nw = count version x fifth.0 fifth.1 in
+    let nc = number scale w fourth.0 fourth.1 in
+    let nw = count scale x fifth.0 fifth.1 in
     record {
       b = first.0;
       a = second.0;
@@ -386,61 +386,61 @@ derived version t u v w x head e =
       is = sym (same_ok fifth.2);
     }
 
-head-choice : (version : Version) (word : List ℕ) (fields : Words) (head : Head)
-    → ((same word (codes "D") ≡ true) × (five_words (derived_of version) fields ≡ Ok head))
-    ⊎ ((same word (codes "D") ≡ false) × ((step_line version (word ∷ fields) >>= λ s. Ok (head_of_step s)) ≡ Ok head))
-    → IsDerivedHead version (word ∷ fields) head ⊎ IsStepHead version (word ∷ fields) head
-head-choice version word fields head (inl is) =
-    let parts = five_parts (derived_of version) fields head is.1 in
-    inl (rw (same-bytes word (codes "D") is.0, parts.5) (derived version parts.0 parts.1 parts.2 parts.3 parts.4 head parts.6))
-head-choice version word fields head (inr is) =
-    let parts = then_parts (step_line version (word ∷ fields)) _ head is.1 in
-    let read = step-text version (word ∷ fields) parts.0 parts.1 in
+head-choice : (scale : Scale) (word : List ℕ) (fields : Words) (head : Head)
+    → ((same word (codes "D") ≡ true) × (five_words (derived_of scale) fields ≡ Ok head))
+    ⊎ ((same word (codes "D") ≡ false) × ((step_line scale (word ∷ fields) >>= λ s. Ok (head_of_step s)) ≡ Ok head))
+    → IsDerivedHead scale (word ∷ fields) head ⊎ IsStepHead scale (word ∷ fields) head
+head-choice scale word fields head (inl is) =
+    let parts = five_parts (derived_of scale) fields head is.1 in
+    inl (rw (same-bytes word (codes "D") is.0, parts.5) (derived scale parts.0 parts.1 parts.2 parts.3 parts.4 head parts.6))
+head-choice scale word fields head (inr is) =
+    let parts = then_parts (step_line scale (word ∷ fields)) _ head is.1 in
+    let read = step-text scale (word ∷ fields) parts.0 parts.1 in
     inr (record { step_of = parts.0; has = read.0; text = read.1; is = sym (same_ok parts.2) })
 
-pub head-text : (version : Version) (ws : Words) (head : Head) → head_line version ws ≡ Ok head → IsDerivedHead version ws head ⊎ IsStepHead version ws head
-head-text version [] head e = absurd cc
-head-text version (word ∷ fields) head e =
-    head-choice version word fields head (choice (same word (codes "D")) (five_words (derived_of version) fields) _ (Ok head) e)
+pub head-text : (scale : Scale) (ws : Words) (head : Head) → head_line scale ws ≡ Ok head → IsDerivedHead scale ws head ⊎ IsStepHead scale ws head
+head-text scale [] head e = absurd cc
+head-text scale (word ∷ fields) head e =
+    head-choice scale word fields head (choice (same word (codes "D")) (five_words (derived_of scale) fields) _ (Ok head) e)
 
 -- a link of one step
-one-step : (version : Version) (s : Step) (at mid after : Position) (l : Link) → HasStepText version s → at.bytes ≡ line_text (step_words s) ++ mid.bytes
-    → walk_of version (head_of_step s, mid) ≡ Ok (l, after)
-    → HasLinkText version l × (at.bytes ≡ lines_text (link_lines l) ++ after.bytes)
-one-step version (step.Session u v) at mid after l has text e =
+one-step : (scale : Scale) (s : Step) (at mid after : Position) (l : Link) → HasStepText scale s → at.bytes ≡ line_text (step_words s) ++ mid.bytes
+    → walk_of scale (head_of_step s, mid) ≡ Ok (l, after)
+    → HasLinkText scale l × (at.bytes ≡ lines_text (link_lines l) ++ after.bytes)
+one-step scale (step.Session u v) at mid after l has text e =
     let is = same_pair e in
-    subst (λ m. HasLinkText version m × (at.bytes ≡ lines_text (link_lines m) ++ after.bytes)) is.0 (
+    subst (λ m. HasLinkText scale m × (at.bytes ≡ lines_text (link_lines m) ++ after.bytes)) is.0 (
       has,
       text ∙ ap (λ t. t ++ mid.bytes) (sym (append-nil (line_text (step_words (step.Session u v)))))
           ∙ ap (λ p. lines_text (link_lines (link.Session u v)) ++ p.bytes) is.1,
     )
-one-step version (step.Reads u v k) at mid after l has text e =
+one-step scale (step.Reads u v k) at mid after l has text e =
     let is = same_pair e in
-    subst (λ m. HasLinkText version m × (at.bytes ≡ lines_text (link_lines m) ++ after.bytes)) is.0 (
+    subst (λ m. HasLinkText scale m × (at.bytes ≡ lines_text (link_lines m) ++ after.bytes)) is.0 (
       has,
       text ∙ ap (λ t. t ++ mid.bytes) (sym (append-nil (line_text (step_words (step.Reads u v k)))))
           ∙ ap (λ p. lines_text (link_lines (link.Reads u v k)) ++ p.bytes) is.1,
     )
 
-link-choice : (version : Version) (ws : Words) (head : Head) (at mid after : Position) (l : Link) → at.bytes ≡ line_text ws ++ mid.bytes
-    → walk_of version (head, mid) ≡ Ok (l, after) → IsDerivedHead version ws head ⊎ IsStepHead version ws head
-    → HasLinkText version l × (at.bytes ≡ lines_text (link_lines l) ++ after.bytes)
-link-choice version ws head at mid after l text e (inr h) =
-    one-step version h.step_of at mid after l h.has (text ∙ ap (λ words. line_text words ++ mid.bytes) h.text)
-    (subst (λ read. walk_of version (read, mid) ≡ Ok (l, after)) h.is e)
-link-choice version ws head at mid after l text e (inl h) =
+link-choice : (scale : Scale) (ws : Words) (head : Head) (at mid after : Position) (l : Link) → at.bytes ≡ line_text ws ++ mid.bytes
+    → walk_of scale (head, mid) ≡ Ok (l, after) → IsDerivedHead scale ws head ⊎ IsStepHead scale ws head
+    → HasLinkText scale l × (at.bytes ≡ lines_text (link_lines l) ++ after.bytes)
+link-choice scale ws head at mid after l text e (inr h) =
+    one-step scale h.step_of at mid after l h.has (text ∙ ap (λ words. line_text words ++ mid.bytes) h.text)
+    (subst (λ read. walk_of scale (read, mid) ≡ Ok (l, after)) h.is e)
+link-choice scale ws head at mid after l text e (inl h) =
     let derived_link : List Step → Link = λ walk. link.Derived h.b h.a h.name h.c walk in
     let walked =
-    then_parts (repeated (words version (step_line version)) h.w mid) (λ walk. Ok (derived_link walk.0, walk.1)) (l, after)
-    (subst (λ read. walk_of version (read, mid) ≡ Ok (l, after)) h.is e) in
+    then_parts (repeated (words scale (step_line scale)) h.w mid) (λ walk. Ok (derived_link walk.0, walk.1)) (l, after)
+    (subst (λ read. walk_of scale (read, mid) ≡ Ok (l, after)) h.is e) in
     let walk = walked.0.0 in
     let is = same_pair walked.2 in
     let read =
-    repeated-text (words version (step_line version)) (HasStepText version) (λ s. line_text (step_words s))
-    (step-from version) h.w mid walked.0.1 walk walked.1 in
+    repeated-text (words scale (step_line scale)) (HasStepText scale) (λ s. line_text (step_words s))
+    (step-from scale) h.w mid walked.0.1 walk walked.1 in
     let first : Words = codes "D" ∷ decimal h.b ∷ decimal h.a ∷ h.name ∷ decimal h.c ∷ decimal h.w ∷ [] in
-    let counted : IsCount version (length walk) = subst (IsCount version) (sym read.1) h.steps in
-    let has : HasLinkText version (derived_link walk) = (h.from, h.to, h.is_key, h.reader, counted, All-from_recursion (HasStepText version) walk read.0) in
+    let counted : IsCount scale (length walk) = subst (IsCount scale) (sym read.1) h.steps in
+    let has : HasLinkText scale (derived_link walk) = (h.from, h.to, h.is_key, h.reader, counted, All-from_recursion (HasStepText scale) walk read.0) in
     let whole : at.bytes ≡ lines_text (link_lines (derived_link walk)) ++ walked.0.1.bytes =
     text
     ∙ ap (λ words. line_text words ++ mid.bytes) h.text
@@ -448,11 +448,11 @@ link-choice version ws head at mid after l text e (inl h) =
     ∙ sym (append_assoc (line_text first) (lines_text (map step_words walk)) walked.0.1.bytes)
     ∙ ap (λ n. line_text (codes "D" ∷ decimal h.b ∷ decimal h.a ∷ h.name ∷ decimal h.c ∷ decimal n ∷ []) ++ lines_text (map step_words walk)
     ++ walked.0.1.bytes) (sym read.1) in
-    subst (λ m. HasLinkText version m × (at.bytes ≡ lines_text (link_lines m) ++ after.bytes)) is.0
+    subst (λ m. HasLinkText scale m × (at.bytes ≡ lines_text (link_lines m) ++ after.bytes)) is.0
     (has, whole ∙ ap (λ p. lines_text (link_lines (derived_link walk)) ++ p.bytes) is.1)
 
-pub link-from : (version : Version) → IsReadFrom (link_at version) (HasLinkText version) (λ l. lines_text (link_lines l))
-link-from version at after l e =
-    let head = then_parts (words version (head_line version) at) (walk_of version) (l, after) e in
-    let line = words-text version (head_line version) at head.0.1 head.0.0 head.1 in
-    link-choice version line.0 head.0.0 at head.0.1 after l line.2 head.2 (head-text version line.0 head.0.0 line.1)
+pub link-from : (scale : Scale) → IsReadFrom (link_at scale) (HasLinkText scale) (λ l. lines_text (link_lines l))
+link-from scale at after l e =
+    let head = then_parts (words scale (head_line scale) at) (walk_of scale) (l, after) e in
+    let line = words-text scale (head_line scale) at head.0.1 head.0.0 head.1 in
+    link-choice scale line.0 head.0.0 at head.0.1 after l line.2 head.2 (head-text scale line.0 head.0.0 line.1)

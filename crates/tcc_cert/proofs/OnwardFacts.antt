@@ -1,7 +1,7 @@
 -- Reading goes on from line to line, and never back.
 use Rattle.std.proofs.Common.{ℕ, zero, suc, ◌+◌, ◌≤◌, List, [], ◌∷◌, Result, Ok, Err, arith}
-use Rattle.tcc_cert.specs.declared.version.Version.{Version}
-use Rattle.tcc_cert.specs.Ranges.{ranges_of}
+use Rattle.tcc_cert.specs.declared.ranges.Scale.{Scale}
+use Rattle.tcc_cert.specs.Ranges.{ranges_at}
 use Rattle.tcc_cert.specs.declared.fault.CertFaultKind.{CertFaultKind}
 use Rattle.tcc_cert.specs.declared.reading.forms.Head.{Head}
 use Rattle.tcc_cert.specs.Outcomes.{reached}
@@ -42,17 +42,17 @@ onward-numbered read from (suc n) on at =
     _ (onward-numbered read (from + 1) n on first.1)
     (λ others. onward-ok (first.0 ∷ others.0) others.1 others.1 (omega arith)))
 
-pub onward-words : {X : Type 0} (version : Version) (form : Words → Result X CertFaultKind) (at : Position) → IsOnward at (words version form at)
-onward-words version form at = onward-next (ranges_of version).line_bytes (λ line. form (words_of line)) at
+pub onward-words : {X : Type 0} (scale : Scale) (form : Words → Result X CertFaultKind) (at : Position) → IsOnward at (words scale form at)
+onward-words scale form at = onward-next (ranges_at scale).line_bytes (λ line. form (words_of line)) at
 
-pub onward-steps : (version : Version) (count : ℕ) (at : Position) → IsOnward at (repeated (words version (step_line version)) count at)
-onward-steps version count at = onward-numbered (λ i. words version (step_line version)) 0 count (λ i position. onward-words version (step_line version) position) at
+pub onward-steps : (scale : Scale) (count : ℕ) (at : Position) → IsOnward at (repeated (words scale (step_line scale)) count at)
+onward-steps scale count at = onward-numbered (λ i. words scale (step_line scale)) 0 count (λ i position. onward-words scale (step_line scale) position) at
 
-pub onward-walk : (version : Version) (head : Head × Position) → IsOnward head.1 (walk_of version head)
-onward-walk version head =
-    onward-then head.1 (repeated (words version (step_line version)) head.0.steps head.1) _ (onward-steps version head.0.steps head.1)
+pub onward-walk : (scale : Scale) (head : Head × Position) → IsOnward head.1 (walk_of scale head)
+onward-walk scale head =
+    onward-then head.1 (repeated (words scale (step_line scale)) head.0.steps head.1) _ (onward-steps scale head.0.steps head.1)
     (λ walk. onward-ok (with_walk head.0.link walk.0) walk.1 walk.1 (omega arith))
 
-pub onward-link : (version : Version) (at : Position) → IsOnward at (link_at version at)
-onward-link version at =
-    onward-then at (words version (head_line version) at) (walk_of version) (onward-words version (head_line version) at) (onward-walk version)
+pub onward-link : (scale : Scale) (at : Position) → IsOnward at (link_at scale at)
+onward-link scale at =
+    onward-then at (words scale (head_line scale) at) (walk_of scale) (onward-words scale (head_line scale) at) (onward-walk scale)

@@ -8,6 +8,7 @@ use Rattle.tcc_graph.specs.declared.level.Level.TheVariants.{Causal, Atomic}
 use Rattle.tcc_graph.specs.declared.link.Link.{Link}
 use Rattle.tcc_cert.specs.declared.ranges.TheConstants.{MAX_HEADER_BYTES}
 use Rattle.tcc_cert.specs.declared.version.Version.{Version}
+use Rattle.tcc_cert.specs.declared.ranges.Scale.TheVariants.{Small}
 use Rattle.tcc_cert.specs.declared.fault.CertFault.{CertFault}
 use Rattle.tcc_cert.specs.declared.fault.CertFaultKind.{CertFaultKind}
 use Rattle.tcc_cert.specs.declared.fault.CertFaultKind.TheVariants.{Trailing}
@@ -72,8 +73,8 @@ told-rows {X} form read behind (suc n) from at front go later =
     (later (first.0 ∷ rows) after (ap suc long)))))))
 
 told-end : (front : List Part) (version : Version) (c : Certificate) (at : Position) → parts_of c ≡ front
-    → IsTold front (words version (word_line (codes "end")) at >>= λ end. Ok (c, end.1)) (end_parts version at)
-told-end front version c at is = told-behind front (words version (word_line (codes "end")) at) _ _ (λ end. (is ∙ sym (append-nil front), refl, refl))
+    → IsTold front (words (Small version) (word_line (codes "end")) at >>= λ end. Ok (c, end.1)) (end_parts version at)
+told-end front version c at is = told-behind front (words (Small version) (word_line (codes "end")) at) _ _ (λ end. (is ∙ sym (append-nil front), refl, refl))
 
 -- what stands before the clocks
 abbrev head_of : Version → Level → ℕ → List ℕ → OrderHead
@@ -81,17 +82,17 @@ head_of version level s order = record { version = version; level = level; order
 
 told-clocks : (version : Version) (level : Level) (n s : ℕ) (order : List ℕ) (at : Position)
     → IsTold (part.Order (head_of version level s order) ∷ [])
-    (clocks_at version level n s at >>= λ clocks. words version (word_line (codes "end")) clocks.1 >>= λ end. Ok
+    (clocks_at version level n s at >>= λ clocks. words (Small version) (word_line (codes "end")) clocks.1 >>= λ end. Ok
     (claim.Order (with_clocks (head_of version level s order) clocks.0), end.1)) (order_rest version level n s at)
 told-clocks version Causal n s order at =
     let head = head_of version Causal s order in
     let front = part.Order head ∷ [] in
-    let row : ℕ → Position → Reads (List ℕ) = λ t. words version (numbers_line s (ranges_of version).number) in
+    let row : ℕ → Position → Reads (List ℕ) = λ t. words (Small version) (numbers_line s (ranges_of version).number) in
     let end : List (List ℕ) × Position → Reads Certificate =
-    λ clocks. words version (word_line (codes "end")) clocks.1 >>= λ end. Ok (claim.Order (with_clocks head clocks.0), end.1) in
+    λ clocks. words (Small version) (word_line (codes "end")) clocks.1 >>= λ end. Ok (claim.Order (with_clocks head clocks.0), end.1) in
     subst (λ r. IsTold front r (order_rest version Causal n s at))
-    (sym (bind-assoc (words version (word_line (codes "clocks")) at) (λ mark. numbered row 0 n mark.1) end))
-    (told-behind front (words version (word_line (codes "clocks")) at) (λ mark. numbered row 0 n mark.1 >>= end)
+    (sym (bind-assoc (words (Small version) (word_line (codes "clocks")) at) (λ mark. numbered row 0 n mark.1) end))
+    (told-behind front (words (Small version) (word_line (codes "clocks")) at) (λ mark. numbered row 0 n mark.1 >>= end)
     (λ mark. rows_then part.Clocks row (end_parts version) 0 n mark.1)
     (λ mark. told-rows part.Clocks row (end_parts version) n 0 mark.1 front end
     (λ rows after long. told-end (front ++ map part.Clocks rows) version (claim.Order (with_clocks head rows)) after refl)))
@@ -102,9 +103,9 @@ told-clocks version Atomic n s order at =
 told-order : (version : Version) (level : Level) (n s : ℕ) (at : Position) → IsTold [] (order_at version level n s at) (order_parts version level n s at)
 told-order version level n s at =
     let go : List ℕ × Position → Reads Certificate =
-    λ order. clocks_at version level n s order.1 >>= λ clocks. words version (word_line (codes "end")) clocks.1 >>= λ end. Ok
+    λ order. clocks_at version level n s order.1 >>= λ clocks. words (Small version) (word_line (codes "end")) clocks.1 >>= λ end. Ok
     (claim.Order (with_clocks (head_of version level s order.0) clocks.0), end.1) in
-    told-behind [] (words version (numbers_line n (ranges_of version).number) at) go
+    told-behind [] (words (Small version) (numbers_line n (ranges_of version).number) at) go
     (λ order. after_part (part.Order (head_of version level s order.0)) (order_rest version level n s order.1))
     (λ order. told-part [] (part.Order (head_of version level s order.0)) (go order) (order_rest version level n s order.1)
     (told-clocks version level n s order.0 order.1))
@@ -113,25 +114,25 @@ told-cycle : (version : Version) (level : Level) (n count least : ℕ) (at : Pos
     → IsTold [] (cycle_at version level n count least at) (cycle_parts version level n count least at)
 told-cycle version level n count least at =
     let head : CycleHead = record { version = version; level = level; count = n; links = count; least = least } in
-    let near_row : ℕ → Position → Reads (List ℕ) = λ a. words version (numbers_line n (ranges_of version).cost) in
-    let far_row : ℕ → Position → Reads (List ℕ) = λ s. words version (numbers_line (n - lowest version s) (ranges_of version).cost) in
+    let near_row : ℕ → Position → Reads (List ℕ) = λ a. words (Small version) (numbers_line n (ranges_of version).cost) in
+    let far_row : ℕ → Position → Reads (List ℕ) = λ s. words (Small version) (numbers_line (n - lowest version s) (ranges_of version).cost) in
     let end : List Link → List (List ℕ) → List (List ℕ) × Position → Reads Certificate =
-    λ links near far. words version (word_line (codes "end")) far.1 >>= λ end. Ok (claim.Cycle (with_tables head links near far.0), end.1) in
+    λ links near far. words (Small version) (word_line (codes "end")) far.1 >>= λ end. Ok (claim.Cycle (with_tables head links near far.0), end.1) in
     let far : List Link → List (List ℕ) × Position → Reads Certificate =
-    λ links near. words version (word_line (codes "far")) near.1 >>= λ mark. numbered far_row 0 n mark.1 >>= end links near.0 in
+    λ links near. words (Small version) (word_line (codes "far")) near.1 >>= λ mark. numbered far_row 0 n mark.1 >>= end links near.0 in
     let behind_links : List Link × Position → Reads Certificate =
-    λ links. words version (word_line (codes "near")) links.1 >>= λ mark. numbered near_row 0 n mark.1 >>= far links.0 in
+    λ links. words (Small version) (word_line (codes "near")) links.1 >>= λ mark. numbered near_row 0 n mark.1 >>= far links.0 in
     let claim_part = part.Cycle head in
-    told-part [] claim_part (repeated (link_at version) count at >>= behind_links) (link_rows version n 0 count at)
-    (told-rows part.Link (λ i. link_at version) (near_parts version n) count 0 at (claim_part ∷ []) behind_links
+    told-part [] claim_part (repeated (link_at (Small version)) count at >>= behind_links) (link_rows version n 0 count at)
+    (told-rows part.Link (λ i. link_at (Small version)) (near_parts version n) count 0 at (claim_part ∷ []) behind_links
     (λ links behind many.
     let first = (claim_part ∷ []) ++ map part.Link links in
-    told-behind first (words version (word_line (codes "near")) behind) (λ mark. numbered near_row 0 n mark.1 >>= far links)
+    told-behind first (words (Small version) (word_line (codes "near")) behind) (λ mark. numbered near_row 0 n mark.1 >>= far links)
     (λ mark. rows_then part.Near near_row (far_parts version n) 0 n mark.1)
     (λ mark. told-rows part.Near near_row (far_parts version n) n 0 mark.1 first (far links)
     (λ near after long.
     let front = first ++ map part.Near near in
-    told-behind front (words version (word_line (codes "far")) after) (λ mark. numbered far_row 0 n mark.1 >>= end links near)
+    told-behind front (words (Small version) (word_line (codes "far")) after) (λ mark. numbered far_row 0 n mark.1 >>= end links near)
     (λ mark. rows_then part.Far far_row (end_parts version) 0 n mark.1)
     (λ mark. told-rows part.Far far_row (end_parts version) n 0 mark.1 front (end links near)
     (λ far last wide. told-end (front ++ map part.Far far) version (claim.Cycle (with_tables head links near far)) last
@@ -146,7 +147,7 @@ told-claim version level (Cycle n count least) at = told-cycle version level n c
 pub told-whole : (at : Position) → IsTold [] (certificate_at at) (whole_parts at)
 told-whole at =
     told-behind [] (next MAX_HEADER_BYTES header_line at) behind_header parts_behind
-    (λ header. told-behind [] (words header.0.0 (sizes_line header.0.0) header.1) (λ sizes. claim_at header.0.0 header.0.1 sizes.0 sizes.1)
+    (λ header. told-behind [] (words (Small header.0.0) (sizes_line (Small header.0.0)) header.1) (λ sizes. claim_at header.0.0 header.0.1 sizes.0 sizes.1)
     (λ sizes. claim_parts header.0.0 header.0.1 sizes.0 sizes.1)
     (λ sizes. told-claim header.0.0 header.0.1 sizes.0 sizes.1))
 

@@ -2,23 +2,28 @@
 use Rattle.std.proofs.Common.{◌≤◌, lit≤}
 use Rattle.tcc_cert.specs.declared.version.Version.{Version}
 use Rattle.tcc_cert.specs.declared.version.Version.TheVariants.{One, Two}
-use Rattle.tcc_cert.specs.Ranges.{ranges_of}
+use Rattle.tcc_cert.specs.declared.ranges.Scale.{Scale}
+use Rattle.tcc_cert.specs.declared.ranges.Scale.TheVariants.{Small, Large}
+use Rattle.tcc_cert.specs.Ranges.{ranges_at, ranges_of}
 
 pub costs : (v : Version) → (ranges_of v).cost ≤ 16781312
 costs One = lit≤ tt
 costs Two = lit≤ tt
 
-pub numbers : (v : Version) → (ranges_of v).number ≤ 4095
-numbers One = lit≤ tt
-numbers Two = lit≤ tt
+pub numbers : (v : Scale) → (ranges_at v).number ≤ 1048575
+numbers (Small One) = lit≤ tt
+numbers (Small Two) = lit≤ tt
+numbers Large = lit≤ tt
 
-pub counts : (v : Version) → (ranges_of v).count ≤ 4096
-counts One = lit≤ tt
-counts Two = lit≤ tt
+pub counts : (v : Scale) → (ranges_at v).count ≤ 1048576
+counts (Small One) = lit≤ tt
+counts (Small Two) = lit≤ tt
+counts Large = lit≤ tt
 
-pub lines : (v : Version) → 8191 ≤ (ranges_of v).line_bytes
-lines One = lit≤ tt
-lines Two = lit≤ tt
+pub lines : (v : Scale) → 127 ≤ (ranges_at v).line_bytes
+lines (Small One) = lit≤ tt
+lines (Small Two) = lit≤ tt
+lines Large = lit≤ tt
 
 pub numbers_costs : (v : Version) → (ranges_of v).number ≤ (ranges_of v).cost
 numbers_costs One = lit≤ tt

@@ -100,6 +100,13 @@ pub words-short : (most : ℕ) (word : List ℕ) (words : Words) → length word
 words-short most word words first short =
     omega (arith, first, length-append word (later words), later-short most words short, mul-suc (most + 1) (length words))
 
+-- the same word by word
+pub words-first : (word : List ℕ) (words : Words) → length (words_text (word ∷ words)) ≡ length word + length (later words)
+words-first word words = length-append word (later words)
+
+pub later-one : (word : List ℕ) (words : Words) → length (later (word ∷ words)) ≡ 1 + length word + length (later words)
+later-one word words = omega (arith, length-append word (later words))
+
 -- ---- numbers
 
 pub decimal-above : (n : ℕ) → n < 2 ^ 64 → IsAbove 32 (decimal n)

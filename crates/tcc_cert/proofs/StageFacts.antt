@@ -5,6 +5,7 @@ use Rattle.tcc_graph.specs.declared.level.Level.{Level}
 use Rattle.tcc_graph.specs.declared.level.Level.TheVariants.{Causal, Atomic}
 use Rattle.tcc_cert.specs.declared.ranges.TheConstants.{MAX_HEADER_BYTES}
 use Rattle.tcc_cert.specs.declared.version.Version.{Version}
+use Rattle.tcc_cert.specs.declared.ranges.Scale.TheVariants.{Small}
 use Rattle.tcc_cert.specs.declared.fault.CertFault.{CertFault}
 use Rattle.tcc_cert.specs.declared.fault.CertFaultKind.TheVariants.{Trailing}
 use Rattle.tcc_graph.specs.declared.link.Link.{Link}
@@ -47,19 +48,19 @@ onward-rows form read behind from (suc n) on later at =
     onward-then at (read from at) _ (on from at) (λ row. onward-rows form read behind (from + 1) n on later row.1)
 
 pub onward-end : (version : Version) (at : Position) → at.line ≤ (end_parts version at).line
-onward-end version at = onward-then at (words version (word_line (codes "end")) at) _ (onward-words version (word_line (codes "end")) at) (λ end. omega arith)
+onward-end version at = onward-then at (words (Small version) (word_line (codes "end")) at) _ (onward-words (Small version) (word_line (codes "end")) at) (λ end. omega arith)
 
 onward-table_rows : (version : Version) (table : TableShape) (from left : ℕ) → ((p : Position) → p.line ≤ (behind_table version table p).line) → (at : Position)
     → at.line ≤ (table_rows version table from left at).line
 onward-table_rows version table from left later at =
-    onward-rows (part_of table) (λ row. words version (numbers_line (columns_in version table row) (most_in version table)))
+    onward-rows (part_of table) (λ row. words (Small version) (numbers_line (columns_in version table row) (most_in version table)))
     (behind_table version table) from left
-    (λ row p. onward-words version (numbers_line (columns_in version table row) (most_in version table)) p) later at
+    (λ row p. onward-words (Small version) (numbers_line (columns_in version table row) (most_in version table)) p) later at
 
 pub onward-mark : (version : Version) (word : List ℕ) (behind : Position → Parts) → ((p : Position) → p.line ≤ (behind p).line) → (at : Position)
-    → at.line ≤ (words version (word_line word) at >>> λ mark. behind mark.1).line
+    → at.line ≤ (words (Small version) (word_line word) at >>> λ mark. behind mark.1).line
 onward-mark version word behind later at =
-    onward-then at (words version (word_line word) at) _ (onward-words version (word_line word) at) (λ mark. later mark.1)
+    onward-then at (words (Small version) (word_line word) at) _ (onward-words (Small version) (word_line word) at) (λ mark. later mark.1)
 
 pub onward-far : (version : Version) (n : ℕ) (at : Position) → at.line ≤ (far_parts version n at).line
 onward-far version n at = onward-mark version (codes "far") (far_rows version n 0 n) (onward-table_rows version (shape.Far n) 0 n (onward-end version)) at
@@ -78,7 +79,7 @@ onward-marked version table at =
 
 pub onward-links : (version : Version) (n from left : ℕ) (at : Position) → at.line ≤ (link_rows version n from left at).line
 onward-links version n from left at =
-    onward-rows part.Link (λ i. link_at version) (near_parts version n) from left (λ i p. onward-link version p) (onward-marked version (shape.Near n)) at
+    onward-rows part.Link (λ i. link_at (Small version)) (near_parts version n) from left (λ i p. onward-link (Small version) p) (onward-marked version (shape.Near n)) at
 
 pub onward-rest : (version : Version) (level : Level) (n s : ℕ) (at : Position) → at.line ≤ (order_rest version level n s at).line
 onward-rest version Causal n s at = onward-marked version (shape.Clocks n s) at
@@ -86,13 +87,13 @@ onward-rest version Atomic n s at = onward-end version at
 
 pub onward-claim : (version : Version) (level : Level) (sizes : Sizes) (at : Position) → at.line ≤ (claim_parts version level sizes at).line
 onward-claim version level (Order n s) at =
-    onward-then at (words version (numbers_line n (ranges_of version).number) at) _ (onward-words version (numbers_line n (ranges_of version).number) at)
+    onward-then at (words (Small version) (numbers_line n (ranges_of version).number) at) _ (onward-words (Small version) (numbers_line n (ranges_of version).number) at)
     (λ order. onward-rest version level n s order.1)
 onward-claim version level (Cycle n count least) at = onward-links version n 0 count at
 
 pub onward-behind : (header : (Version × Level) × Position) → header.1.line ≤ (parts_behind header).line
 onward-behind header =
-    onward-then header.1 (words header.0.0 (sizes_line header.0.0) header.1) _ (onward-words header.0.0 (sizes_line header.0.0) header.1)
+    onward-then header.1 (words (Small header.0.0) (sizes_line (Small header.0.0)) header.1) _ (onward-words (Small header.0.0) (sizes_line (Small header.0.0)) header.1)
     (λ sizes. onward-claim header.0.0 header.0.1 sizes.0 sizes.1)
 
 onward-whole : (at : Position) → at.line ≤ (whole_parts at).line
@@ -138,30 +139,30 @@ part-then remaining at {after} {x} read behind result new is on taken =
 -- the sizes of a claim were read
 pub sizes-then : {R : Type 0} (remaining : R → Option (List ℕ)) (version : Version) (level : Level) (at : Position) {after : Position} {sizes : Sizes}
     (result : Result (Part × Stage) CertFault) (new : Input R)
-    → words version (sizes_line version) at ≡ Ok (sizes, after) → TakesStep remaining after.line (claim_parts version level sizes after) result new
+    → words (Small version) (sizes_line (Small version)) at ≡ Ok (sizes, after) → TakesStep remaining after.line (claim_parts version level sizes after) result new
     → TakesStep remaining at.line (parts_behind ((version, level), at)) result new
 sizes-then remaining version level at result new is taken =
-    part-then remaining at (words version (sizes_line version) at) (λ sizes. claim_parts version level sizes.0 sizes.1) result new is
-    (onward-at (words version (sizes_line version) at) (onward-words version (sizes_line version) at) is) taken
+    part-then remaining at (words (Small version) (sizes_line (Small version)) at) (λ sizes. claim_parts version level sizes.0 sizes.1) result new is
+    (onward-at (words (Small version) (sizes_line (Small version)) at) (onward-words (Small version) (sizes_line (Small version)) at) is) taken
 
 -- the line before the rows had a fault, or was read, and what comes behind it is given
 pub mark-faults : {F : Type 0} (version : Version) (word : List ℕ) (behind : Position → Parts) (at : Position) (fault : CertFault)
-    → ((p : Position) → p.line ≤ (behind p).line) → Faults F at (words version (word_line word) at) fault
-    → FaultsIn F at.line (words version (word_line word) at >>> λ mark. behind mark.1) fault
+    → ((p : Position) → p.line ≤ (behind p).line) → Faults F at (words (Small version) (word_line word) at) fault
+    → FaultsIn F at.line (words (Small version) (word_line word) at >>> λ mark. behind mark.1) fault
 mark-faults version word behind at fault later faults =
-    part-faults (words version (word_line word) at) (λ mark. behind mark.1) fault (λ mark. later mark.1) faults
+    part-faults (words (Small version) (word_line word) at) (λ mark. behind mark.1) fault (λ mark. later mark.1) faults
 
 pub mark-then : {R : Type 0} (remaining : R → Option (List ℕ)) (version : Version) (word : List ℕ) (behind : Position → Parts)
     (at : Position) {after : Position} {done : Unit {0}} (result : Result (Part × Stage) CertFault) (new : Input R)
-    → words version (word_line word) at ≡ Ok (done, after) → TakesStep remaining after.line (behind after) result new
-    → TakesStep remaining at.line (words version (word_line word) at >>> λ mark. behind mark.1) result new
+    → words (Small version) (word_line word) at ≡ Ok (done, after) → TakesStep remaining after.line (behind after) result new
+    → TakesStep remaining at.line (words (Small version) (word_line word) at >>> λ mark. behind mark.1) result new
 mark-then remaining version word behind at result new is taken =
-    part-then remaining at (words version (word_line word) at) (λ mark. behind mark.1) result new is
-    (onward-at (words version (word_line word) at) (onward-words version (word_line word) at) is) taken
+    part-then remaining at (words (Small version) (word_line word) at) (λ mark. behind mark.1) result new is
+    (onward-at (words (Small version) (word_line word) at) (onward-words (Small version) (word_line word) at) is) taken
 
 -- one row more
 pub row-more : (version : Version) (table : TableShape) (from left n : ℕ) (at after : Position) (row : List ℕ) → n ≡ suc left
-    → words version (numbers_line (columns_in version table from) (most_in version table)) at ≡ Ok (row, after)
+    → words (Small version) (numbers_line (columns_in version table from) (most_in version table)) at ≡ Ok (row, after)
     → table_rows version table from n at ≡ after_part (part_of table row) (table_rows version table (from + 1) left after)
 row-more version table from left n at after row more is = rw more (rw is refl)
 
@@ -171,25 +172,25 @@ row-first (shape.Near n) row ahead rest is = is
 row-first (shape.Far n) row ahead rest is = is
 
 pub row-faults : {F : Type 0} (version : Version) (table : TableShape) (from left n : ℕ) (at : Position) (fault : CertFault) → n ≡ suc left
-    → Faults F at (words version (numbers_line (columns_in version table from) (most_in version table)) at) fault
+    → Faults F at (words (Small version) (numbers_line (columns_in version table from) (most_in version table)) at) fault
     → FaultsIn F at.line (table_rows version table from n at) fault
 row-faults version table from left n at fault more faults =
-    rw more (part-faults (words version (numbers_line (columns_in version table from) (most_in version table)) at) _ fault
+    rw more (part-faults (words (Small version) (numbers_line (columns_in version table from) (most_in version table)) at) _ fault
     (λ row. onward-table version table (from + 1) left row.1) faults)
 
 -- one link more
-pub link-more : (version : Version) (n from left m : ℕ) (at after : Position) (one : Link) → m ≡ suc left → link_at version at ≡ Ok (one, after)
+pub link-more : (version : Version) (n from left m : ℕ) (at after : Position) (one : Link) → m ≡ suc left → link_at (Small version) at ≡ Ok (one, after)
     → link_rows version n from m at ≡ after_part (part.Link one) (link_rows version n (from + 1) left after)
 link-more version n from left m at after one more is = rw more (rw is refl)
 
 pub link-faults : {F : Type 0} (version : Version) (n from left m : ℕ) (at : Position) (fault : CertFault) → m ≡ suc left
-    → Faults F at (link_at version at) fault → FaultsIn F at.line (link_rows version n from m at) fault
+    → Faults F at (link_at (Small version) at) fault → FaultsIn F at.line (link_rows version n from m at) fault
 link-faults version n from left m at fault more faults =
-    rw more (part-faults (link_at version at) _ fault (λ one. onward-links version n (from + 1) left one.1) faults)
+    rw more (part-faults (link_at (Small version) at) _ fault (λ one. onward-links version n (from + 1) left one.1) faults)
 
 -- the line `end` was read, and something stands behind it, or the reader failed
 pub end-faults : {R : Type 0} (version : Version) (at after : Position) (done : Unit {0}) (fault : CertFault) (new : Input R)
-    → words version (word_line (codes "end")) at ≡ Ok (done, after) → at.line ≤ after.line
+    → words (Small version) (word_line (codes "end")) at ≡ Ok (done, after) → at.line ≤ after.line
     → Ends after (Err fault) new → FaultsIn (HasFailed new) at.line (end_parts version at) fault
 end-faults version at after done fault new is on (line, inl more) = inl (rw (is, some-left after.bytes more.1, line, more.0) refl)
 end-faults version at after done fault new is on (line, inr failed) =

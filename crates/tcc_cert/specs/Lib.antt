@@ -7,6 +7,8 @@ pub mod Texts
 pub mod Begun
 pub mod Given
 pub mod Reading
+pub mod LargeTexts
+pub mod LargeReading
 pub mod Outcomes
 pub mod Parts
 pub mod Ahead

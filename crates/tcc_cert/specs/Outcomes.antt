@@ -4,6 +4,8 @@ use Rattle.tcc_cert.specs.declared.fault.CertFault.{CertFault}
 use Rattle.tcc_cert.specs.declared.fault.CertFaultKind.{CertFaultKind}
 use Rattle.tcc_cert.specs.declared.fault.CertFaultKind.TheVariants.{Read, NoMemory}
 use Rattle.tcc_cert.specs.declared.certificate.Certificate.{Certificate}
+use Rattle.tcc_cert.specs.declared.large.LargeCertificate.{LargeCertificate}
+use Rattle.tcc_cert.specs.LargeReading.{large_certificate_at, large_certificate_read}
 use Rattle.tcc_cert.specs.Reading.{Position, Reads, certificate_at, certificate_read, start_of}
 
 -- what comes of a reader that failed, if it did, or where a run is out of memory
@@ -30,3 +32,9 @@ IsReadingWhere failed bytes (Err fault) =
 -- the same of a reader that is out of sight
 abbrev pub IsReading : List ℕ → Result Certificate CertFault → Type 0
 IsReading bytes result = IsReadingWhere (Unit {0}) bytes result
+
+-- of a text of version 3
+abbrev pub IsLargeReading : List ℕ → Result LargeCertificate CertFault → Type 0
+IsLargeReading bytes (Ok certificate) = large_certificate_read bytes ≡ Ok certificate
+IsLargeReading bytes (Err fault) =
+    (large_certificate_read bytes ≡ Err fault) ⊎ IsCutShort (Unit {0}) (start_of bytes) (large_certificate_at (start_of bytes)) fault

@@ -18,6 +18,7 @@ use Rattle.tcc_cert.specs.declared.part.Part.{Part}
 use Rattle.tcc_cert.specs.declared.part.Part.TheVariants as part
 use Rattle.tcc_cert.specs.declared.reading.forms.Sizes.{Sizes}
 use Rattle.tcc_cert.specs.declared.reading.forms.Sizes.TheVariants.{Order, Cycle}
+use Rattle.tcc_cert.specs.declared.ranges.Scale.TheVariants.{Small}
 use Rattle.tcc_cert.specs.Ranges.{ranges_of}
 use Rattle.tcc_cert.specs.Tables.{lowest}
 use Rattle.tcc_cert.specs.Outcomes.{IsFailure}
@@ -73,38 +74,38 @@ rows_then form read behind from (suc n) at = read from at >>> λ row. after_part
 -- the line `end`, and nothing behind it
 abbrev pub end_parts : Version → Position → Parts
 end_parts version at =
-    words version (word_line (codes "end")) at >>> λ end. ending end.1.line (if length end.1.bytes == 0 then None else Some Trailing)
+    words (Small version) (word_line (codes "end")) at >>> λ end. ending end.1.line (if length end.1.bytes == 0 then None else Some Trailing)
 
 -- the clocks from a row on, so many are left
 abbrev pub clock_rows : Version → ℕ → ℕ → ℕ → Position → Parts
 clock_rows version sessions from left at =
-    rows_then part.Clocks (λ t. words version (numbers_line sessions (ranges_of version).number)) (end_parts version) from left at
+    rows_then part.Clocks (λ t. words (Small version) (numbers_line sessions (ranges_of version).number)) (end_parts version) from left at
 
 abbrev pub clock_parts : Version → ℕ → ℕ → Position → Parts
 clock_parts version transactions sessions at =
-    words version (word_line (codes "clocks")) at >>> λ mark. clock_rows version sessions 0 transactions mark.1
+    words (Small version) (word_line (codes "clocks")) at >>> λ mark. clock_rows version sessions 0 transactions mark.1
 
 -- `far` from a row on, so many are left
 abbrev pub far_rows : Version → ℕ → ℕ → ℕ → Position → Parts
 far_rows version transactions from left at =
-    rows_then part.Far (λ s. words version (numbers_line (transactions - lowest version s) (ranges_of version).cost)) (end_parts version) from left at
+    rows_then part.Far (λ s. words (Small version) (numbers_line (transactions - lowest version s) (ranges_of version).cost)) (end_parts version) from left at
 
 abbrev pub far_parts : Version → ℕ → Position → Parts
 far_parts version transactions at =
-    words version (word_line (codes "far")) at >>> λ mark. far_rows version transactions 0 transactions mark.1
+    words (Small version) (word_line (codes "far")) at >>> λ mark. far_rows version transactions 0 transactions mark.1
 
 -- `near` from a row on, so many are left, and `far`
 abbrev pub near_rows : Version → ℕ → ℕ → ℕ → Position → Parts
 near_rows version transactions from left at =
-    rows_then part.Near (λ a. words version (numbers_line transactions (ranges_of version).cost)) (far_parts version transactions) from left at
+    rows_then part.Near (λ a. words (Small version) (numbers_line transactions (ranges_of version).cost)) (far_parts version transactions) from left at
 
 abbrev pub near_parts : Version → ℕ → Position → Parts
 near_parts version transactions at =
-    words version (word_line (codes "near")) at >>> λ mark. near_rows version transactions 0 transactions mark.1
+    words (Small version) (word_line (codes "near")) at >>> λ mark. near_rows version transactions 0 transactions mark.1
 
 -- the links of a cycle from one on, so many are left, and the tables
 abbrev pub link_rows : Version → ℕ → ℕ → ℕ → Position → Parts
-link_rows version transactions from left at = rows_then part.Link (λ i. link_at version) (near_parts version transactions) from left at
+link_rows version transactions from left at = rows_then part.Link (λ i. link_at (Small version)) (near_parts version transactions) from left at
 
 -- what comes behind the order of a claim
 abbrev pub order_rest : Version → Level → ℕ → ℕ → Position → Parts
@@ -113,7 +114,7 @@ order_rest version Atomic transactions sessions at = end_parts version at
 
 abbrev pub order_parts : Version → Level → ℕ → ℕ → Position → Parts
 order_parts version level transactions sessions at =
-    words version (numbers_line transactions (ranges_of version).number) at
+    words (Small version) (numbers_line transactions (ranges_of version).number) at
     >>> λ order. after_part (part.Order (record { version = version; level = level; order = order.0; sessions = sessions }))
     (order_rest version level transactions sessions order.1)
 
@@ -128,7 +129,7 @@ claim_parts version level (Cycle transactions count least) at = cycle_parts vers
 
 -- what comes behind the first line
 abbrev pub parts_behind : (Version × Level) × Position → Parts
-parts_behind header = words header.0.0 (sizes_line header.0.0) header.1 >>> λ sizes. claim_parts header.0.0 header.0.1 sizes.0 sizes.1
+parts_behind header = words (Small header.0.0) (sizes_line (Small header.0.0)) header.1 >>> λ sizes. claim_parts header.0.0 header.0.1 sizes.0 sizes.1
 
 abbrev pub whole_parts : Position → Parts
 whole_parts at = next MAX_HEADER_BYTES header_line at >>> parts_behind

@@ -24,7 +24,9 @@ use Rattle.tcc_cert.specs.declared.certificate.Certificate.TheVariants as claim
 use Rattle.tcc_cert.specs.declared.reading.forms.Head.{Head}
 use Rattle.tcc_cert.specs.declared.reading.forms.Sizes.{Sizes}
 use Rattle.tcc_cert.specs.declared.reading.forms.Sizes.TheVariants.{Order, Cycle}
-use Rattle.tcc_cert.specs.Ranges.{ranges_of}
+use Rattle.tcc_cert.specs.declared.ranges.Scale.{Scale}
+use Rattle.tcc_cert.specs.declared.ranges.Scale.TheVariants.{Small}
+use Rattle.tcc_cert.specs.Ranges.{ranges_at, ranges_of}
 use Rattle.tcc_cert.specs.Tables.{lowest}
 use Rattle.tcc_cert.specs.Texts.{Words}
 
@@ -57,12 +59,12 @@ number_of least most word =
     else Ok (digits_value 10 word)
 
 -- a number of a transaction, or a place in a clock
-abbrev pub transaction_of : Version → List ℕ → Result ℕ CertFaultKind
-transaction_of version word = number_of 0 (ranges_of version).number word
+abbrev pub transaction_of : Scale → List ℕ → Result ℕ CertFaultKind
+transaction_of scale word = number_of 0 (ranges_at scale).number word
 
 -- how many transactions, links or steps
-abbrev pub count_of : Version → List ℕ → Result ℕ CertFaultKind
-count_of version word = number_of 1 (ranges_of version).count word
+abbrev pub count_of : Scale → List ℕ → Result ℕ CertFaultKind
+count_of scale word = number_of 1 (ranges_at scale).count word
 
 abbrev pub key_of : List ℕ → Result (List ℕ) CertFaultKind
 key_of word = if is_some (name_fault word) then Err Word else Ok word
@@ -107,22 +109,22 @@ by_word one behind_one other behind_other (word ∷ fields) =
     else if same word other then behind_other fields
     else Err Word
 
-abbrev pub session_of : Version → List ℕ → List ℕ → Result Step CertFaultKind
-session_of version u v = do
-  from ← transaction_of version u
-  to ← transaction_of version v
+abbrev pub session_of : Scale → List ℕ → List ℕ → Result Step CertFaultKind
+session_of scale u v = do
+  from ← transaction_of scale u
+  to ← transaction_of scale v
   Ok (step.Session from to)
 
-abbrev pub reads_of : Version → List ℕ → List ℕ → List ℕ → Result Step CertFaultKind
-reads_of version u v name = do
-  from ← transaction_of version u
-  to ← transaction_of version v
+abbrev pub reads_of : Scale → List ℕ → List ℕ → List ℕ → Result Step CertFaultKind
+reads_of scale u v name = do
+  from ← transaction_of scale u
+  to ← transaction_of scale v
   key ← key_of name
   Ok (step.Reads from to key)
 
 -- a step of a walk
-abbrev pub step_line : Version → Words → Result Step CertFaultKind
-step_line version line = by_word (codes "S") (two_words (session_of version)) (codes "R") (three_words (reads_of version)) line
+abbrev pub step_line : Scale → Words → Result Step CertFaultKind
+step_line scale line = by_word (codes "S") (two_words (session_of scale)) (codes "R") (three_words (reads_of scale)) line
 
 abbrev pub with_walk : Link → List Step → Link
 with_walk (link.Session u v) walk = link.Session u v
@@ -133,38 +135,38 @@ abbrev pub head_of_step : Step → Head
 head_of_step (step.Session u v) = record { link = link.Session u v; steps = 0 }
 head_of_step (step.Reads u v key) = record { link = link.Reads u v key; steps = 0 }
 
-abbrev pub derived_of : Version → List ℕ → List ℕ → List ℕ → List ℕ → List ℕ → Result Head CertFaultKind
-derived_of version b a name c w = do
-  from ← transaction_of version b
-  to ← transaction_of version a
+abbrev pub derived_of : Scale → List ℕ → List ℕ → List ℕ → List ℕ → List ℕ → Result Head CertFaultKind
+derived_of scale b a name c w = do
+  from ← transaction_of scale b
+  to ← transaction_of scale a
   key ← key_of name
-  reader ← transaction_of version c
-  steps ← count_of version w
+  reader ← transaction_of scale c
+  steps ← count_of scale w
   Ok (record { link = link.Derived from to key reader []; steps = steps })
 
 -- the line that a link begins with
-abbrev pub head_line : Version → Words → Result Head CertFaultKind
-head_line version [] = Err Word
-head_line version (word ∷ fields) =
-    if same word (codes "D") then five_words (derived_of version) fields
-    else step_line version (word ∷ fields) >>= λ step. Ok (head_of_step step)
+abbrev pub head_line : Scale → Words → Result Head CertFaultKind
+head_line scale [] = Err Word
+head_line scale (word ∷ fields) =
+    if same word (codes "D") then five_words (derived_of scale) fields
+    else step_line scale (word ∷ fields) >>= λ step. Ok (head_of_step step)
 
-abbrev pub order_sizes : Version → List ℕ → List ℕ → Result Sizes CertFaultKind
-order_sizes version n s = do
-  transactions ← count_of version n
-  sessions ← number_of 0 (ranges_of version).sessions s
+abbrev pub order_sizes : Scale → List ℕ → List ℕ → Result Sizes CertFaultKind
+order_sizes scale n s = do
+  transactions ← count_of scale n
+  sessions ← number_of 0 (ranges_at scale).sessions s
   Ok (Order transactions sessions)
 
-abbrev pub cycle_sizes : Version → List ℕ → List ℕ → List ℕ → Result Sizes CertFaultKind
-cycle_sizes version n m l = do
-  transactions ← count_of version n
-  links ← count_of version m
-  least ← number_of 0 (ranges_of version).cost l
+abbrev pub cycle_sizes : Scale → List ℕ → List ℕ → List ℕ → Result Sizes CertFaultKind
+cycle_sizes scale n m l = do
+  transactions ← count_of scale n
+  links ← count_of scale m
+  least ← number_of 0 (ranges_at scale).cost l
   Ok (Cycle transactions links least)
 
 -- the line that says how long the parts of a claim are
-abbrev pub sizes_line : Version → Words → Result Sizes CertFaultKind
-sizes_line version line = by_word (codes "order") (two_words (order_sizes version)) (codes "cycle") (three_words (cycle_sizes version)) line
+abbrev pub sizes_line : Scale → Words → Result Sizes CertFaultKind
+sizes_line scale line = by_word (codes "order") (two_words (order_sizes scale)) (codes "cycle") (three_words (cycle_sizes scale)) line
 
 -- ---- lines
 
@@ -204,8 +206,8 @@ next most form at = do
   judged at (behind at line.0) (form line.0)
 
 -- the same of a line after the first
-abbrev pub words : {X : Type 0} → Version → (Words → Result X CertFaultKind) → Position → Reads X
-words version form at = next (ranges_of version).line_bytes (λ line. form (words_of line)) at
+abbrev pub words : {X : Type 0} → Scale → (Words → Result X CertFaultKind) → Position → Reads X
+words scale form at = next (ranges_at scale).line_bytes (λ line. form (words_of line)) at
 
 -- so many parts, each of which may go by its number, the first of them by this one
 abbrev pub numbered : {X : Type 0} → (ℕ → Position → Reads X) → ℕ → ℕ → Position → Reads (List X)
@@ -229,40 +231,40 @@ header_line line =
     else Err Header
 
 -- the link of this head, and the steps of its walk
-abbrev pub walk_of : Version → Head × Position → Reads Link
-walk_of version head = do
-  walk ← repeated (words version (step_line version)) head.0.steps head.1
+abbrev pub walk_of : Scale → Head × Position → Reads Link
+walk_of scale head = do
+  walk ← repeated (words scale (step_line scale)) head.0.steps head.1
   Ok (with_walk head.0.link walk.0, walk.1)
 
-abbrev pub link_at : Version → Position → Reads Link
-link_at version at = words version (head_line version) at >>= walk_of version
+abbrev pub link_at : Scale → Position → Reads Link
+link_at scale at = words scale (head_line scale) at >>= walk_of scale
 
 -- so many lines of numbers, each of as many as its number says
 abbrev pub table_at : Version → ℕ → (ℕ → ℕ) → ℕ → Position → Reads (List (List ℕ))
-table_at version rows columns most at = numbered (λ s. words version (numbers_line (columns s) most)) 0 rows at
+table_at version rows columns most at = numbered (λ s. words (Small version) (numbers_line (columns s) most)) 0 rows at
 
 -- N lines of S numbers behind their mark, and nothing at `Atomic`
 abbrev pub clocks_at : Version → Level → ℕ → ℕ → Position → Reads (List (List ℕ))
 clocks_at version Causal transactions sessions at = do
-  mark ← words version (word_line (codes "clocks")) at
+  mark ← words (Small version) (word_line (codes "clocks")) at
   table_at version transactions (λ t. sessions) (ranges_of version).number mark.1
 clocks_at version Atomic transactions sessions at = Ok ([], at)
 
 abbrev pub order_at : Version → Level → ℕ → ℕ → Position → Reads Certificate
 order_at version level transactions sessions at = do
-  order ← words version (numbers_line transactions (ranges_of version).number) at
+  order ← words (Small version) (numbers_line transactions (ranges_of version).number) at
   clocks ← clocks_at version level transactions sessions order.1
-  end ← words version (word_line (codes "end")) clocks.1
+  end ← words (Small version) (word_line (codes "end")) clocks.1
   Ok (claim.Order (record { version = version; level = level; order = order.0; sessions = sessions; clocks = clocks.0 }), end.1)
 
 abbrev pub cycle_at : Version → Level → ℕ → ℕ → ℕ → Position → Reads Certificate
 cycle_at version level transactions count least at = do
-  links ← repeated (link_at version) count at
-  near_mark ← words version (word_line (codes "near")) links.1
+  links ← repeated (link_at (Small version)) count at
+  near_mark ← words (Small version) (word_line (codes "near")) links.1
   near ← table_at version transactions (λ a. transactions) (ranges_of version).cost near_mark.1
-  far_mark ← words version (word_line (codes "far")) near.1
+  far_mark ← words (Small version) (word_line (codes "far")) near.1
   far ← table_at version transactions (λ s. transactions - lowest version s) (ranges_of version).cost far_mark.1
-  end ← words version (word_line (codes "end")) far.1
+  end ← words (Small version) (word_line (codes "end")) far.1
   Ok (claim.Cycle (record { version = version; level = level; links = links.0; least = least; near = near.0; far = far.0 }), end.1)
 
 abbrev pub claim_at : Version → Level → Sizes → Position → Reads Certificate
@@ -272,12 +274,12 @@ claim_at version level (Cycle transactions links least) at = cycle_at version le
 -- what stands behind the first line
 abbrev pub behind_header : (Version × Level) × Position → Reads Certificate
 behind_header header = do
-  sizes ← words header.0.0 (sizes_line header.0.0) header.1
+  sizes ← words (Small header.0.0) (sizes_line (Small header.0.0)) header.1
   claim_at header.0.0 header.0.1 sizes.0 sizes.1
 
 -- nothing stands behind the last line
-abbrev pub ended : Certificate → Position → Result Certificate CertFault
-ended certificate at = if length at.bytes == 0 then Ok certificate else Err (record { line = at.line; kind = Trailing })
+abbrev pub ended : {X : Type 0} → X → Position → Result X CertFault
+ended read at = if length at.bytes == 0 then Ok read else Err (record { line = at.line; kind = Trailing })
 
 -- a certificate, up to the line behind its last
 abbrev pub certificate_at : Position → Reads Certificate

@@ -5,6 +5,7 @@ use Rattle.tcc_cert.specs.declared.part.Part.{Part}
 use Rattle.tcc_cert.specs.declared.part.Part.TheVariants as part
 use Rattle.tcc_cert.specs.declared.reading.shape.TableShape.{TableShape}
 use Rattle.tcc_cert.specs.declared.reading.shape.TableShape.TheVariants as shape
+use Rattle.tcc_cert.specs.declared.ranges.Scale.TheVariants.{Small}
 use Rattle.tcc_cert.specs.Ranges.{ranges_of}
 use Rattle.tcc_cert.specs.Tables.{lowest}
 use Rattle.tcc_cert.specs.Reading.{Position, numbers_line, word_line, words}
@@ -49,12 +50,12 @@ behind_table version (shape.Far transactions) at = end_parts version at
 -- its rows from a row on, so many are left, and what comes behind them
 abbrev pub table_rows : Version → TableShape → ℕ → ℕ → Position → Parts
 table_rows version table from left at =
-    rows_then (part_of table) (λ row. words version (numbers_line (columns_in version table row) (most_in version table)))
+    rows_then (part_of table) (λ row. words (Small version) (numbers_line (columns_in version table row) (most_in version table)))
     (behind_table version table) from left at
 
 -- the line before its rows, and these
 abbrev pub table_parts : Version → TableShape → Position → Parts
-table_parts version table at = words version (word_line (word_before table)) at >>> λ mark. table_rows version table 0 (height table) mark.1
+table_parts version table at = words (Small version) (word_line (word_before table)) at >>> λ mark. table_rows version table 0 (height table) mark.1
 
 -- how many rows come before the end where so many of it are left
 abbrev pub rows_from : TableShape → ℕ → ℕ

@@ -10,7 +10,9 @@ use Rattle.tcc_graph.specs.declared.level.Level.{Level}
 use Rattle.tcc_graph.specs.declared.level.Level.TheVariants.{Causal, Atomic}
 use Rattle.tcc_cert.specs.declared.version.Version.{Version}
 use Rattle.tcc_cert.specs.declared.version.Version.TheVariants.{One, Two}
-use Rattle.tcc_cert.specs.Ranges.{ranges_of}
+use Rattle.tcc_cert.specs.declared.ranges.Scale.{Scale}
+use Rattle.tcc_cert.specs.declared.ranges.Scale.TheVariants.{Small}
+use Rattle.tcc_cert.specs.Ranges.{ranges_at, ranges_of}
 use Rattle.tcc_cert.specs.Tables.{lowest, HasRows, IsCapped}
 use Rattle.tcc_cert.specs.declared.certificate.Certificate.{Certificate}
 use Rattle.tcc_cert.specs.declared.certificate.Certificate.TheVariants as claim
@@ -92,26 +94,26 @@ abbrev pub certificate_text : Certificate → List ℕ
 certificate_text certificate = lines_text (header_of certificate ∷ claim_lines certificate)
 
 -- a number of transactions, links or steps
-pub record IsCount (version : Version) (n : ℕ) : Type 0 where
+pub record IsCount (scale : Scale) (n : ℕ) : Type 0 where
   pub some : 1 ≤ n
-  pub limit : n ≤ (ranges_of version).count
+  pub limit : n ≤ (ranges_at scale).count
 
 -- numbers of transactions, and the places in clocks
-abbrev pub IsNumber : Version → ℕ → Type 0
-IsNumber version n = n ≤ (ranges_of version).number
+abbrev pub IsNumber : Scale → ℕ → Type 0
+IsNumber scale n = n ≤ (ranges_at scale).number
 
 abbrev pub IsKey : List ℕ → Type 0
 IsKey key = name_fault key ≡ None
 
-abbrev pub HasStepText : Version → Step → Type 0
-HasStepText version (step.Session u v) = IsNumber version u × IsNumber version v
-HasStepText version (step.Reads u v key) = IsNumber version u × IsNumber version v × IsKey key
+abbrev pub HasStepText : Scale → Step → Type 0
+HasStepText scale (step.Session u v) = IsNumber scale u × IsNumber scale v
+HasStepText scale (step.Reads u v key) = IsNumber scale u × IsNumber scale v × IsKey key
 
-abbrev pub HasLinkText : Version → Link → Type 0
-HasLinkText version (link.Session u v) = IsNumber version u × IsNumber version v
-HasLinkText version (link.Reads u v key) = IsNumber version u × IsNumber version v × IsKey key
-HasLinkText version (link.Derived b a key c walk) =
-    IsNumber version b × IsNumber version a × IsKey key × IsNumber version c × IsCount version (length walk) × All (HasStepText version) walk
+abbrev pub HasLinkText : Scale → Link → Type 0
+HasLinkText scale (link.Session u v) = IsNumber scale u × IsNumber scale v
+HasLinkText scale (link.Reads u v key) = IsNumber scale u × IsNumber scale v × IsKey key
+HasLinkText scale (link.Derived b a key c walk) =
+    IsNumber scale b × IsNumber scale a × IsKey key × IsNumber scale c × IsCount scale (length walk) × All (HasStepText scale) walk
 
 -- so many rows, each with as many numbers as its number says, none above the limit
 pub record HasTableText (rows : ℕ) (columns : ℕ → ℕ) (most : ℕ) (table : List (List ℕ)) : Type 0 where
@@ -124,15 +126,15 @@ HasClocksText version Causal transactions sessions clocks = HasTableText transac
 HasClocksText version Atomic transactions sessions clocks = clocks ≡ []
 
 pub record HasOrderText (k : OrderClaim) : Type 0 where
-  pub count : IsCount k.version (length k.order)
-  pub numbers : All (IsNumber k.version) k.order
+  pub count : IsCount (Small k.version) (length k.order)
+  pub numbers : All (IsNumber (Small k.version)) k.order
   pub sessions : k.sessions ≤ (ranges_of k.version).sessions
   pub clocks : HasClocksText k.version k.level (length k.order) k.sessions k.clocks
 
 pub record HasCycleText (k : CycleClaim) : Type 0 where
-  pub count : IsCount k.version (length k.near)
-  pub steps : IsCount k.version (length k.links)
-  pub links : All (HasLinkText k.version) k.links
+  pub count : IsCount (Small k.version) (length k.near)
+  pub steps : IsCount (Small k.version) (length k.links)
+  pub links : All (HasLinkText (Small k.version)) k.links
   pub least : k.least ≤ (ranges_of k.version).cost
   pub near : HasTableText (length k.near) (λ a. length k.near) (ranges_of k.version).cost k.near
   pub far : HasTableText (length k.near) (λ s. length k.near - lowest k.version s) (ranges_of k.version).cost k.far

@@ -1,11 +1,14 @@
 //! What the definitions of a certificate's text say by themselves.
 ghost use Rattle.std.specs.Prelude.{◌≡◌, ◌≤◌, ℕ, List, Err, None, Ok, Some};
 ghost use Rattle.tcc_cert.specs.Texts.{HasText, certificate_text};
+ghost use Rattle.tcc_cert.specs.LargeTexts.{HasLargeText, large_certificate_text};
+ghost use Rattle.tcc_cert.specs.LargeReading.{large_certificate_read};
 ghost use Rattle.tcc_cert.specs.Outcomes.{IsReading};
 ghost use Rattle.tcc_cert.specs.Parts.{parts_of, parts_read};
 ghost use Rattle.tcc_cert.specs.Reading.{certificate_read};
 ghost use Rattle.tcc_cert.specs.declared.certificate.Certificate.{Certificate};
 ghost use Rattle.tcc_cert.specs.declared.fault.CertFault.{CertFault};
+ghost use Rattle.tcc_cert.specs.declared.large.LargeCertificate.{LargeCertificate};
 
 /// The text of a certificate that has one is read as that certificate, and so as no other.
 pub fn text_is_read()
@@ -32,4 +35,14 @@ pub fn parts_before_the_fault()
 pub fn no_fault_before()
     ensures { (bytes : List ℕ) (answered first : CertFault) → IsReading bytes (Err answered) → certificate_read bytes ≡ Err first
         → answered.line ≤ first.line }
+{}
+
+/// The text of a certificate of version 3 that has one is read as that certificate, and so as no other.
+pub fn large_text_is_read()
+    ensures { (c : LargeCertificate) → HasLargeText c → large_certificate_read (large_certificate_text c) ≡ Ok c }
+{}
+
+/// What is read of version 3 has a text, and was read from that text and nothing else.
+pub fn large_read_text_is_one()
+    ensures { (bytes : List ℕ) (c : LargeCertificate) → large_certificate_read bytes ≡ Ok c → HasLargeText c × (bytes ≡ large_certificate_text c) }
 {}

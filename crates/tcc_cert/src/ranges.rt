@@ -1,7 +1,7 @@
 //! What each version of the certificate's text allows.
 ghost use Rattle.std.specs.Prelude.{◌≡◌, ◌≤◌};
 ghost use Rattle.tcc_cert.specs.declared.version_2.TheConstants.{V2_MAX_LINE_BYTES};
-ghost use Rattle.tcc_cert.specs.Ranges.{ranges_of};
+ghost use Rattle.tcc_cert.specs.Ranges.{ranges_at, ranges_of};
 
 use crate::Version;
 use crate::version_1::{
@@ -9,6 +9,9 @@ use crate::version_1::{
 };
 use crate::version_2::{
     V2_MAX_COST, V2_MAX_COUNT, V2_MAX_LINE_BYTES, V2_MAX_NUMBER, V2_MAX_SESSIONS,
+};
+use crate::version_3::{
+    V3_MAX_COST, V3_MAX_COUNT, V3_MAX_LINE_BYTES, V3_MAX_NUMBER, V3_MAX_SESSIONS,
 };
 
 /// The most bytes of the first line, which says the version, without its line feed.
@@ -44,6 +47,32 @@ pub(crate) fn ranges_of(version: Version) -> Ranges
             sessions: V2_MAX_SESSIONS,
             cost: V2_MAX_COST,
             line_bytes: V2_MAX_LINE_BYTES,
+        },
+    }
+}
+
+/// How large the numbers of a text may be.
+#[derive(Clone, Copy)]
+pub(crate) enum Scale {
+    /// As a version with tables has them.
+    Small(Version),
+    /// As version 3 has them.
+    Large,
+}
+
+/// The ranges of a text.
+pub(crate) fn ranges_at(scale: Scale) -> Ranges
+    ensures value { result ≡ ranges_at scale }
+    ensures lines { result.line_bytes ≤ V2_MAX_LINE_BYTES }
+{
+    match scale {
+        Scale::Small(version) => ranges_of(version),
+        Scale::Large => Ranges {
+            count: V3_MAX_COUNT,
+            number: V3_MAX_NUMBER,
+            sessions: V3_MAX_SESSIONS,
+            cost: V3_MAX_COST,
+            line_bytes: V3_MAX_LINE_BYTES,
         },
     }
 }

@@ -13,6 +13,8 @@ ghost use Rattle.tcc_cert.specs.Reading.{Position, header_line, next, word_line,
 mod decimals;
 mod forms;
 mod input;
+mod large;
+mod large_forms;
 mod links;
 mod parts;
 mod rows;
@@ -22,9 +24,10 @@ mod stages;
 mod window;
 mod words;
 
-use crate::ranges::MAX_HEADER_BYTES;
+use crate::ranges::{MAX_HEADER_BYTES, Scale};
 use crate::{CertFault, CertFaultKind, Certificate, Links, Numbers, Part, Table, Version};
 use input::{Input, at_line};
+pub use large::read_large;
 pub use parts::CertReader;
 use std::alloc::Global;
 use std::io::Read;
@@ -52,13 +55,13 @@ fn word_line(alloc: Global, line: &[u8], wanted: &[u8]) -> Result<(), CertFaultK
 fn mark<R: Read>(
     alloc: Global,
     input: &mut Input<R>,
-    version: Version,
+    scale: Scale,
     wanted: &[u8],
 ) -> Result<(), CertFault>
     ensures works { OnOk result (AsBefore input.old input.new) }
-    ensures gives { (at : Position) → IsAt R.remaining input.old at → Gives R.remaining at (words version (word_line wanted.now) at) result input.new }
+    ensures gives { (at : Position) → IsAt R.remaining input.old at → Gives R.remaining at (words scale (word_line wanted.now) at) result input.new }
 {
-    let line = input.next_of(version)?;
+    let line = input.next_of(scale)?;
     at_line(line, word_line(alloc, input.line(), wanted))
 }
 

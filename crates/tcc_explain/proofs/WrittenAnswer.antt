@@ -23,6 +23,7 @@ use Rattle.tcc_graph.specs.declared.link.Link.TheVariants as link
 use Rattle.tcc_graph.specs.Clocks.{IsClocksOf, IsLast, IsBehind}
 use Rattle.tcc_cert.specs.Tables.{entry, HasSize, HasRows, HasFarSize, IsCapped}
 use Rattle.tcc_cert.specs.CycleRules.{IsStepBelow, IsLinkBelow}
+use Rattle.tcc_cert.specs.declared.ranges.Scale.TheVariants.{Small}
 use Rattle.tcc_cert.specs.Texts.{IsNumber, HasStepText, HasLinkText, HasClocksText, HasOrderText, HasCycleText, HasText, certificate_text}
 use Rattle.tcc_cert.specs.Reading.{certificate_read}
 use Rattle.tcc_cert.specs.declared.version.Version.TheVariants.{Two}
@@ -56,7 +57,7 @@ module _ (s : Sessions) (limits : KeepsLimits s) where
   few_sessions : length (history s).sessions ≤ MAX_SESSIONS
   few_sessions = omega (arith, length-map (finite.entries s) (λ named. named.0), finite.len-entries s, limits.0)
 
-  number : (n : ℕ) → n < count (history s) → IsNumber Two n
+  number : (n : ℕ) → n < count (history s) → IsNumber (Small Two) n
   number n below = omega (arith, below, few)
 
   -- ---- a commit order
@@ -98,21 +99,21 @@ module _ (s : Sessions) (limits : KeepsLimits s) where
   -- ---- a least cycle
 
   module _ (named : HasNames s) where
-    step_text : (st : Step) → IsStep (history s) st → IsStepBelow (count (history s)) st → HasStepText Two st
+    step_text : (st : Step) → IsStep (history s) st → IsStepBelow (count (history s)) st → HasStepText (Small Two) st
     step_text (step.Session u v) is ends = (number u ends.0, number v ends.1)
     step_text (step.Reads u v x) is ends = (number u ends.0, number v ends.1, key_named s named u v x is)
 
-    steps_text : (a b : ℕ) (walk : List Step) → Leads (history s) a b walk → All (IsStepBelow (count (history s))) walk → All (HasStepText Two) walk
-    steps_text a b [] leads below = All-nil (HasStepText Two)
+    steps_text : (a b : ℕ) (walk : List Step) → Leads (history s) a b walk → All (IsStepBelow (count (history s))) walk → All (HasStepText (Small Two)) walk
+    steps_text a b [] leads below = All-nil (HasStepText (Small Two))
     steps_text a b (st ∷ walk) leads below =
-        All-cons (HasStepText Two) st walk (step_text st leads.1 (All-head (IsStepBelow (count (history s))) st walk below))
+        All-cons (HasStepText (Small Two)) st walk (step_text st leads.1 (All-head (IsStepBelow (count (history s))) st walk below))
         (steps_text (step_to st) b walk leads.2 (All-tail (IsStepBelow (count (history s))) st walk below))
 
     module _ (level : Level) where
       abbrev j : Judged
       j = judged (history s) level
 
-      link_text : (l : Link) → IsLink j l → IsLinkBelow (count (history s)) l → length (link_walk l) ≤ count (history s) → HasLinkText Two l
+      link_text : (l : Link) → IsLink j l → IsLinkBelow (count (history s)) l → length (link_walk l) ≤ count (history s) → HasLinkText (Small Two) l
       link_text (link.Session a b) is ends short = (number a ends.0, number b ends.1)
       link_text (link.Reads a b x) is ends short = (number a ends.0, number b ends.1, key_named s named a b x is)
       link_text (link.Derived b a x c walk) is ends short = (
@@ -126,10 +127,10 @@ module _ (s : Sessions) (limits : KeepsLimits s) where
 
       links_text : (a b : ℕ) (links : List Link) → LinksLead j a b links → All (IsLinkBelow (count (history s))) links
           → All (λ l. length (link_walk l) ≤ count (history s)) links
-          → All (HasLinkText Two) links
-      links_text a b [] leads below short = All-nil (HasLinkText Two)
+          → All (HasLinkText (Small Two)) links
+      links_text a b [] leads below short = All-nil (HasLinkText (Small Two))
       links_text a b (l ∷ links) leads below short =
-          All-cons (HasLinkText Two) l links
+          All-cons (HasLinkText (Small Two)) l links
           (link_text l leads.1 (All-head (IsLinkBelow (count (history s))) l links below)
           (All-head (λ (m : Link). length (link_walk m) ≤ count (history s)) l links short))
           (links_text (link_to l) b links leads.2 (All-tail (IsLinkBelow (count (history s))) l links below)

@@ -6,8 +6,8 @@ ghost use Rattle.tcc_cert.specs.Reading.{transaction_of, two_words};
 
 use super::decimals::number_of;
 use super::words::WordLine;
-use crate::ranges::ranges_of;
-use crate::{CertFaultKind, Version};
+use crate::CertFaultKind;
+use crate::ranges::{Scale, ranges_at};
 use std::alloc::Global;
 use tcc_graph::{Link, Step, Walk};
 use tcc_txn::Name;
@@ -34,17 +34,17 @@ pub(crate) enum Sizes {
 }
 
 /// The number of a transaction.
-fn transaction_of(version: Version, word: &[u8]) -> Result<u32, CertFaultKind>
-    ensures { result ≡ transaction_of version word.now }
+fn transaction_of(scale: Scale, word: &[u8]) -> Result<u32, CertFaultKind>
+    ensures { result ≡ transaction_of scale word.now }
 {
-    number_of(word, 0, ranges_of(version).number)
+    number_of(word, 0, ranges_at(scale).number)
 }
 
 /// How many transactions, links or steps.
-fn count_of(version: Version, word: &[u8]) -> Result<u32, CertFaultKind>
-    ensures { result ≡ count_of version word.now }
+pub(crate) fn count_of(scale: Scale, word: &[u8]) -> Result<u32, CertFaultKind>
+    ensures { result ≡ count_of scale word.now }
 {
-    number_of(word, 1, ranges_of(version).count)
+    number_of(word, 1, ranges_at(scale).count)
 }
 
 fn key_of(word: &[u8]) -> Result<Name, CertFaultKind>
@@ -57,42 +57,42 @@ fn key_of(word: &[u8]) -> Result<Name, CertFaultKind>
 }
 
 /// `u v`
-fn session_of(version: Version, from: &[u8], to: &[u8]) -> Result<Step, CertFaultKind>
-    ensures { result ≡ session_of version from.now to.now }
+fn session_of(scale: Scale, from: &[u8], to: &[u8]) -> Result<Step, CertFaultKind>
+    ensures { result ≡ session_of scale from.now to.now }
 {
     Ok(Step::Session {
-        from: transaction_of(version, from)?,
-        to: transaction_of(version, to)?,
+        from: transaction_of(scale, from)?,
+        to: transaction_of(scale, to)?,
     })
 }
 
 /// `u v KEY`
-fn reads_of(version: Version, from: &[u8], to: &[u8], key: &[u8]) -> Result<Step, CertFaultKind>
-    ensures { result ≡ reads_of version from.now to.now key.now }
+fn reads_of(scale: Scale, from: &[u8], to: &[u8], key: &[u8]) -> Result<Step, CertFaultKind>
+    ensures { result ≡ reads_of scale from.now to.now key.now }
 {
     Ok(Step::Reads {
-        from: transaction_of(version, from)?,
-        to: transaction_of(version, to)?,
+        from: transaction_of(scale, from)?,
+        to: transaction_of(scale, to)?,
         key: key_of(key)?,
     })
 }
 
 /// What stands behind `S`.
-fn session_fields(version: Version, fields: &[&[u8]]) -> Result<Step, CertFaultKind>
-    ensures { result ≡ two_words (session_of version) (map (λ word. word.now) fields.now) }
+fn session_fields(scale: Scale, fields: &[&[u8]]) -> Result<Step, CertFaultKind>
+    ensures { result ≡ two_words (session_of scale) (map (λ word. word.now) fields.now) }
 {
     match fields {
-        [from, to] => session_of(version, from, to),
+        [from, to] => session_of(scale, from, to),
         _ => Err(CertFaultKind::Count),
     }
 }
 
 /// What stands behind `R`.
-fn reads_fields(version: Version, fields: &[&[u8]]) -> Result<Step, CertFaultKind>
-    ensures { result ≡ three_words (reads_of version) (map (λ word. word.now) fields.now) }
+fn reads_fields(scale: Scale, fields: &[&[u8]]) -> Result<Step, CertFaultKind>
+    ensures { result ≡ three_words (reads_of scale) (map (λ word. word.now) fields.now) }
 {
     match fields {
-        [from, to, key] => reads_of(version, from, to, key),
+        [from, to, key] => reads_of(scale, from, to, key),
         _ => Err(CertFaultKind::Count),
     }
 }
@@ -100,14 +100,14 @@ fn reads_fields(version: Version, fields: &[&[u8]]) -> Result<Step, CertFaultKin
 impl WordLine for Step {
     ghost form = { step_line };
 
-    fn of_words(_alloc: Global, version: Version, words: &[&[u8]]) -> Result<Step, CertFaultKind> {
+    fn of_words(_alloc: Global, scale: Scale, words: &[&[u8]]) -> Result<Step, CertFaultKind> {
         let Some((word, fields)) = words.split_first() else {
             return Err(CertFaultKind::Word);
         };
         if *word == b"S".as_slice() {
-            session_fields(version, fields)
+            session_fields(scale, fields)
         } else if *word == b"R".as_slice() {
-            reads_fields(version, fields)
+            reads_fields(scale, fields)
         } else {
             Err(CertFaultKind::Word)
         }
@@ -117,34 +117,34 @@ impl WordLine for Step {
 /// `b a KEY c W`
 fn derived_of(
     alloc: Global,
-    version: Version,
+    scale: Scale,
     from: &[u8],
     to: &[u8],
     key: &[u8],
     reader: &[u8],
     steps: &[u8],
 ) -> Result<Head, CertFaultKind>
-    ensures { result ≡ derived_of version from.now to.now key.now reader.now steps.now }
+    ensures { result ≡ derived_of scale from.now to.now key.now reader.now steps.now }
 {
     let link = Link::Derived {
-        from: transaction_of(version, from)?,
-        to: transaction_of(version, to)?,
+        from: transaction_of(scale, from)?,
+        to: transaction_of(scale, to)?,
         key: key_of(key)?,
-        reader: transaction_of(version, reader)?,
+        reader: transaction_of(scale, reader)?,
         walk: Walk::new(Vec::new(alloc)),
     };
     Ok(Head {
         link,
-        steps: count_of(version, steps)?,
+        steps: count_of(scale, steps)?,
     })
 }
 
 /// What stands behind `D`.
-fn derived_fields(alloc: Global, version: Version, fields: &[&[u8]]) -> Result<Head, CertFaultKind>
-    ensures { result ≡ five_words (derived_of version) (map (λ word. word.now) fields.now) }
+fn derived_fields(alloc: Global, scale: Scale, fields: &[&[u8]]) -> Result<Head, CertFaultKind>
+    ensures { result ≡ five_words (derived_of scale) (map (λ word. word.now) fields.now) }
 {
     match fields {
-        [from, to, key, reader, steps] => derived_of(alloc, version, from, to, key, reader, steps),
+        [from, to, key, reader, steps] => derived_of(alloc, scale, from, to, key, reader, steps),
         _ => Err(CertFaultKind::Count),
     }
 }
@@ -163,64 +163,60 @@ fn head_of_step(step: Step) -> Head
 impl WordLine for Head {
     ghost form = { head_line };
 
-    fn of_words(alloc: Global, version: Version, words: &[&[u8]]) -> Result<Head, CertFaultKind> {
+    fn of_words(alloc: Global, scale: Scale, words: &[&[u8]]) -> Result<Head, CertFaultKind> {
         let Some((word, fields)) = words.split_first() else {
             return Err(CertFaultKind::Word);
         };
         if *word == b"D".as_slice() {
-            derived_fields(alloc, version, fields)
+            derived_fields(alloc, scale, fields)
         } else {
-            Ok(head_of_step(Step::of_words(alloc, version, words)?))
+            Ok(head_of_step(Step::of_words(alloc, scale, words)?))
         }
     }
 }
 
 /// `N S`
-fn order_sizes(
-    version: Version,
-    transactions: &[u8],
-    sessions: &[u8],
-) -> Result<Sizes, CertFaultKind>
-    ensures { result ≡ order_sizes version transactions.now sessions.now }
+fn order_sizes(scale: Scale, transactions: &[u8], sessions: &[u8]) -> Result<Sizes, CertFaultKind>
+    ensures { result ≡ order_sizes scale transactions.now sessions.now }
 {
     Ok(Sizes::Order {
-        transactions: count_of(version, transactions)?,
-        sessions: number_of(sessions, 0, ranges_of(version).sessions)?,
+        transactions: count_of(scale, transactions)?,
+        sessions: number_of(sessions, 0, ranges_at(scale).sessions)?,
     })
 }
 
 /// `N M L`
 fn cycle_sizes(
-    version: Version,
+    scale: Scale,
     transactions: &[u8],
     links: &[u8],
     least: &[u8],
 ) -> Result<Sizes, CertFaultKind>
-    ensures { result ≡ cycle_sizes version transactions.now links.now least.now }
+    ensures { result ≡ cycle_sizes scale transactions.now links.now least.now }
 {
     Ok(Sizes::Cycle {
-        transactions: count_of(version, transactions)?,
-        links: count_of(version, links)?,
-        least: number_of(least, 0, ranges_of(version).cost)?,
+        transactions: count_of(scale, transactions)?,
+        links: count_of(scale, links)?,
+        least: number_of(least, 0, ranges_at(scale).cost)?,
     })
 }
 
 /// What stands behind `order`.
-fn order_fields(version: Version, fields: &[&[u8]]) -> Result<Sizes, CertFaultKind>
-    ensures { result ≡ two_words (order_sizes version) (map (λ word. word.now) fields.now) }
+fn order_fields(scale: Scale, fields: &[&[u8]]) -> Result<Sizes, CertFaultKind>
+    ensures { result ≡ two_words (order_sizes scale) (map (λ word. word.now) fields.now) }
 {
     match fields {
-        [transactions, sessions] => order_sizes(version, transactions, sessions),
+        [transactions, sessions] => order_sizes(scale, transactions, sessions),
         _ => Err(CertFaultKind::Count),
     }
 }
 
 /// What stands behind `cycle`.
-fn cycle_fields(version: Version, fields: &[&[u8]]) -> Result<Sizes, CertFaultKind>
-    ensures { result ≡ three_words (cycle_sizes version) (map (λ word. word.now) fields.now) }
+fn cycle_fields(scale: Scale, fields: &[&[u8]]) -> Result<Sizes, CertFaultKind>
+    ensures { result ≡ three_words (cycle_sizes scale) (map (λ word. word.now) fields.now) }
 {
     match fields {
-        [transactions, links, least] => cycle_sizes(version, transactions, links, least),
+        [transactions, links, least] => cycle_sizes(scale, transactions, links, least),
         _ => Err(CertFaultKind::Count),
     }
 }
@@ -228,14 +224,14 @@ fn cycle_fields(version: Version, fields: &[&[u8]]) -> Result<Sizes, CertFaultKi
 impl WordLine for Sizes {
     ghost form = { sizes_line };
 
-    fn of_words(_alloc: Global, version: Version, words: &[&[u8]]) -> Result<Sizes, CertFaultKind> {
+    fn of_words(_alloc: Global, scale: Scale, words: &[&[u8]]) -> Result<Sizes, CertFaultKind> {
         let Some((word, fields)) = words.split_first() else {
             return Err(CertFaultKind::Word);
         };
         if *word == b"order".as_slice() {
-            order_fields(version, fields)
+            order_fields(scale, fields)
         } else if *word == b"cycle".as_slice() {
-            cycle_fields(version, fields)
+            cycle_fields(scale, fields)
         } else {
             Err(CertFaultKind::Word)
         }

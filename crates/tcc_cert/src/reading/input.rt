@@ -7,8 +7,8 @@ ghost use Rattle.tcc_cert.specs.declared.reading.window.TheConstants.{WINDOW_BYT
 
 use super::source::Source;
 use super::window::Window;
-use crate::ranges::ranges_of;
-use crate::{CertFault, CertFaultKind, Version};
+use crate::ranges::{Scale, ranges_at};
+use crate::{CertFault, CertFaultKind};
 use std::io::Read;
 
 /// A reader, the bytes of it that wait, how many of these belong to the line that was read last, its line feed among
@@ -56,7 +56,7 @@ impl<R: Read> Input<R> {
     ghost use Rattle.tcc_cert.specs.private.Inputs.{Ends, FindsLine, AsBefore, TakesLine, line_in};
     ghost use Rattle.tcc_cert.specs.InputBytes.{HasFailed, IsAt};
     ghost use Rattle.tcc_cert.specs.Reading.{Position};
-    ghost use Rattle.tcc_cert.specs.Ranges.{ranges_of};
+    ghost use Rattle.tcc_cert.specs.Ranges.{ranges_at};
 
     pub(crate) fn new(reader: R) -> Input<R>
         ensures start { IfSome (R.remaining reader) (λ bytes. IsAt R.remaining result (record { line = 1; bytes = bytes })) }
@@ -143,12 +143,12 @@ impl<R: Read> Input<R> {
         }
     }
 
-    /// The same of a line behind the first, by the version.
-    pub(crate) fn next_of(&mut self, version: Version) -> Result<u64, CertFault>
+    /// The same of a line behind the first, by the text's scale.
+    pub(crate) fn next_of(&mut self, scale: Scale) -> Result<u64, CertFault>
         ensures works { OnOk result (AsBefore self.old self.new) }
-        ensures line { (at : Position) → IsAt R.remaining self.old at → TakesLine R.remaining (ranges_of version).line_bytes at result self.new }
+        ensures line { (at : Position) → IsAt R.remaining self.old at → TakesLine R.remaining (ranges_at scale).line_bytes at result self.new }
     {
-        self.next(ranges_of(version).line_bytes)
+        self.next(ranges_at(scale).line_bytes)
     }
 
     /// Nothing stands behind the last line.

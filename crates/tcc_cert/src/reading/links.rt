@@ -2,35 +2,37 @@
 ghost use Rattle.std.specs.Prelude.{◌≡◌, OnOk};
 ghost use Rattle.tcc_cert.specs.private.Inputs.{AsBefore, Gives};
 ghost use Rattle.tcc_cert.specs.InputBytes.{IsAt};
-ghost use Rattle.tcc_cert.specs.Reading.{Position, link_at, repeated, step_line, with_walk, words};
+ghost use Rattle.tcc_cert.specs.Reading.{Position, link_at, repeated, with_walk, words};
 
 use super::forms::Head;
 use super::input::Input;
-use super::words::next_line;
-use crate::{CertFault, CertFaultKind, Version};
+use super::words::{WordLine, next_line};
+use crate::ranges::Scale;
+use crate::{CertFault, CertFaultKind, Links};
 use std::alloc::Global;
 use std::io::Read;
 use tcc_graph::{Link, Step, Walk};
+use tcc_txn::ListOf;
 
-/// The next lines, so many steps.
-fn walk<R: Read>(
+/// The next lines, so many, each of this form.
+pub(crate) fn lines<L: WordLine, R: Read>(
     alloc: Global,
     input: &mut Input<R>,
-    version: Version,
+    scale: Scale,
     count: u32,
-) -> Result<Walk, CertFault>
+) -> Result<ListOf<L>, CertFault>
     ensures works { OnOk result (AsBefore input.old input.new) }
-    ensures gives { (at : Position) → IsAt R.remaining input.old at → Gives R.remaining at (repeated (words version (step_line version)) count at) result input.new }
+    ensures gives { (at : Position) → IsAt R.remaining input.old at → Gives R.remaining at (repeated (words scale (L.form scale)) count at) result input.new }
 {
-    let mut steps = Vec::new(alloc);
+    let mut items = Vec::new(alloc);
     'lines: for _ in 0..count {
-        let one = next_line::<Step, R>(alloc, input, version)?;
-        match steps.push(one) {
+        let one = next_line::<L, R>(alloc, input, scale)?;
+        match items.push(one) {
             Ok(()) => {}
             Err(_) => return Err(input.fault(CertFaultKind::NoMemory)),
         }
     }
-    Ok(Walk::new(steps))
+    Ok(ListOf::new(items))
 }
 
 /// The link with these steps, if it is derived.
@@ -60,12 +62,33 @@ fn with_walk(link: Link, walk: Walk) -> Link
 pub(crate) fn link<R: Read>(
     alloc: Global,
     input: &mut Input<R>,
-    version: Version,
+    scale: Scale,
 ) -> Result<Link, CertFault>
     ensures works { OnOk result (AsBefore input.old input.new) }
-    ensures gives { (at : Position) → IsAt R.remaining input.old at → Gives R.remaining at (link_at version at) result input.new }
+    ensures gives { (at : Position) → IsAt R.remaining input.old at → Gives R.remaining at (link_at scale at) result input.new }
 {
-    let head = next_line::<Head, R>(alloc, input, version)?;
-    let walk = walk(alloc, input, version, head.steps)?;
+    let head = next_line::<Head, R>(alloc, input, scale)?;
+    let walk = lines::<Step, R>(alloc, input, scale, head.steps)?;
     Ok(with_walk(head.link, walk))
+}
+
+/// The next lines, so many links.
+pub(crate) fn links<R: Read>(
+    alloc: Global,
+    input: &mut Input<R>,
+    scale: Scale,
+    count: u32,
+) -> Result<Links, CertFault>
+    ensures works { OnOk result (AsBefore input.old input.new) }
+    ensures gives { (at : Position) → IsAt R.remaining input.old at → Gives R.remaining at (repeated (link_at scale) count at) result input.new }
+{
+    let mut items = Vec::new(alloc);
+    'links: for _ in 0..count {
+        let one = link(alloc, input, scale)?;
+        match items.push(one) {
+            Ok(()) => {}
+            Err(_) => return Err(input.fault(CertFaultKind::NoMemory)),
+        }
+    }
+    Ok(Links::new(items))
 }

@@ -8,6 +8,7 @@ ghost use Rattle.tcc_cert.specs.Texts.{numbers_words, words_text};
 
 use super::decimals::number_of;
 use super::input::{Input, at_line};
+use crate::ranges::Scale;
 use crate::{CertFault, CertFaultKind, Numbers, Version};
 use std::alloc::{AllocError, Global};
 use std::io::Read;
@@ -109,8 +110,8 @@ pub(crate) fn row<R: Read>(
     most: u32,
 ) -> Result<Numbers, CertFault>
     ensures works { OnOk result (AsBefore input.old input.new) }
-    ensures gives { (at : Position) → IsAt R.remaining input.old at → Gives R.remaining at (words version (numbers_line count most) at) result input.new }
+    ensures gives { (at : Position) → IsAt R.remaining input.old at → Gives R.remaining at (words (Scale.Small version) (numbers_line count most) at) result input.new }
 {
-    let line = input.next_of(version)?;
+    let line = input.next_of(Scale::Small(version))?;
     at_line(line, numbers_line(alloc, input.line(), count, most))
 }

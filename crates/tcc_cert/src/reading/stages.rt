@@ -15,7 +15,7 @@ use super::rows::row;
 use super::shape::TableShape;
 use super::words::next_line;
 use super::{header, mark};
-use crate::ranges::ranges_of;
+use crate::ranges::{Scale, ranges_of};
 use crate::{CertFault, CycleHead, OrderHead, Part, Version};
 use std::alloc::Global;
 use std::io::Read;
@@ -70,7 +70,7 @@ fn end<R: Read>(alloc: Global, input: &mut Input<R>, version: Version) -> NextPa
     ensures step { (at : Position) → IsAt R.remaining input.old at → TakesStep R.remaining at.line (end_parts version at) result input.new }
     ensures row { (left : ℕ) → IfOk result (λ given. IsRowStep left given) }
 {
-    mark(alloc, input, version, b"end")?;
+    mark(alloc, input, Scale::Small(version), b"end")?;
     input.end()?;
     Ok((Part::End, Stage::Ended))
 }
@@ -109,7 +109,7 @@ fn far<R: Read>(
     ensures row { IfOk result (λ given. IsRowStep transactions given) }
 {
     let table = TableShape::Far { transactions };
-    mark(alloc, input, version, b"far")?;
+    mark(alloc, input, Scale::Small(version), b"far")?;
     if transactions > 0 {
         let left = RowsLeft {
             version,
@@ -164,7 +164,7 @@ fn marked<R: Read>(
     ensures step { (at : Position) → IsAt R.remaining input.old at → TakesStep R.remaining at.line (table_parts version table at) result input.new }
     ensures row { IfOk result (λ given. IsRowStep (rows_from table (height table)) given) }
 {
-    mark(alloc, input, version, table.word())?;
+    mark(alloc, input, Scale::Small(version), table.word())?;
     let left = RowsLeft {
         version,
         table,
@@ -231,7 +231,7 @@ fn next_link<R: Read>(alloc: Global, input: &mut Input<R>, left: LinksLeft) -> N
         → TakesStep R.remaining at.line (link_rows left.version left.transactions from left.many at) result input.new }
     ensures row { IfOk result (λ given. IsRowStep (links_from left.transactions left.many) given) }
 {
-    let one = link(alloc, input, left.version)?;
+    let one = link(alloc, input, Scale::Small(left.version))?;
     let coming = Coming::Links(LinksLeft {
         many: left.many - 1,
         ..left
@@ -261,7 +261,7 @@ fn claim<R: Read>(alloc: Global, input: &mut Input<R>, version: Version, level: 
     ensures step { (at : Position) → IsAt R.remaining input.old at → TakesStep R.remaining at.line (parts_behind ((version, level), at)) result input.new }
     ensures claim { IfOk result IsClaimStep }
 {
-    match next_line::<Sizes, R>(alloc, input, version)? {
+    match next_line::<Sizes, R>(alloc, input, Scale::Small(version))? {
         Sizes::Order {
             transactions,
             sessions,

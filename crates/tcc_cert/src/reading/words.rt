@@ -6,21 +6,22 @@ ghost use Rattle.tcc_cert.specs.private.Showing.{Shows};
 ghost use Rattle.tcc_cert.specs.Reading.{Position, words, words_of};
 
 use super::input::{Input, at_line};
-use crate::{CertFault, CertFaultKind, Version};
+use crate::ranges::Scale;
+use crate::{CertFault, CertFaultKind};
 use std::alloc::{AllocError, Global};
 use std::io::Read;
 
 /// What a line of words says.
 pub(crate) trait WordLine: Drop {
     ghost use Rattle.tcc_cert.specs.declared.fault.CertFaultKind.{CertFaultKind};
-    ghost use Rattle.tcc_cert.specs.declared.version.Version.{Version};
+    ghost use Rattle.tcc_cert.specs.declared.ranges.Scale.{Scale};
     ghost use Rattle.tcc_cert.specs.Texts.{Words};
 
-    ghost form: { Version → Words → Result Self CertFaultKind };
+    ghost form: { Scale → Words → Result Self CertFaultKind };
 
     /// What these words say.
-    fn of_words(alloc: Global, version: Version, words: &[&[u8]]) -> Result<Self, CertFaultKind>
-        ensures { result ≡ form version (map (λ word. word.now) words.now) };
+    fn of_words(alloc: Global, scale: Scale, words: &[&[u8]]) -> Result<Self, CertFaultKind>
+        ensures { result ≡ form scale (map (λ word. word.now) words.now) };
 }
 
 /// What stands between the spaces of a line.
@@ -34,22 +35,22 @@ pub(crate) fn words_of(alloc: Global, line: &[u8]) -> Result<Vec<&[u8]>, AllocEr
 }
 
 /// What a line says.
-fn line_of<L: WordLine>(alloc: Global, version: Version, line: &[u8]) -> Result<L, CertFaultKind>
-    ensures { Shows result (L.form version (words_of line.now)) }
+fn line_of<L: WordLine>(alloc: Global, scale: Scale, line: &[u8]) -> Result<L, CertFaultKind>
+    ensures { Shows result (L.form scale (words_of line.now)) }
 {
     let words = words_of(alloc, line)?;
-    L::of_words(alloc, version, words.as_slice())
+    L::of_words(alloc, scale, words.as_slice())
 }
 
 /// What the next line says.
 pub(crate) fn next_line<L: WordLine, R: Read>(
     alloc: Global,
     input: &mut Input<R>,
-    version: Version,
+    scale: Scale,
 ) -> Result<L, CertFault>
     ensures works { OnOk result (AsBefore input.old input.new) }
-    ensures gives { (at : Position) → IsAt R.remaining input.old at → Gives R.remaining at (words version (L.form version) at) result input.new }
+    ensures gives { (at : Position) → IsAt R.remaining input.old at → Gives R.remaining at (words scale (L.form scale) at) result input.new }
 {
-    let line = input.next_of(version)?;
-    at_line(line, line_of(alloc, version, input.line()))
+    let line = input.next_of(scale)?;
+    at_line(line, line_of(alloc, scale, input.line()))
 }

@@ -6,4 +6,4 @@ use Rattle.tcc_cert.proofs.WordFacts.{five_words-other}
 use Rattle.tcc_cert.proofs.reading.forms.derived_fields.Goals as goal
 
 pub returns-in_default : goal.returns-in_default
-returns-in_default c = five_words-other (derived_of c.args.version) (λ word. word.now) c.args.fields.now (grind (arith, nat_tests))
+returns-in_default c = five_words-other (derived_of c.args.scale) (λ word. word.now) c.args.fields.now (grind (arith, nat_tests))

@@ -5,7 +5,7 @@ use Rattle.tcc_cert.proofs.WordFacts.{two_words-other}
 use Rattle.tcc_cert.proofs.reading.forms.order_fields.Goals as goal
 
 pub returns-in_default : goal.returns-in_default
-returns-in_default c = two_words-other (order_sizes c.args.version) (λ word. word.now) c.args.fields.now (omega arith)
+returns-in_default c = two_words-other (order_sizes c.args.scale) (λ word. word.now) c.args.fields.now (omega arith)
 
 pub returns-in_default-2 : goal.returns-in_default-2
-returns-in_default-2 c = two_words-other (order_sizes c.args.version) (λ word. word.now) c.args.fields.now (omega arith)
+returns-in_default-2 c = two_words-other (order_sizes c.args.scale) (λ word. word.now) c.args.fields.now (omega arith)

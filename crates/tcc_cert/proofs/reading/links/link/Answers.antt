@@ -10,13 +10,13 @@ use Rattle.tcc_cert.proofs.reading.links.link.Goals as goal
 
 pub returns-in_err-head-clause-gives : goal.returns-in_err-head-clause-gives
 returns-in_err-head-clause-gives g c at before =
-    let v = c.args.version in
+    let v = c.args.scale in
     let p = err_from_is_err_and c.from_residual.result c.from_residual.ensures.1 in
     rw (p.1, p.2) (first-faults (words v (head_line v) at) (walk_of v) _ (onward-walk v) (c.in_err-head.ensures.gives at before))
 
 pub returns-in_err-walk-clause-gives : goal.returns-in_err-walk-clause-gives
 returns-in_err-walk-clause-gives g c at before =
-    let v = c.args.version in
+    let v = c.args.scale in
     let p = err_from_is_err_and c.from_residual-in_err-walk.result c.from_residual-in_err-walk.ensures.1 in
     let head = c.in_ok-head.ensures.gives at before in
     let value = c.in_ok-head.head in
@@ -29,4 +29,4 @@ pub returns-clause-gives : goal.returns-clause-gives
 returns-clause-gives g c at before =
     let head = c.in_ok-head.ensures.gives at before in
     let walk = c.in_ok-walk.ensures.gives head.0 head.2 in
-    (walk.0, rw c.with_walk.ensures (then_ok (walk_of c.args.version) head.1 ∙ then_ok _ walk.1), walk.2)
+    (walk.0, rw c.with_walk.ensures (then_ok (walk_of c.args.scale) head.1 ∙ then_ok _ walk.1), walk.2)

@@ -1,5 +1,6 @@
 -- The sizes were read, and then what they are of.
 use Rattle.std.proofs.Common.{Ok, refl}
+use Rattle.tcc_cert.specs.declared.ranges.Scale.TheVariants.{Small}
 use Rattle.tcc_cert.specs.declared.part.CycleHead.{CycleHead}
 use Rattle.tcc_cert.specs.declared.part.Part.TheVariants as part
 use Rattle.tcc_cert.specs.declared.reading.stages.Stage.TheVariants as stage
@@ -14,7 +15,7 @@ pub returns-in_err-transactions-clause-step : goal.returns-in_err-transactions-c
 returns-in_err-transactions-clause-step g c at before =
     let v = c.args.version in
     let p = err_from_is_err_and c.from_residual.result c.from_residual.ensures.1 in
-    rw (p.1, p.2) (part-faults (words v (sizes_line v) at) _ _ (λ sizes. onward-claim v c.args.level sizes.0 sizes.1) (c.in_err-transactions.ensures.gives at before))
+    rw (p.1, p.2) (part-faults (words (Small v) (sizes_line (Small v)) at) _ _ (λ sizes. onward-claim v c.args.level sizes.0 sizes.1) (c.in_err-transactions.ensures.gives at before))
 
 pub returns-in-Order-clause-step : goal.returns-in-Order-clause-step
 returns-in-Order-clause-step g c at before =

@@ -1,6 +1,7 @@
 -- The order was read.
 use Rattle.std.proofs.Common.{refl}
 use Rattle.std.proofs.lemmas.Result.{err_from_is_err_and}
+use Rattle.tcc_cert.specs.declared.ranges.Scale.TheVariants.{Small}
 use Rattle.tcc_cert.specs.Ranges.{ranges_of}
 use Rattle.tcc_cert.specs.Parts.{order_rest}
 use Rattle.tcc_cert.specs.Reading.{numbers_line, words}
@@ -12,7 +13,7 @@ returns-in_err-order-clause-step g c at before =
     let v = c.args.version in
     let n = c.args.transactions in
     let p = err_from_is_err_and c.from_residual.result c.from_residual.ensures.1 in
-    rw (p.1, p.2) (part-faults (words v (numbers_line n (ranges_of v).number) at) _ _ (λ order. onward-rest v c.args.level n c.args.sessions order.1)
+    rw (p.1, p.2) (part-faults (words (Small v) (numbers_line n (ranges_of v).number) at) _ _ (λ order. onward-rest v c.args.level n c.args.sessions order.1)
     (rw c.ranges_of.ensures.value at (c.in_err-order.ensures.gives at before)))
 
 pub returns-clause-step : goal.returns-clause-step

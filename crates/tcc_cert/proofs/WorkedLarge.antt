@@ -1,0 +1,105 @@
+-- Worked texts of version 3 are written and read as the definitions say.
+use Rattle.std.proofs.Common.{◌≡◌, ℕ, List, [], ◌∷◌, ◌++◌, Option, None, Some, Ok, Err, refl, codes, lit<}
+use Rattle.std.proofs.lemmas.Fmt.{decimal_digit}
+use Rattle.tcc_graph.specs.declared.level.Level.TheVariants.{Causal, Atomic}
+use Rattle.tcc_graph.specs.declared.link.Link.TheVariants as link
+use Rattle.tcc_graph.specs.declared.step.Step.TheVariants as step
+use Rattle.tcc_cert.specs.declared.fault.CertFault.{CertFault}
+use Rattle.tcc_cert.specs.declared.fault.CertFaultKind.TheVariants.{Header, Word, Number, Count, TooLarge, Truncated, Trailing}
+use Rattle.tcc_cert.specs.declared.large.LargeCertificate.{LargeCertificate}
+use Rattle.tcc_cert.specs.declared.large.LargeCertificate.TheVariants as claim
+use Rattle.tcc_cert.specs.declared.large.Run.{Run}
+use Rattle.tcc_cert.specs.LargeTexts.{large_certificate_text}
+use Rattle.tcc_cert.specs.LargeReading.{large_certificate_read}
+
+abbrev run : ℕ → ℕ → Run
+run session count = record { session = session; count = count }
+
+-- the long fork: each session has one transaction
+abbrev fork : LargeCertificate
+fork = claim.Order (record { level = Causal; transactions = 5; sessions = 4; runs = run 0 1 ∷ run 1 1 ∷ run 2 1 ∷ run 3 1 ∷ [] })
+
+abbrev fork_text : List ℕ
+fork_text = codes "tcc-certificate 3 causal\norder 5 4 4\n0 1\n1 1\n2 1\n3 1\nend\n"
+
+-- x is read from 1 behind an own write that 4 steps lead to
+abbrev five_steps : Option (List Run) → LargeCertificate
+five_steps least = claim.Cycle (record {
+  level = Causal;
+  transactions = 5;
+  links = link.Session 0 1 ∷ link.Derived 1 0 (codes "x") 4 (step.Reads 1 2 (codes "x") ∷ step.Reads 2 3 (codes "y") ∷ step.Session 3 4 ∷ []) ∷ [];
+  cost = 5;
+  least = least;
+})
+
+abbrev five_steps_text : List ℕ → List ℕ
+five_steps_text tail =
+    codes "tcc-certificate 3 causal\ncycle 5 2 5\nS 0 1\nD 1 0 x 4 3\nR 1 2 x\nR 2 3 y\nS 3 4\n" ++ tail
+
+abbrev its_runs : List Run
+its_runs = run 0 1 ∷ run 1 1 ∷ run 2 2 ∷ []
+
+fork_written : large_certificate_text fork ≡ fork_text
+fork_written =
+    rw (
+      decimal_digit 0 (lit< tt),
+      decimal_digit 1 (lit< tt),
+      decimal_digit 2 (lit< tt),
+      decimal_digit 3 (lit< tt),
+      decimal_digit 4 (lit< tt),
+      decimal_digit 5 (lit< tt),
+    ) refl
+
+least_written : large_certificate_text (five_steps (Some its_runs)) ≡ five_steps_text (codes "least 3\n0 1\n1 1\n2 2\nend\n")
+least_written =
+    rw (
+      decimal_digit 0 (lit< tt),
+      decimal_digit 1 (lit< tt),
+      decimal_digit 2 (lit< tt),
+      decimal_digit 3 (lit< tt),
+      decimal_digit 4 (lit< tt),
+      decimal_digit 5 (lit< tt),
+    ) refl
+
+fork_read : large_certificate_read fork_text ≡ Ok fork
+fork_read = refl
+
+least_read : large_certificate_read (five_steps_text (codes "least 3\n0 1\n1 1\n2 2\nend\n")) ≡ Ok (five_steps (Some its_runs))
+least_read = refl
+
+-- with no runs, and with no claim of leastness
+no_runs_read : large_certificate_read (five_steps_text (codes "least 0\nend\n")) ≡ Ok (five_steps (Some []))
+no_runs_read = refl
+
+no_claim_read : large_certificate_read (five_steps_text (codes "end\n")) ≡ Ok (five_steps None)
+no_claim_read = refl
+
+-- a history without transactions has an order without runs
+none_read : large_certificate_read (codes "tcc-certificate 3 atomic\norder 1 0 0\nend\n")
+    ≡ Ok (claim.Order (record { level = Atomic; transactions = 1; sessions = 0; runs = [] }))
+none_read = refl
+
+-- each text has the fault that stands behind it
+abbrev HaveFaults : List (List ℕ × CertFault) → Type 0
+HaveFaults [] = Unit {0}
+HaveFaults ((text, fault) ∷ rows) = (large_certificate_read text ≡ Err fault) × HaveFaults rows
+
+faulty_texts : HaveFaults
+    ((codes "tcc-certificate 3\norder 1 0 0\n", record { line = 1; kind = Header })
+    ∷ (codes "tcc-certificate 3 causal\nring 5 4 4\n", record { line = 2; kind = Word })
+    ∷ (codes "tcc-certificate 3 causal\norder 5 4\n", record { line = 2; kind = Count })
+    ∷ (codes "tcc-certificate 3 causal\norder 05 4 4\n", record { line = 2; kind = Number })
+    ∷ (codes "tcc-certificate 3 causal\norder 0 4 4\n", record { line = 2; kind = Number })
+    ∷ (codes "tcc-certificate 3 causal\norder 5 65536 4\n", record { line = 2; kind = TooLarge })
+    ∷ (codes "tcc-certificate 3 causal\norder 5 4 4\n0 0\n", record { line = 3; kind = Number })
+    ∷ (codes "tcc-certificate 3 causal\norder 5 4 4\n\n", record { line = 3; kind = Count })
+    ∷ (codes "tcc-certificate 3 causal\norder 5 4 4\n65535 1\n", record { line = 3; kind = TooLarge })
+    ∷ (codes "tcc-certificate 3 causal\norder 5 4 1\n0 1\n1 1\n", record { line = 4; kind = Word })
+    ∷ (five_steps_text (codes "0 1\n"), record { line = 8; kind = Word })
+    ∷ (five_steps_text (codes "least\n"), record { line = 8; kind = Count })
+    ∷ (five_steps_text (codes "least 1\nend\n"), record { line = 9; kind = Count })
+    ∷ (five_steps_text (codes "end end\n"), record { line = 8; kind = Count })
+    ∷ (five_steps_text (codes "end"), record { line = 8; kind = Truncated })
+    ∷ (five_steps_text (codes "end\n\n"), record { line = 9; kind = Trailing })
+    ∷ [])
+faulty_texts = (refl, (refl, (refl, (refl, (refl, (refl, (refl, (refl, (refl, (refl, (refl, (refl, (refl, (refl, (refl, (refl, tt))))))))))))))))

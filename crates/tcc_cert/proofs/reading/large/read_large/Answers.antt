@@ -1,0 +1,6 @@
+-- The reader's bytes are to come.
+use Rattle.std.proofs.lemmas.Option.{IfSome_then}
+use Rattle.tcc_cert.proofs.reading.large.read_large.Goals as goal
+
+pub returns : goal.returns
+returns g c = IfSome_then (g.R.Read.remaining c.args.reader) c.new.ensures.start (λ bytes before. c.whole.ensures bytes before)

@@ -1,0 +1,164 @@
+//! How the text of version 3 is read.
+ghost use Rattle.std.specs.Prelude.{◌≡◌, ℕ, IfSome, List, OnOk};
+ghost use Rattle.tcc_cert.specs.private.Inputs.{AsBefore, Gives};
+ghost use Rattle.tcc_cert.specs.InputBytes.{IsAt};
+ghost use Rattle.tcc_cert.specs.Outcomes.{IsLargeReading};
+ghost use Rattle.tcc_cert.specs.Reading.{Position, link_at, next, repeated, start_of};
+ghost use Rattle.tcc_cert.specs.LargeReading.{large_behind_header, large_certificate_at, large_claim_at, large_header_line, least_at, links_claim_at, runs_at, runs_claim_at};
+ghost use Rattle.tcc_cert.specs.declared.ranges.TheConstants.{MAX_HEADER_BYTES};
+
+use super::input::{Input, at_line};
+use super::large_forms::{LargeSizes, Tail};
+use super::links::{lines, links};
+use super::mark;
+use super::words::next_line;
+use crate::ranges::{MAX_HEADER_BYTES, Scale};
+use crate::{CertFault, CertFaultKind, LargeCertificate, LinksClaim, Run, Runs, RunsClaim};
+use std::alloc::Global;
+use std::io::Read;
+use tcc_graph::Level;
+
+/// So many runs, and the last line.
+fn runs<R: Read>(alloc: Global, input: &mut Input<R>, count: u32) -> Result<Runs, CertFault>
+    ensures works { OnOk result (AsBefore input.old input.new) }
+    ensures gives { (at : Position) → IsAt R.remaining input.old at → Gives R.remaining at (runs_at count at) result input.new }
+{
+    let runs = lines::<Run, R>(alloc, input, Scale::Large, count)?;
+    mark(alloc, input, Scale::Large, b"end")?;
+    Ok(runs)
+}
+
+/// What stands behind the line behind the last link.
+fn least<R: Read>(
+    alloc: Global,
+    input: &mut Input<R>,
+    tail: Tail,
+) -> Result<Option<Runs>, CertFault>
+    ensures works { OnOk result (AsBefore input.old input.new) }
+    ensures gives { (at : Position) → IsAt R.remaining input.old at → Gives R.remaining at (least_at tail at) result input.new }
+{
+    match tail {
+        Tail::Least { runs: count } => Ok(Some(runs(alloc, input, count)?)),
+        Tail::End => Ok(None),
+    }
+}
+
+/// The claim of an order, behind its sizes.
+fn order<R: Read>(
+    alloc: Global,
+    input: &mut Input<R>,
+    level: Level,
+    transactions: u32,
+    sessions: u32,
+    count: u32,
+) -> Result<LargeCertificate, CertFault>
+    ensures works { OnOk result (AsBefore input.old input.new) }
+    ensures gives { (at : Position) → IsAt R.remaining input.old at
+        → Gives R.remaining at (runs_claim_at level transactions sessions count at) result input.new }
+{
+    let runs = runs(alloc, input, count)?;
+    Ok(LargeCertificate::Order(RunsClaim {
+        level,
+        transactions,
+        sessions,
+        runs,
+    }))
+}
+
+/// The claim of a cycle, behind its sizes.
+fn cycle<R: Read>(
+    alloc: Global,
+    input: &mut Input<R>,
+    level: Level,
+    transactions: u32,
+    count: u32,
+    cost: u32,
+) -> Result<LargeCertificate, CertFault>
+    ensures works { OnOk result (AsBefore input.old input.new) }
+    ensures gives { (at : Position) → IsAt R.remaining input.old at
+        → Gives R.remaining at (links_claim_at level transactions count cost at) result input.new }
+{
+    let links = links(alloc, input, Scale::Large, count)?;
+    let tail = next_line::<Tail, R>(alloc, input, Scale::Large)?;
+    let least = least(alloc, input, tail)?;
+    Ok(LargeCertificate::Cycle(LinksClaim {
+        level,
+        transactions,
+        links,
+        cost,
+        least,
+    }))
+}
+
+/// What stands behind the first line.
+fn claim<R: Read>(
+    alloc: Global,
+    input: &mut Input<R>,
+    level: Level,
+) -> Result<LargeCertificate, CertFault>
+    ensures works { OnOk result (AsBefore input.old input.new) }
+    ensures gives { (at : Position) → IsAt R.remaining input.old at
+        → Gives R.remaining at (large_behind_header (level, at)) result input.new }
+{
+    match next_line::<LargeSizes, R>(alloc, input, Scale::Large)? {
+        LargeSizes::Order {
+            transactions,
+            sessions,
+            runs,
+        } => order(alloc, input, level, transactions, sessions, runs),
+        LargeSizes::Cycle {
+            transactions,
+            links,
+            cost,
+        } => cycle(alloc, input, level, transactions, links, cost),
+    }
+}
+
+/// The level that the first line says.
+fn header_line(line: &[u8]) -> Result<Level, CertFaultKind>
+    ensures { result ≡ large_header_line line.now }
+{
+    if line == b"tcc-certificate 3 causal".as_slice() {
+        Ok(Level::Causal)
+    } else if line == b"tcc-certificate 3 atomic".as_slice() {
+        Ok(Level::Atomic)
+    } else {
+        Err(CertFaultKind::Header)
+    }
+}
+
+/// The first line.
+fn header<R: Read>(input: &mut Input<R>) -> Result<Level, CertFault>
+    ensures works { OnOk result (AsBefore input.old input.new) }
+    ensures gives { (at : Position) → IsAt R.remaining input.old at → Gives R.remaining at (next MAX_HEADER_BYTES large_header_line at) result input.new }
+{
+    let line = input.next(MAX_HEADER_BYTES)?;
+    at_line(line, header_line(input.line()))
+}
+
+/// A certificate, up to its last line.
+fn certificate<R: Read>(alloc: Global, input: &mut Input<R>) -> Result<LargeCertificate, CertFault>
+    ensures works { OnOk result (AsBefore input.old input.new) }
+    ensures gives { (at : Position) → IsAt R.remaining input.old at → Gives R.remaining at (large_certificate_at at) result input.new }
+{
+    let level = header(input)?;
+    claim(alloc, input, level)
+}
+
+/// The whole text, which starts where the input stands.
+fn whole<R: Read>(alloc: Global, input: &mut Input<R>) -> Result<LargeCertificate, CertFault>
+    ensures { (bytes : List ℕ) → IsAt R.remaining input.old (start_of bytes) → IsLargeReading bytes result }
+{
+    let certificate = certificate(alloc, input)?;
+    input.end()?;
+    Ok(certificate)
+}
+
+/// Reads the certificate of version 3 whose text the reader gives, nothing behind it, or the first line with a fault. The
+/// first line has at most 8,191 bytes and a line feed, each other at most 127. Where the reader fails, that is the fault
+/// `Read` at the line that was wanted then, unless a line before it has another.
+pub fn read_large<R: Read + Drop>(alloc: Global, reader: R) -> Result<LargeCertificate, CertFault>
+    ensures { IfSome (R.remaining reader) (λ bytes. IsLargeReading bytes result) }
+{
+    whole(alloc, &mut Input::new(reader))
+}

@@ -1,0 +1,177 @@
+//! What one line of version 3 says.
+ghost use Rattle.std.specs.Prelude.{◌≡◌, map};
+ghost use Rattle.tcc_cert.specs.Reading.{three_words, two_words};
+ghost use Rattle.tcc_cert.specs.LargeReading.{large_cycle_sizes, large_order_sizes, large_sizes_line, least_of, no_words, one_word, run_line, run_of, runs_of, tail_line};
+
+use super::decimals::number_of;
+use super::forms::count_of;
+use super::words::WordLine;
+use crate::ranges::Scale;
+use crate::version_3::{V3_MAX_COST, V3_MAX_NUMBER, V3_MAX_RUNS, V3_MAX_SESSION, V3_MAX_SESSIONS};
+use crate::{CertFaultKind, Run};
+use std::alloc::Global;
+
+/// How long a claim is, and what the cycle costs.
+#[derive(Clone, Copy)]
+pub(crate) enum LargeSizes {
+    Order {
+        transactions: u32,
+        sessions: u32,
+        runs: u32,
+    },
+    Cycle {
+        transactions: u32,
+        links: u32,
+        cost: u32,
+    },
+}
+
+/// What stands behind the links of a cycle.
+#[derive(Clone, Copy)]
+pub(crate) enum Tail {
+    /// A claim that it is a least one, with so many runs.
+    Least { runs: u32 },
+    /// Nothing more.
+    End,
+}
+
+/// `s k`
+fn run_of(session: &[u8], count: &[u8]) -> Result<Run, CertFaultKind>
+    ensures { result ≡ run_of session.now count.now }
+{
+    Ok(Run {
+        session: number_of(session, 0, V3_MAX_SESSION)?,
+        count: number_of(count, 1, V3_MAX_NUMBER)?,
+    })
+}
+
+impl WordLine for Run {
+    ghost form = { λ scale. run_line };
+
+    fn of_words(_alloc: Global, _scale: Scale, words: &[&[u8]]) -> Result<Run, CertFaultKind> {
+        match words {
+            [session, count] => run_of(session, count),
+            _ => Err(CertFaultKind::Count),
+        }
+    }
+}
+
+/// How many runs.
+fn runs_of(word: &[u8]) -> Result<u32, CertFaultKind>
+    ensures { result ≡ runs_of word.now }
+{
+    number_of(word, 0, V3_MAX_RUNS)
+}
+
+/// `N S R`
+fn order_sizes(
+    transactions: &[u8],
+    sessions: &[u8],
+    runs: &[u8],
+) -> Result<LargeSizes, CertFaultKind>
+    ensures { result ≡ large_order_sizes transactions.now sessions.now runs.now }
+{
+    Ok(LargeSizes::Order {
+        transactions: count_of(Scale::Large, transactions)?,
+        sessions: number_of(sessions, 0, V3_MAX_SESSIONS)?,
+        runs: runs_of(runs)?,
+    })
+}
+
+/// `N M L`
+fn cycle_sizes(transactions: &[u8], links: &[u8], cost: &[u8]) -> Result<LargeSizes, CertFaultKind>
+    ensures { result ≡ large_cycle_sizes transactions.now links.now cost.now }
+{
+    Ok(LargeSizes::Cycle {
+        transactions: count_of(Scale::Large, transactions)?,
+        links: count_of(Scale::Large, links)?,
+        cost: number_of(cost, 0, V3_MAX_COST)?,
+    })
+}
+
+/// What stands behind `order`.
+fn order_fields(fields: &[&[u8]]) -> Result<LargeSizes, CertFaultKind>
+    ensures { result ≡ three_words large_order_sizes (map (λ word. word.now) fields.now) }
+{
+    match fields {
+        [transactions, sessions, runs] => order_sizes(transactions, sessions, runs),
+        _ => Err(CertFaultKind::Count),
+    }
+}
+
+/// What stands behind `cycle`.
+fn cycle_fields(fields: &[&[u8]]) -> Result<LargeSizes, CertFaultKind>
+    ensures { result ≡ three_words large_cycle_sizes (map (λ word. word.now) fields.now) }
+{
+    match fields {
+        [transactions, links, cost] => cycle_sizes(transactions, links, cost),
+        _ => Err(CertFaultKind::Count),
+    }
+}
+
+impl WordLine for LargeSizes {
+    ghost form = { λ scale. large_sizes_line };
+
+    fn of_words(
+        _alloc: Global,
+        _scale: Scale,
+        words: &[&[u8]],
+    ) -> Result<LargeSizes, CertFaultKind> {
+        let Some((word, fields)) = words.split_first() else {
+            return Err(CertFaultKind::Word);
+        };
+        if *word == b"order".as_slice() {
+            order_fields(fields)
+        } else if *word == b"cycle".as_slice() {
+            cycle_fields(fields)
+        } else {
+            Err(CertFaultKind::Word)
+        }
+    }
+}
+
+/// `R`
+fn least_of(runs: &[u8]) -> Result<Tail, CertFaultKind>
+    ensures { result ≡ least_of runs.now }
+{
+    Ok(Tail::Least {
+        runs: runs_of(runs)?,
+    })
+}
+
+/// What stands behind `least`.
+fn least_fields(fields: &[&[u8]]) -> Result<Tail, CertFaultKind>
+    ensures { result ≡ one_word least_of (map (λ word. word.now) fields.now) }
+{
+    match fields {
+        [runs] => least_of(runs),
+        _ => Err(CertFaultKind::Count),
+    }
+}
+
+/// What stands behind `end`.
+fn end_fields(fields: &[&[u8]]) -> Result<Tail, CertFaultKind>
+    ensures { result ≡ no_words Tail.End (map (λ word. word.now) fields.now) }
+{
+    match fields {
+        [] => Ok(Tail::End),
+        _ => Err(CertFaultKind::Count),
+    }
+}
+
+impl WordLine for Tail {
+    ghost form = { λ scale. tail_line };
+
+    fn of_words(_alloc: Global, _scale: Scale, words: &[&[u8]]) -> Result<Tail, CertFaultKind> {
+        let Some((word, fields)) = words.split_first() else {
+            return Err(CertFaultKind::Word);
+        };
+        if *word == b"least".as_slice() {
+            least_fields(fields)
+        } else if *word == b"end".as_slice() {
+            end_fields(fields)
+        } else {
+            Err(CertFaultKind::Word)
+        }
+    }
+}
