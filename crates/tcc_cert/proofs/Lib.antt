@@ -28,3 +28,4 @@ mod LargeReads
 mod LargeBack
 mod LargeOne
 mod WorkedLarge
+mod VersionFacts

@@ -96,7 +96,7 @@ onward-behind header =
     onward-then header.1 (words (Small header.0.0) (sizes_line (Small header.0.0)) header.1) _ (onward-words (Small header.0.0) (sizes_line (Small header.0.0)) header.1)
     (λ sizes. onward-claim header.0.0 header.0.1 sizes.0 sizes.1)
 
-onward-whole : (at : Position) → at.line ≤ (whole_parts at).line
+pub onward-whole : (at : Position) → at.line ≤ (whole_parts at).line
 onward-whole at = onward-then at (next MAX_HEADER_BYTES header_line at) parts_behind (onward-next MAX_HEADER_BYTES header_line at) onward-behind
 
 pub onward-coming : (s : Coming) (at : Position) (ahead : Parts) → IsBehind s at ahead → at.line ≤ ahead.line

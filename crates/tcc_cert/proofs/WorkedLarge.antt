@@ -1,5 +1,5 @@
 -- Worked texts of version 3 are written and read as the definitions say.
-use Rattle.std.proofs.Common.{◌≡◌, ℕ, List, [], ◌∷◌, ◌++◌, Option, None, Some, Ok, Err, refl, codes, lit<}
+use Rattle.std.proofs.Common.{◌≡◌, ℕ, true, false, List, [], ◌∷◌, ◌++◌, Option, None, Some, Ok, Err, refl, codes, lit<}
 use Rattle.std.proofs.lemmas.Fmt.{decimal_digit}
 use Rattle.tcc_graph.specs.declared.level.Level.TheVariants.{Causal, Atomic}
 use Rattle.tcc_graph.specs.declared.link.Link.TheVariants as link
@@ -10,7 +10,7 @@ use Rattle.tcc_cert.specs.declared.large.LargeCertificate.{LargeCertificate}
 use Rattle.tcc_cert.specs.declared.large.LargeCertificate.TheVariants as claim
 use Rattle.tcc_cert.specs.declared.large.Run.{Run}
 use Rattle.tcc_cert.specs.LargeTexts.{large_certificate_text}
-use Rattle.tcc_cert.specs.LargeReading.{large_certificate_read}
+use Rattle.tcc_cert.specs.LargeReading.{is_large, large_certificate_read}
 
 abbrev run : ℕ → ℕ → Run
 run session count = record { session = session; count = count }
@@ -103,3 +103,7 @@ faulty_texts : HaveFaults
     ∷ (five_steps_text (codes "end\n\n"), record { line = 9; kind = Trailing })
     ∷ [])
 faulty_texts = (refl, (refl, (refl, (refl, (refl, (refl, (refl, (refl, (refl, (refl, (refl, (refl, (refl, (refl, (refl, (refl, tt))))))))))))))))
+
+-- the version is that of the first line
+told_by_the_first_line : (is_large fork_text ≡ true) × (is_large (codes "tcc-certificate 2 causal\n") ≡ false)
+told_by_the_first_line = (refl, refl)

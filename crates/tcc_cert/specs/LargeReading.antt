@@ -1,5 +1,5 @@
 -- How the text of version 3 is read: line by line, up to the first fault.
-use Rattle.std.specs.Prelude.{ℕ, if◌then◌else◌, List, [], ◌∷◌, Option, None, Some, Result, Ok, Err, codes}
+use Rattle.std.specs.Prelude.{ℕ, if◌then◌else◌, Bool, false, is_ok, List, [], ◌∷◌, Option, None, Some, Result, Ok, Err, codes}
 use Rattle.tcc_txn.specs.Bytes.{same}
 use Rattle.tcc_graph.specs.declared.level.Level.{Level}
 use Rattle.tcc_graph.specs.declared.level.Level.TheVariants.{Causal, Atomic}
@@ -17,7 +17,7 @@ use Rattle.tcc_cert.specs.declared.reading.large_forms.LargeSizes.TheVariants.{O
 use Rattle.tcc_cert.specs.declared.reading.large_forms.Tail.{Tail}
 use Rattle.tcc_cert.specs.declared.reading.large_forms.Tail.TheVariants.{Least, End}
 use Rattle.tcc_cert.specs.Texts.{Words}
-use Rattle.tcc_cert.specs.Reading.{◌>>=◌, Position, Reads, by_word, count_of, ended, link_at, next, number_of, repeated, start_of}
+use Rattle.tcc_cert.specs.Reading.{◌>>=◌, Position, Reads, by_word, count_of, ended, line_of, link_at, next, number_of, repeated, start_of}
 use Rattle.tcc_cert.specs.Reading.{three_words, two_words, word_line, words}
 
 -- ---- the forms of lines
@@ -125,3 +125,13 @@ abbrev pub large_certificate_read : List ℕ → Result LargeCertificate CertFau
 large_certificate_read bytes = do
   certificate ← large_certificate_at (start_of bytes)
   ended certificate.0 certificate.1
+
+-- ---- which version it is
+
+-- the first line, where there is one, is one of version 3
+abbrev pub large_named : Result (List ℕ) CertFaultKind → Bool
+large_named (Ok line) = is_ok (large_header_line line)
+large_named (Err kind) = false
+
+abbrev pub is_large : List ℕ → Bool
+is_large bytes = large_named (line_of MAX_HEADER_BYTES bytes)

@@ -14,5 +14,6 @@ pub mod Parts
 pub mod Ahead
 pub mod WindowBytes
 pub mod InputBytes
+pub mod Versions
 pub mod Shapes
 pub mod private

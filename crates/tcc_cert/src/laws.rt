@@ -3,7 +3,8 @@ ghost use Rattle.std.specs.Prelude.{◌≡◌, ◌≤◌, ℕ, List, Err, None, 
 ghost use Rattle.tcc_cert.specs.Texts.{HasText, certificate_text};
 ghost use Rattle.tcc_cert.specs.LargeTexts.{HasLargeText, large_certificate_text};
 ghost use Rattle.tcc_cert.specs.LargeReading.{large_certificate_read};
-ghost use Rattle.tcc_cert.specs.Outcomes.{IsReading};
+ghost use Rattle.tcc_cert.specs.Outcomes.{IsLargeReading, IsReading};
+ghost use Rattle.tcc_cert.specs.Versions.{HasNoFirstLine};
 ghost use Rattle.tcc_cert.specs.Parts.{parts_of, parts_read};
 ghost use Rattle.tcc_cert.specs.Reading.{certificate_read};
 ghost use Rattle.tcc_cert.specs.declared.certificate.Certificate.{Certificate};
@@ -45,4 +46,9 @@ pub fn large_text_is_read()
 /// What is read of version 3 has a text, and was read from that text and nothing else.
 pub fn large_read_text_is_one()
     ensures { (bytes : List ℕ) (c : LargeCertificate) → large_certificate_read bytes ≡ Ok c → HasLargeText c × (bytes ≡ large_certificate_text c) }
+{}
+
+/// A text without a first line has that fault whatever its version.
+pub fn no_first_line()
+    ensures { (bytes : List ℕ) (fault : CertFault) → HasNoFirstLine bytes fault → IsReading bytes (Err fault) × IsLargeReading bytes (Err fault) }
 {}

@@ -28,6 +28,6 @@ pub use large_writing::write_large;
 pub use lists::{Links, Numbers, Table};
 pub use outgoing::Outgoing;
 pub use part::{CycleHead, OrderHead, Part};
-pub use reading::{CertReader, read, read_large};
+pub use reading::{CertReader, LargeReader, VersionReader, read, read_large, reader_of};
 pub use version::Version;
 pub use writing::write;

@@ -21,6 +21,7 @@ mod rows;
 mod shape;
 mod source;
 mod stages;
+mod versions;
 mod window;
 mod words;
 
@@ -29,6 +30,7 @@ use crate::{CertFault, CertFaultKind, Certificate, Links, Numbers, Part, Table, 
 use input::{Input, at_line};
 pub use large::read_large;
 pub use parts::CertReader;
+pub use versions::{LargeReader, VersionReader, reader_of};
 use std::alloc::Global;
 use std::io::Read;
 use tcc_graph::{Level, Link};

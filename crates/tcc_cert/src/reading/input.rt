@@ -61,6 +61,8 @@ impl<R: Read> Input<R> {
     pub(crate) fn new(reader: R) -> Input<R>
         ensures start { IfSome (R.remaining reader) (λ bytes. IsAt R.remaining result (record { line = 1; bytes = bytes })) }
         ensures works { HasFailed result → ⊥ }
+        ensures first { result.passed ≡ 0 }
+        ensures number { result.number ≡ 1 }
     {
         Input {
             source: Source::new(reader),
@@ -77,6 +79,14 @@ impl<R: Read> Input<R> {
         &self.window.as_slice()[..self.passed.saturating_sub(1)]
     }
 
+    /// The first bytes behind the line that was read last, where none was.
+    pub(crate) fn ahead(&self, count: usize) -> &[u8]
+        requires { count ≤ length (window_bytes self.now.window) }
+        ensures { result.now ≡ take count (window_bytes self.now.window) }
+    {
+        &self.window.as_slice()[..count]
+    }
+
     /// A fault at the line after the last.
     pub(crate) fn fault(&self, kind: CertFaultKind) -> CertFault
         ensures { result ≡ record { line = self.now.number; kind = kind } }
@@ -88,7 +98,7 @@ impl<R: Read> Input<R> {
     }
 
     /// Reads until the next line, of at most so many bytes, is held, and says how long it is.
-    fn find_line(&mut self, most: usize) -> Result<usize, CertFaultKind>
+    pub(crate) fn find_line(&mut self, most: usize) -> Result<usize, CertFaultKind>
         requires passed { self.old.passed ≡ 0 }
         requires room { most < WINDOW_BYTES }
         ensures found { (at : Position) → IsAt R.remaining self.old at → FindsLine most at result self.new }

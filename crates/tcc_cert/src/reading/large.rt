@@ -1,5 +1,5 @@
 //! How the text of version 3 is read.
-ghost use Rattle.std.specs.Prelude.{◌≡◌, ℕ, IfSome, List, OnOk};
+ghost use Rattle.std.specs.Prelude.{◌≡◌, ℕ, IfSome, List, OnOk, is_ok};
 ghost use Rattle.tcc_cert.specs.private.Inputs.{AsBefore, Gives};
 ghost use Rattle.tcc_cert.specs.InputBytes.{IsAt};
 ghost use Rattle.tcc_cert.specs.Outcomes.{IsLargeReading};
@@ -127,6 +127,13 @@ fn header_line(line: &[u8]) -> Result<Level, CertFaultKind>
     }
 }
 
+/// Whether this is a first line of version 3.
+pub(crate) fn is_header(line: &[u8]) -> bool
+    ensures { result ≡ is_ok (large_header_line line.now) }
+{
+    header_line(line).is_ok()
+}
+
 /// The first line.
 fn header<R: Read>(input: &mut Input<R>) -> Result<Level, CertFault>
     ensures works { OnOk result (AsBefore input.old input.new) }
@@ -146,7 +153,7 @@ fn certificate<R: Read>(alloc: Global, input: &mut Input<R>) -> Result<LargeCert
 }
 
 /// The whole text, which starts where the input stands.
-fn whole<R: Read>(alloc: Global, input: &mut Input<R>) -> Result<LargeCertificate, CertFault>
+pub(crate) fn whole<R: Read>(alloc: Global, input: &mut Input<R>) -> Result<LargeCertificate, CertFault>
     ensures { (bytes : List ℕ) → IsAt R.remaining input.old (start_of bytes) → IsLargeReading bytes result }
 {
     let certificate = certificate(alloc, input)?;

@@ -27,8 +27,16 @@ impl<R: Read> CertReader<R> {
         ensures fresh { is_new result ≡ true }
         ensures works { ReaderFailed result → ⊥ }
     {
+        CertReader::over(Input::new(reader))
+    }
+
+    /// The parts of what stands in the input, from its first line on.
+    pub(crate) fn over(input: Input<R>) -> CertReader<R>
+        ensures input { result.input ≡ input }
+        ensures stage { result.stage ≡ Stage.Going Coming.Whole }
+    {
         CertReader {
-            input: Input::new(reader),
+            input,
             stage: Stage::Going(Coming::Whole),
         }
     }
