@@ -57,7 +57,7 @@ dist: build pack
 
 # Packs what is built: the same bytes for the same files.
 PACKED = LICENSE-APACHE LICENSE-MIT README.md CHANGELOG.md docs/GUIDE.md docs/RECORDING.md docs/FORMATS.md docs/tcc.1 docs/tcc.bash \
-docs/stale-read.svg docs/answer.schema.json examples recipes python
+docs/stale-read.svg docs/answer.schema.json docs/full.schema.json examples recipes python
 pack:
 	@version=$$($(TCC) --version | cut -d' ' -f2) && name=tcc-$$version-x86_64-linux && folder=$$(mktemp -d) && \
 	mkdir -p $$folder/$$name/docs $(DIST) && \

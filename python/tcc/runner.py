@@ -123,7 +123,7 @@ def explain(records: Path, *, level: str = "causal", large: bool = False, worker
     """The last answer for a file of records. Fewer transactions than are required are no answer, and so is an empty file, unless
     none are required. NoAnswer says why there is none, also where it isn't there after so many seconds."""
     words = [program(tcc), "explain", "--json", "--level", level, *(["--large"] if large else []), "--workers", str(workers),
-             "--require", str(require), os.fspath(records)]
+             *(["--require", str(require)] if require else []), os.fspath(records)]
     return answer_of(run(words, seconds).stdout.splitlines()[-1])
 
 

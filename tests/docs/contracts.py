@@ -36,7 +36,7 @@ BEGINNING = """# Contracts
 
 Every public call of the libraries, in words, with the definitions that its clauses cite: of what it asks for, and of what it \
 promises. `tests/docs/contracts.py --write` writes this page from the sources. The clauses themselves stand at the call, in the \
-`src/` of its crate, the definitions in the `specs/` of the crates, and [MODEL.md](MODEL.md) tells them. [PROOFS.md](PROOFS.md) \
+`src/` of its crate, the definitions in the `specs/` of the crates, and [MODEL.md](MODEL.md) tells them. [HEADLINE.md](HEADLINE.md) \
 says how the main theorem rests on them, under which premises the words hold (memory, known bytes, joins), and what no contract \
 says. The last row of a table has the calls whose clauses speak of their values alone, as of a part that was handed in and is lent.
 """

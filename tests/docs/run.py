@@ -12,8 +12,8 @@ In the documents, a link has to lead to a file, and what stands in backquotes ha
     a call of a type      `Book::new`: its last word stands in some source
     a name before a file  `answer_text` (`tcc_answer/specs`): the files there have the name
 
-ARCHITECTURE has to name the modules of each crate, all of them and no others, and what a crate stands on as `crates.txt` has
-it; CONTRACTS has to be what the sources give (`contracts.py`), and so have the examples in doc comments (`examples.py`) and
+ARCHITECTURE has to name what a crate stands on as `crates.txt` has it; CONTRACTS and MODULES have to be what the sources give
+(`contracts.py`, `modules.py`), and so have the examples in doc comments (`examples.py`) and
 what is told of statuses and limits (`told.py`). The public names that callers rely on have to be there (`surface.py`), and the
 JSON schema of answers has to be that of the answers in the rows (`schema.py`). What has to be believed stands in `specs/`, and
 nothing else does (`trust.py`). CHANGELOG tells of the past, and is left out. No script may define a name twice at one level. The
@@ -36,6 +36,7 @@ TOP = pathlib.Path(__file__).resolve().parent.parent.parent
 sys.path.insert(0, str(TOP / "tests"))
 import contracts  # noqa: E402
 import examples  # noqa: E402
+import modules  # noqa: E402
 import schema  # noqa: E402
 import surface  # noqa: E402
 import told  # noqa: E402
@@ -151,24 +152,6 @@ def table(heading: str) -> Iterator[List[str]]:
         yield [cell.strip() for cell in line.strip("|").split("|")]
 
 
-def faults_of_modules() -> Iterator[Outcome]:
-    """Whether the table of modules names those of each crate, by their paths or the ends of these."""
-    told = {WORD.findall(crate)[0]: [one for one in WORD.findall(modules) if not one.startswith("tcc_")]
-            for crate, modules in table("| crate | its modules |")}
-    for crate in stands_on():
-        if crate.startswith(("tcc_tests_", "tcc_bench_")):
-            continue
-        source = TOP / "crates" / crate / "src"
-        there = [path.relative_to(source).as_posix()[:-3] for path in source.rglob("*.rt") if path.name != "lib.rt"]
-        named = told.get(crate, [])
-        for module in there:
-            is_named = any(("/" + module).endswith("/" + name) for name in named)
-            yield "modules of %s: %s" % (crate, module), None if is_named else "ARCHITECTURE doesn't name it"
-        for name in named:
-            is_module = any(("/" + module).endswith("/" + name) for module in there)
-            yield "modules of %s: `%s`" % (crate, name), None if is_module else "no such module"
-
-
 def faults_of_crates() -> Iterator[Outcome]:
     """Whether the table of crates has for each one what it stands on, beside what these stand on."""
     told: Dict[str, List[str]] = {}
@@ -253,7 +236,7 @@ def faults_of_stack(tcc: List[str]) -> Iterator[Outcome]:
 def outcomes(tcc: List[str]) -> Iterator[Outcome]:
     for document in documents():
         yield from faults_of_document(document)
-    yield from faults_of_modules()
+    yield from modules.outcomes()
     yield from faults_of_crates()
     yield from contracts.outcomes()
     yield from examples.outcomes()

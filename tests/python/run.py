@@ -28,9 +28,9 @@ from counted import Outcome  # noqa: E402
 
 SECONDS = 120
 # The modules whose types aren't whole yet.
-UNTYPED = ("all", "answers", "chart", "contradicted", "edn", "imported", "jepsen", "lanes", "operations", "page", "picture", "places",
-           "program", "progress", "report")
-COMMANDS = ["tcc-all", "tcc-edn", "tcc-jepsen", "tcc-picture", "tcc-places", "tcc-report", "tcc-settle"]
+UNTYPED = ("all", "answers", "edn", "imported", "jepsen", "operations", "page", "picture", "places", "program", "progress",
+           "report")
+COMMANDS = ["tcc-all", "tcc-edn", "tcc-full", "tcc-jepsen", "tcc-picture", "tcc-places", "tcc-report", "tcc-settle"]
 THREADS, TURNS = 8, 40
 # A process that is killed while a transaction of its is in its COMMIT, and another one hasn't come so far.
 DYING = """
