@@ -35,6 +35,7 @@ from typing import Dict, Iterable, Iterator, List, NamedTuple, Set, TextIO, Tupl
 
 from tcc.answers import Link, cycle_of, usual_name
 from tcc.contradicted import Contradicted, surveyed
+from tcc.notes import NoNotes, Note, read_notes
 from tcc.program import NoAnswer, Program
 from tcc.progress import INTERRUPTED, Doing
 from tcc.rows import History, Operation, Transaction, Unfit, history_of, read_places
@@ -149,6 +150,7 @@ class Search:
     tcc: Program
     records: Records
     places: Dict[str, str]
+    notes: Dict[str, Note]
     strikes_faults: bool
     doing: Doing
     names: Counter = field(default_factory=Counter)
@@ -162,9 +164,10 @@ class Search:
         return self.places.get(label, label)
 
     def read_text(self, one: Struck) -> str:
-        return "%s read %s = %s from %s, row%s %s" % (
+        note = self.notes[self.named(one.reader)].text() if self.named(one.reader) in self.notes else ""
+        return "%s read %s = %s from %s, row%s %s%s" % (
             self.named(one.reader), one.key, one.value, self.named(one.source), "s" if len(one.rows) > 1 else "",
-            ", ".join(map(str, one.rows)))
+            ", ".join(map(str, one.rows)), " (%s)" % note if note else "")
 
     def settled(self) -> dict:
         """The answer for what is left, once reads at fault are struck where that is asked for."""
@@ -257,6 +260,8 @@ def arguments() -> argparse.Namespace:
     ask.add_argument("--strike-faults", action="store_true", help="leaves out reads that can't be resolved, and judges the rest")
     ask.add_argument("--places", metavar="FILE", help="the records are a slice, and FILE is the table that places.py makes of it: "
                      "labels are those of the whole history, rows those of the slice")
+    ask.add_argument("--notes", metavar="FILE", help="annotations: node, time, index and note of each transaction; those of a slice by "
+                     "the labels of the whole history")
     ask.add_argument("--tcc", default="tcc", metavar="PATH", help="the program, by default the one on the path")
     return ask.parse_args()
 
@@ -269,7 +274,8 @@ def run(asked: argparse.Namespace, doing: Doing, out: TextIO) -> int:
     if asked.places:
         places = read_places(asked.places)
     tcc = Program(asked.tcc, asked.level, asked.large, asked.workers)
-    search = Search(tcc, records, places, asked.strike_faults, doing)
+    notes = read_notes(asked.notes) if asked.notes else {}
+    search = Search(tcc, records, places, notes, asked.strike_faults, doing)
     try:
         for line in search.lines(asked.most):
             doing.say(line, out)
@@ -292,7 +298,7 @@ def main() -> int:
     except NoAnswer as error:
         print("all.py: %s" % error, file=sys.stderr)
         return error.status
-    except (Unfit, OSError, csv.Error, ValueError) as error:
+    except (Unfit, NoNotes, OSError, csv.Error, ValueError) as error:
         print("all.py: %s" % error, file=sys.stderr)
         return 6
 

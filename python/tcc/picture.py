@@ -109,6 +109,11 @@ def link_text(one: Link, history: Optional[History], with_reasons: bool) -> List
             "and reads %s from %s" % (one.key, one.target)]
 
 
+def escaped(note: str) -> str:
+    """A note of somebody's own, as a line of Graphviz has it."""
+    return " ".join(note.split()).replace("\\", "\\\\").replace('"', '\\"')
+
+
 def quoted(lines: Iterable[str]) -> str:
     """A text of Graphviz, each line to the left; labels, keys and words of the house need no escapes."""
     return '"%s"' % "".join(line + r"\l" for line in lines)
@@ -129,7 +134,7 @@ def node(name: str, title: str, history: Optional[History], keys: Iterable[str])
         lines.append("0 at every key")
     elif history:
         one = history.find(name)
-        lines += [one.rows(), *drawn_operations(one, keys)]
+        lines += [one.rows(), *([escaped(one.note)] if one.note else []), *drawn_operations(one, keys)]
     return '"%s" [label=%s];' % (name, quoted(lines))
 
 
@@ -211,7 +216,7 @@ def listed(name: str, history: History) -> Iterator[str]:
         yield "init writes 0 at every key"
         return
     one = history.find(name)
-    yield "%s %s, %s" % (name, "committed" if one.committed else "aborted", one.rows())
+    yield ", ".join(filter(None, ("%s %s" % (name, "committed" if one.committed else "aborted"), one.rows(), " ".join(one.note.split()))))
     for operation in one.operations:
         line = "" if operation.line == operation.row else " (line %d)" % operation.line
         yield "  row %d%s: %s %s %s" % (operation.row, line, operation.does, operation.key, operation.value)
@@ -292,11 +297,12 @@ def arguments() -> argparse.Namespace:
                      "whole history")
     ask.add_argument("--places", metavar="FILE", help="the table that places.py makes of a slice: its transactions are called as in "
                      "the whole history")
+    ask.add_argument("--notes", metavar="FILE", help="annotations of the history: node, time, index and note of each transaction")
     ask.add_argument("--answer", dest="number", metavar="N", type=int, help="takes answer N, from 1; by default the last")
     ask.add_argument("--text", action="store_true", help="lists the transactions with their rows, in place of a picture")
     asked = ask.parse_args()
-    if asked.text and not asked.history:
-        ask.error("--text needs --history")
+    if not asked.history and (asked.text or asked.notes):
+        ask.error("--%s needs --history" % ("text" if asked.text else "notes"))
     return asked
 
 
@@ -310,6 +316,8 @@ def run(asked: argparse.Namespace, doing: Doing, out: TextIO) -> None:
         doing.now("reads the history")
         with open_records(asked.history) as file:
             history = read_history(file)
+        if asked.notes:
+            history.annotate(asked.notes)
     if asked.places:
         places = read_places(asked.places)
     doing.now("lists the transactions" if asked.text else "makes the picture")

@@ -22,13 +22,14 @@ class Operation(NamedTuple):
 
 @dataclass
 class Transaction:
-    """A transaction of the history; its last row is 0 while it isn't finished."""
+    """A transaction of the history; its last row is 0 while it isn't finished. Its note is what annotations say of it."""
 
     label: str
     first: int
     last: int = 0
     committed: bool = False
     operations: List[Operation] = field(default_factory=list)
+    note: str = ""
 
     @property
     def session(self) -> str:
@@ -61,6 +62,15 @@ class History:
             end = "" if self.wrong_row is None else ", whose row %d is no record" % self.wrong_row
             raise Unfit("%s isn't in the history%s: is it that of the answer?" % (label, end))
         return self.transactions[label]
+
+    def annotate(self, path: str) -> None:
+        """Takes what a file of annotations says of each transaction."""
+        try:
+            for label, note in read_notes(path).items():
+                if label in self.transactions:
+                    self.transactions[label].note = note.text()
+        except NoNotes as error:
+            raise Unfit(str(error)) from error
 
     def value_read(self, source: str, target: str, key: str) -> str:
         """The value of the key by which one transaction reads from another."""
