@@ -1,4 +1,5 @@
 //! Certificates of worked histories, writers that fail, altered texts, and readers that fail.
+mod large;
 mod parts;
 mod rows;
 mod streams;
