@@ -5,9 +5,9 @@ A: then A can't be the last one before C. Each is an anomaly by itself; a histor
 A read that can't be traced to a write is left out, and of a value that was written twice each later write and all reads: that
 takes rules away, and adds none.
 
-The transactions are sorted by their pairs (Kahn), and the clocks of their sessions worked out along that order, 64 at a time; of
-the writes of the key that stand between A and C in the order each is looked at. N transactions, S sessions, R reads: N*S/64 rows,
-and as many looks as there are such writes.
+The transactions are sorted by their pairs (Kahn), else by rows. Of the writes of the key that stand between A and C in that order
+each is looked at: whether C knew of it, and it of A, by a search back where few transactions stand between, and else by the clocks of
+their sessions, 64 at a time, along the order. N transactions, S sessions: N*S/64 rows at most.
 """
 from bisect import bisect_right
 from collections import deque
@@ -20,6 +20,7 @@ from tcc.program import Program
 from tcc.rows import History, Operation, Transaction
 
 BLOCK = 64
+SEARCHED = 2  # times the transactions: so many may be searched through before clocks are worked out
 INIT = -1
 NAMES = ("read your writes", "monotonic reads", "monotonic writes", "writes follow reads", "fractured read", "causal chain")
 
@@ -183,24 +184,54 @@ class _Candidate(NamedTuple):
     writers: List[int]
 
 
-def _between(graph: Graph, order: List[int]) -> Iterator[_Candidate]:
+def _positions(graph: Graph, order: List[int]) -> List[int]:
+    """Where in the order each transaction stands; -1 for none."""
+    position = [-1] * len(graph.transactions)
+    for index, number in enumerate(order):
+        position[number] = index
+    return position
+
+
+def _between(graph: Graph, order: List[int], position: List[int]) -> Iterator[_Candidate]:
     """The reads with writers of their key that stand between source and reader in the order."""
-    position = {number: index for index, number in enumerate(order)}
     writers: Dict[str, List[Tuple[int, int]]] = {
-        key: sorted((position[one], one) for one in every if one in position) for key, every in graph.writers.items()}
+        key: sorted((position[one], one) for one in every if position[one] >= 0) for key, every in graph.writers.items()}
     for reader in order:
         for read in graph.reads[reader]:
             every = writers.get(read.operation.key)
             if not every:
                 continue
-            begin = 0 if read.source == INIT else bisect_right(every, (position.get(read.source, -1), len(position)))
+            begin = 0 if read.source == INIT else bisect_right(every, (position[read.source], len(position)))
             end = bisect_right(every, (position[reader], -1))
             if begin < end:
                 yield _Candidate(reader, read, [one for _, one in every[begin:end]])
 
 
-def _known(graph: Graph, order: List[int], found: List[_Candidate]) -> List[_Candidate]:
-    """The candidates with those of their writers of which the reader knew."""
+def _reached(graph: Graph, position: List[int], last: int, least: int) -> Set[int]:
+    """The transactions from which one is reached, as far back as a place in the order."""
+    found, waiting = {last}, [last]
+    while waiting:
+        number = waiting.pop()
+        before = number - 1 if number != graph.begins[graph.sessions[number]] else INIT
+        for one in (before, *(read.source for read in graph.reads[number])):
+            if one != INIT and one not in found and position[one] >= least:
+                found.add(one)
+                waiting.append(one)
+    return found
+
+
+def _known(graph: Graph, order: List[int], position: List[int], found: List[_Candidate]) -> List[_Candidate]:
+    """The candidates with those of their writers of which the reader knew: by a search back where that is short, else by clocks."""
+    least = [min(position[one] for one in each.writers) for each in found]
+    if sum(position[each.reader] - low for each, low in zip(found, least)) <= SEARCHED * len(order):
+        near = ((each, _reached(graph, position, each.reader, low)) for each, low in zip(found, least))
+        told = (_Candidate(each.reader, each.read, [one for one in each.writers if one in reached]) for each, reached in near)
+        return [each for each in told if each.writers]
+    return _known_by_clocks(graph, order, found)
+
+
+def _known_by_clocks(graph: Graph, order: List[int], found: List[_Candidate]) -> List[_Candidate]:
+    """The same by clocks."""
     kept: List[List[int]] = [[] for _ in found]
     lanes = sorted({graph.sessions[one] for each in found for one in each.writers})
     for first in range(0, len(lanes), BLOCK):
@@ -215,8 +246,19 @@ def _known(graph: Graph, order: List[int], found: List[_Candidate]) -> List[_Can
     return [_Candidate(each.reader, each.read, writers) for each, writers in zip(found, kept) if writers]
 
 
-def _behind(graph: Graph, order: List[int], found: List[_Candidate]) -> List[_Candidate]:
+def _behind(graph: Graph, order: List[int], position: List[int], found: List[_Candidate]) -> List[_Candidate]:
     """The candidates with those of their writers that knew of the source; behind the initial state all stand."""
+    far = sum(position[one] - position[each.read.source] for each in found if each.read.source != INIT for one in each.writers)
+    if far > SEARCHED * len(order):
+        return _behind_by_clocks(graph, order, found)
+    told = (_Candidate(each.reader, each.read, [
+        one for one in each.writers
+        if each.read.source == INIT or each.read.source in _reached(graph, position, one, position[each.read.source])]) for each in found)
+    return [each for each in told if each.writers]
+
+
+def _behind_by_clocks(graph: Graph, order: List[int], found: List[_Candidate]) -> List[_Candidate]:
+    """The same by clocks."""
     kept: List[List[int]] = [each.writers if each.read.source == INIT else [] for each in found]
     lanes = sorted({graph.sessions[each.read.source] for each in found if each.read.source != INIT})
     for first in range(0, len(lanes), BLOCK):
@@ -235,7 +277,7 @@ def _atomic(graph: Graph, order: List[int]) -> Iterator[_Candidate]:
         return graph.sessions[other] == graph.sessions[one] and other < one or any(
             read.source == other for read in graph.reads[one])
 
-    for reader, read, writers in _between(graph, order):
+    for reader, read, writers in _between(graph, order, _positions(graph, order)):
         known = [one for one in writers if knows(reader, one) and (read.source == INIT or knows(one, read.source))]
         if known:
             yield _Candidate(reader, read, known)
@@ -262,7 +304,8 @@ def survey(history: History, level: str, doing: Callable[[str], None]) -> Tuple[
     if level == "atomic":
         found = list(_atomic(graph, order))
     else:
-        found = _behind(graph, order, _known(graph, order, list(_between(graph, order))))
+        position = _positions(graph, order)
+        found = _behind(graph, order, position, _known(graph, order, position, list(_between(graph, order, position))))
     found.sort(key=lambda one: (one.reader, one.read.operation.row))
     names = Names(graph, found)
     told = [Contradicted(graph.transactions[one.reader].label, one.read.operation,

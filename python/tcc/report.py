@@ -40,7 +40,7 @@ EXAMPLE = """example: one page of the history that Jepsen left
   report.html: an anomaly, 37 contradicted reads
 """
 STATUSES = {"consistent": 0, "anomaly": 1, "unresolved": 2}
-NOT_READ = 3
+NOT_READ, TOO_LARGE = 3, 4
 NANOSECONDS = 1e9
 # What ends that which the nemesis began, where it isn't start-THIS and stop-THIS.
 ENDS = {"stop": ["start"], "start": ["kill"], "resume": ["pause"], "heal": ["partition", "start-partition"]}
@@ -171,12 +171,13 @@ def gathered(asked: argparse.Namespace, work: Work) -> Findings:
         history = read_history(file)
     notes = dict(imported.notes()) if imported else read_notes(asked.notes) if asked.notes else {}
     tcc = Program(os.path.abspath(asked.tcc) if os.sep in asked.tcc else asked.tcc, asked.level, is_large(history), asked.workers)
-    beside = ["--slice", "slice.csv"] if tcc.is_large else ["--certificate", "certificate.txt"]
+    has_certificate = not tcc.is_large or certifies_large(tcc)
+    beside = [*(["--slice", "slice.csv"] if tcc.is_large else []), *(["--certificate", "certificate.txt"] if has_certificate else [])]
     answer = last_answer(work.run(tcc.explain(*beside, "records.csv"), "answer.json"))
     told = Findings(pathlib.Path(asked.history).name, tcc, history, notes, answer, work.commands, imported)
     if told.verdict == "anomaly":
         told.cycle = cycle_of(answer)
-    certify(told, work)
+    certify(told, work, has_certificate)
     if told.verdict != "consistent":
         begun = time.monotonic()
         told.found, told.graph = survey(history, asked.level, work.doing.now)
@@ -185,11 +186,18 @@ def gathered(asked: argparse.Namespace, work: Work) -> Findings:
     return told
 
 
-def certify(told: Findings, work: Work) -> None:
-    """Has the certificate checked: of a large anomaly that of its slice, whose least anomaly is then the one that is shown."""
+def certifies_large(tcc: Program) -> bool:
+    """Whether the program writes a certificate of a large history too; where it doesn't, the words are a fault."""
+    words = [tcc.path, "explain", "--large", "--certificate", os.devnull]
+    return subprocess.run(words, stdin=subprocess.DEVNULL, capture_output=True, check=False).returncode == 0
+
+
+def certify(told: Findings, work: Work, has_certificate: bool) -> None:
+    """Has the certificate checked, where there is one; of a large anomaly the least one of its slice is shown, with that of the slice
+    where the whole has none."""
+    if has_certificate and told.verdict != "unresolved":
+        check(told, work, "records.csv", "certificate.txt")
     if not told.tcc.is_large:
-        if told.verdict != "unresolved":
-            check(told, work, "records.csv")
         return
     if told.verdict != "anomaly" or not (work.folder / "slice.csv").exists() or not (work.folder / "slice.csv").stat().st_size:
         return
@@ -197,14 +205,18 @@ def certify(told: Findings, work: Work) -> None:
         small = read_history(file)
     places = table(told.answer, small)
     of_slice = Program(told.tcc.path, told.tcc.level, False, told.tcc.workers)
-    least = last_answer(work.run(of_slice.explain("--certificate", "certificate.txt", "slice.csv"), "least.json"))
+    least = last_answer(work.run(of_slice.explain("--certificate", "least.txt", "slice.csv"), "least.json"))
     if least["answer"] == "anomaly":
         told.cycle, told.is_of_slice = cycle_of(least, places), True
-        check(told, work, "slice.csv")
+        if not (told.check or "").startswith("accepted"):
+            check(told, work, "slice.csv", "least.txt")
 
 
-def check(told: Findings, work: Work, records: str) -> None:
-    ended = work.run([told.tcc.path, "check", records, "certificate.txt"])
+def check(told: Findings, work: Work, records: str, certificate: str) -> None:
+    """What `tcc check` says; of a large history it may have to be told that."""
+    ended = work.run([told.tcc.path, "check", records, certificate])
+    if told.tcc.is_large and ended.returncode == TOO_LARGE:
+        ended = work.run([told.tcc.path, "check", "--large", records, certificate])
     told.check = ended.stdout.decode(errors="replace").strip()
     told.certificate = records
 
@@ -432,7 +444,7 @@ def anomalies(told: Findings, examples: Examples) -> Iterator[str]:
         least = "The least anomaly" if told.answer.get("least") is not False else "An anomaly"
         yield "<h2>%s: %s</h2>" % (least, text(shape_name(told)))
         if told.answer.get("least") is False:
-            yield '<p class="faint">The history is large, so that no cycle has fewer steps isn\'t proved of the whole%s.</p>' % (
+            yield '<p class="faint"><code>least not proved</code>: of so large a history it isn\'t proved that no cycle has fewer steps%s.</p>' % (
                 ", only of the slice that this one is of" if told.is_of_slice else "")
         yield '<p class="faint">%s; no order of the transactions keeps all of these links. Each session is a column.</p>' % text(many(steps, "step"))
         yield legend()
@@ -526,6 +538,7 @@ def certificate(told: Findings) -> Iterator[str]:
     is_accepted = told.check.startswith("accepted")
     of_what = "the slice's records, whose anomaly is one of the whole history" if told.certificate == "slice.csv" else "these records"
     claim = ("that its order explains every read" if told.verdict == "consistent" else
+             "that each link of the cycle that tcc explain printed holds in this history" if told.tcc.is_large and told.certificate == "records.csv" else
              "that the cycle above is one of %s, and that none has fewer steps" % of_what)
     if is_accepted:
         yield "<p>\u2713 <code>%s</code>: <code>tcc check</code> found by rules alone, without any search, %s.</p>" % (text(told.check), text(claim))

@@ -94,6 +94,74 @@ def lines_of_edn_py() -> Iterator[Outcome]:
             yield "records by way of edn.py, %d" % seed, None if records(text) == records(lines.stdout) else "they differ"
 
 
+def random_records(seed: int) -> str:
+    """A few transactions of up to four sessions on two keys, one behind the other, that read some write before, or the initial value."""
+    pick = random.Random(seed)
+    lines, written = [], {"x": [0], "y": [0]}
+    for number in range(pick.randrange(2, 14)):
+        name = "s%d" % pick.randrange(4)
+        lines.append(name + ",begin")
+        own = set()
+        for _ in range(pick.randrange(1, 4)):
+            key = pick.choice("xy")
+            if pick.random() < 0.5 and key not in own:
+                lines.append("%s,r,%s,%d" % (name, key, pick.choice(written[key])))
+            else:
+                written[key].append(len(lines) + 1)
+                own.add(key)
+                lines.append("%s,w,%s,%d" % (name, key, written[key][-1]))
+        lines.append(name + (",commit" if pick.random() < 0.9 else ",abort"))
+    return "".join(line + "\n" for line in lines)
+
+
+def contradicted_by_definition(history, level: str) -> List[Tuple[str, int, str, str]]:
+    """The reads by C from A, each with its row, that a write by B contradicts: C is reached from B, and B from A, or A is `init`."""
+    from tcc.contradicted import Graph
+    graph = Graph(history)
+    count = len(graph.transactions)
+    edge = [[one != other and graph.sessions[one] == graph.sessions[other] and one < other
+             or any(read.source == one for read in graph.reads[other]) for other in range(count)] for one in range(count)]
+    if level == "causal":
+        for middle in range(count):
+            for one in range(count):
+                for other in range(count):
+                    edge[one][other] = edge[one][other] or edge[one][middle] and edge[middle][other]
+    label = [one.label for one in graph.transactions]
+    found = []
+    for reader in range(count):
+        for read in graph.reads[reader]:
+            by = [one for one in graph.writers.get(read.operation.key, []) if one not in (reader, read.source) and edge[one][reader]
+                  and (read.source < 0 or edge[read.source][one])]
+            if by:
+                found.append((label[reader], read.operation.row, "init" if read.source < 0 else label[read.source], label[min(by)]))
+    return found
+
+
+def contradicted_reads() -> Iterator[Outcome]:
+    """The list of contradicted reads is that of the definition, at both levels, by searches and by clocks."""
+    from tcc import contradicted
+    from tcc.rows import read_history
+    searched, told = contradicted.SEARCHED, 0
+    for way in (0, searched):
+        contradicted.SEARCHED = way
+        for level in ("causal", "atomic"):
+            wrong = None
+            for seed in range(400):
+                history = read_history(io.StringIO(random_records(seed)))
+                found, graph = contradicted.survey(history, level, lambda what: None)
+                got = [(one.reader, one.operation.row, one.source, one.writer) for one in found.contradicted]
+                told += len(got)
+                if got != contradicted_by_definition(history, level):
+                    wrong = wrong or "seed %d: %s" % (seed, got)
+                for one in found.contradicted if level == "causal" else ():
+                    cycle = contradicted.cycle_of_read(graph, one)
+                    if not cycle or cycle[-1].kind != "derived" or cycle[-1].walk[-1].target != one.reader:
+                        wrong = wrong or "seed %d: no walks for %s" % (seed, one)
+            yield "contradicted reads, %s, %s" % (level, "by searches" if way else "by clocks"), wrong
+    contradicted.SEARCHED = searched
+    yield "contradicted reads are there", None if told > 1000 else "only %d" % told
+
+
 def interrupted(words: List[str], given: bytes, wanted: bytes, after: float) -> Optional[str]:
     """What a script that is interrupted does otherwise than it should: it says what it has, without a traceback."""
     with subprocess.Popen(words, stdin=subprocess.PIPE, stdout=subprocess.PIPE, stderr=subprocess.STDOUT) as script:
@@ -170,6 +238,7 @@ def lines_of_recording(tcc: List[str]) -> Iterator[Outcome]:
 def outcomes(tcc: List[str]) -> Iterator[Outcome]:
     yield from both_ways()
     yield from lines_of_edn_py()
+    yield from contradicted_reads()
     yield from interruptions(tcc)
     yield from at_terminal()
     yield from lines_of_recording(tcc)
