@@ -1,0 +1,6 @@
+pub mod FirstLemmas
+mod Worked
+pub mod ScanLemmas
+pub mod ListLemmas
+pub mod FindLemmas
+pub mod ChosenLemmas

@@ -1,0 +1,16 @@
+//! The contradicted reads of a history of any size: reads that another writer of the key contradicts, since it is known to the
+//! reader and is reached from what was read.
+#![tactic(auto)]
+
+mod contradicted;
+mod finding;
+mod reaching;
+mod reading;
+mod scanning;
+mod surveyed;
+mod surveying;
+
+pub use contradicted::Contradicted;
+pub use reading::Reading;
+pub use surveyed::Surveyed;
+pub use surveying::survey;

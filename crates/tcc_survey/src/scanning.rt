@@ -1,0 +1,174 @@
+//! Which of the writers in a block of sessions contradict a read: those that its source reaches and that reach its reader.
+ghost use Rattle.std.specs.Prelude.{◌≡◌, ◌<◌, ◌≤◌, ◌+◌, ◌↔◌, ℕ, length, All, IsTrue, OnOk};
+ghost use Rattle.std.specs.List.Sorted.{IsNonDecreasing};
+ghost use Rattle.tcc_reads.specs.History.{IsBySession, count};
+ghost use Rattle.tcc_graph.specs.Keys.{key_at};
+ghost use Rattle.tcc_graph.specs.Levels.{judged};
+ghost use Rattle.tcc_clocks.specs.Clocks.{AreOwners, AreClocks};
+ghost use Rattle.tcc_clocks.specs.declared.latest.TheConstants.{WIDE};
+ghost use Rattle.tcc_survey.specs.private.Firsts.{AreFirsts};
+ghost use Rattle.tcc_survey.specs.private.Settled.{IsLeastOf, IsAcyclic, IsWithin, IsKnown, IsHit, AreWritersIn, IsReading, IsLeastBefore, AreReads, AreSettled, AreSpansIn};
+
+use crate::reading::Reading;
+use std::alloc::Global;
+use tcc_clocks::{SharedRows, WIDE, between, block_bounds, find_spans};
+use tcc_graph::{LargeGraph, Level};
+use tcc_txn::NoMemory;
+
+/// Whether a transaction is of the block, and no earlier in its session than the one row says and no later than the other.
+fn is_within(owners: &[u32], from: u32, first: &[u32], clock: &[u32], b: u32) -> bool
+    requires inside { b < length owners.now }
+    requires first { length first.now ≡ WIDE }
+    requires clock { length clock.now ≡ WIDE }
+    ensures { IsTrue result ↔ IsWithin owners.now from first.now clock.now b }
+{
+    let owner = owners[b as usize];
+    if owner < from {
+        return false;
+    }
+    let lane = (owner - from) as usize;
+    lane < WIDE && first[lane] <= b && b <= clock[lane]
+}
+
+/// Whether what reaches `c` is known to it at the level.
+fn is_known(level: Level, graph: &LargeGraph, b: u32, c: u32) -> bool
+    requires from { b < count graph.now }
+    requires to { c < count graph.now }
+    ensures { IsTrue result ↔ IsKnown level graph.now b c }
+{
+    match level {
+        Level::Causal => true,
+        Level::Atomic => graph.causal(b, c),
+    }
+}
+
+/// The first of these writers, which rise, that lies between the rows and is known to `c`, or 0 where there is none.
+fn first_hit(
+    level: Level,
+    graph: &LargeGraph,
+    owners: &[u32],
+    from: u32,
+    first: &[u32],
+    clock: &[u32],
+    writers: &[u32],
+    c: u32,
+) -> u32
+    requires owners { length owners.now ≡ count graph.now }
+    requires inside { All (λ b. b < count graph.now) writers.now }
+    requires rising { IsNonDecreasing writers.now }
+    requires first { length first.now ≡ WIDE }
+    requires clock { length clock.now ≡ WIDE }
+    requires reader { c < count graph.now }
+    ensures { IsLeastOf (IsHit (judged graph.now level) owners.now from first.now clock.now writers.now c) result }
+{
+    for writer in writers {
+        let b = *writer;
+        if b > 0 && is_within(owners, from, first, clock, b) && is_known(level, graph, b, c) {
+            return b;
+        }
+    }
+    0
+}
+
+/// The least number that contradicts a read, of those up to the block: the one of an earlier block, or else of these writers of
+/// its key.
+fn least_up_to(
+    level: Level,
+    graph: &LargeGraph,
+    owners: &[u32],
+    from: u32,
+    firsts: &SharedRows,
+    clocks: &SharedRows,
+    writers: &[u32],
+    reading: Reading,
+    known: u32,
+) -> u32
+    requires numbered { IsBySession graph.now.entries }
+    requires acyclic { IsAcyclic graph.now }
+    requires owners { AreOwners graph.now owners.now }
+    requires firsts { AreFirsts graph.now from firsts.now }
+    requires clocks { AreClocks graph.now from clocks.now }
+    requires writers { AreWritersIn graph.now from (key_at graph.now reading.key_index) writers.now }
+    requires read { IsReading graph.now reading }
+    requires known { IsLeastBefore (judged graph.now level) from reading known }
+    ensures { IsLeastBefore (judged graph.now level) (from + WIDE) reading result }
+{
+    if known > 0 || writers.is_empty() || clocks.are_same(reading.source, reading.reader) {
+        return known;
+    }
+    let first = firsts.get(reading.source);
+    let clock = clocks.get(reading.reader);
+    first_hit(
+        level,
+        graph,
+        owners,
+        from,
+        first,
+        clock,
+        writers,
+        reading.reader,
+    )
+}
+
+/// Goes on, for each read, to the writers of its key in the block.
+fn settle_each(
+    found: &mut [u32],
+    level: Level,
+    graph: &LargeGraph,
+    owners: &[u32],
+    from: u32,
+    spans: &[(usize, usize)],
+    firsts: &SharedRows,
+    clocks: &SharedRows,
+    reads: &[Reading],
+)
+    requires numbered { IsBySession graph.now.entries }
+    requires acyclic { IsAcyclic graph.now }
+    requires owners { AreOwners graph.now owners.now }
+    requires spans { AreSpansIn graph.now from spans.now }
+    requires firsts { AreFirsts graph.now from firsts.now }
+    requires clocks { AreClocks graph.now from clocks.now }
+    requires reads { AreReads graph.now reads.now }
+    requires settled { AreSettled (judged graph.now level) reads.now from found.old }
+    ensures { AreSettled (judged graph.now level) reads.now (from + WIDE) found.new }
+{
+    for (index, read) in reads.iter().enumerate() {
+        let key_index = read.key_index;
+        let writers = between(graph.writers_at(key_index), spans[key_index as usize]);
+        let known = found[index];
+        found[index] = least_up_to(
+            level, graph, owners, from, firsts, clocks, writers, *read, known,
+        );
+    }
+}
+
+/// Goes on, for each read, to the writers of a block of sessions.
+pub(crate) fn settle_block(
+    alloc: Global,
+    found: &mut [u32],
+    level: Level,
+    graph: &LargeGraph,
+    owners: &[u32],
+    from: u32,
+    firsts: &SharedRows,
+    clocks: &SharedRows,
+    reads: &[Reading],
+) -> Result<(), NoMemory>
+    requires numbered { IsBySession graph.now.entries }
+    requires acyclic { IsAcyclic graph.now }
+    requires owners { AreOwners graph.now owners.now }
+    requires firsts { AreFirsts graph.now from firsts.now }
+    requires clocks { AreClocks graph.now from clocks.now }
+    requires reads { AreReads graph.now reads.now }
+    requires settled { AreSettled (judged graph.now level) reads.now from found.old }
+    ensures same { length found.new ≡ length found.old }
+    ensures settled { OnOk result (AreSettled (judged graph.now level) reads.now (from + WIDE) found.new) }
+{
+    let bounds = block_bounds(owners, from);
+    let mut spans = Vec::new(alloc);
+    find_spans(&mut spans, graph, bounds)?;
+    settle_each(
+        found, level, graph, owners, from, &spans, firsts, clocks, reads,
+    );
+    Ok(())
+}

@@ -1,0 +1,24 @@
+//! The survey of a history.
+ghost use Rattle.std.specs.Prelude.{IfOk};
+ghost use Rattle.tcc_graph.specs.Levels.{judged};
+ghost use Rattle.tcc_survey.specs.Contradictions.{IsSurvey};
+
+use crate::contradicted::contradicted_along;
+use crate::surveyed::Surveyed;
+use std::alloc::Global;
+use tcc_graph::{LargeGraph, Level};
+use tcc_order::order_of_pairs;
+use tcc_txn::NoMemory;
+
+/// All contradicted reads of a history at a level: each read that another writer of its key contradicts, since it is known to
+/// the reader by a walk that the level allows and is reached from what is read, with the least such writer. A history without
+/// any may still have a cycle, of several derived links: `tcc_order::order` says so.
+pub fn survey(alloc: Global, graph: &LargeGraph, level: Level) -> Result<Surveyed, NoMemory>
+    ensures { IfOk result (IsSurvey (judged graph.now level)) }
+{
+    let Some(order) = order_of_pairs(alloc, graph)? else {
+        return Ok(Surveyed::Circular);
+    };
+    let list = contradicted_along(alloc, graph, level, &order)?;
+    Ok(Surveyed::Listed(list))
+}
