@@ -28,6 +28,7 @@ pub use large_writing::write_large;
 pub use lists::{Links, Numbers, Table};
 pub use outgoing::Outgoing;
 pub use part::{CycleHead, OrderHead, Part};
+pub use ranges::Scale;
 pub use reading::{CertReader, LargeReader, VersionReader, read, read_large, reader_of};
 pub use version::Version;
 pub use writing::write;

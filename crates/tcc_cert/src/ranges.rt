@@ -53,7 +53,7 @@ pub(crate) fn ranges_of(version: Version) -> Ranges
 
 /// How large the numbers of a text may be.
 #[derive(Clone, Copy)]
-pub(crate) enum Scale {
+pub enum Scale {
     /// As a version with tables has them.
     Small(Version),
     /// As version 3 has them.

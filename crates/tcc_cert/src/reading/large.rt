@@ -153,7 +153,10 @@ fn certificate<R: Read>(alloc: Global, input: &mut Input<R>) -> Result<LargeCert
 }
 
 /// The whole text, which starts where the input stands.
-pub(crate) fn whole<R: Read>(alloc: Global, input: &mut Input<R>) -> Result<LargeCertificate, CertFault>
+pub(crate) fn whole<R: Read>(
+    alloc: Global,
+    input: &mut Input<R>,
+) -> Result<LargeCertificate, CertFault>
     ensures { (bytes : List ℕ) → IsAt R.remaining input.old (start_of bytes) → IsLargeReading bytes result }
 {
     let certificate = certificate(alloc, input)?;
