@@ -20,6 +20,7 @@ faulty-whole bytes fault none = by none.kind
   where
     same : {X : Type 0} → ◌≡◌ {A = Result X CertFault} (Err (record { line = 1; kind = fault.kind })) (Err fault)
     same {X} = ap (λ l. Err (record { line = l; kind = fault.kind })) (sym none.line)
+
     by : (line_of MAX_HEADER_BYTES bytes ≡ Err fault.kind) ⊎ IsFailure (Unit {0}) fault.kind → IsReading bytes (Err fault) × IsLargeReading bytes (Err fault)
     by (inl is) = (inl (rw is refl ∙ same), inl (rw is refl ∙ same))
     by (inr failure) = (

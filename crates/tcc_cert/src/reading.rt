@@ -30,10 +30,10 @@ use crate::{CertFault, CertFaultKind, Certificate, Links, Numbers, Part, Table, 
 use input::{Input, at_line};
 pub use large::read_large;
 pub use parts::CertReader;
-pub use versions::{LargeReader, VersionReader, reader_of};
 use std::alloc::Global;
 use std::io::Read;
 use tcc_graph::{Level, Link};
+pub use versions::{LargeReader, VersionReader, reader_of};
 use words::words_of;
 
 /// Whether a line is this word alone.
