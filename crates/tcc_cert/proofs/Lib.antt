@@ -29,3 +29,4 @@ mod LargeBack
 mod LargeOne
 mod WorkedLarge
 mod VersionFacts
+mod RunFacts

@@ -8,6 +8,7 @@ pub mod Begun
 pub mod Given
 pub mod Reading
 pub mod LargeTexts
+pub mod RunsTold
 pub mod LargeReading
 pub mod Outcomes
 pub mod Parts

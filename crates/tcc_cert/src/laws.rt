@@ -1,7 +1,11 @@
 //! What the definitions of a certificate's text say by themselves.
-ghost use Rattle.std.specs.Prelude.{◌≡◌, ◌≤◌, ℕ, List, Err, None, Ok, Some};
+ghost use Rattle.std.specs.Prelude.{◌≡◌, ◌≤◌, ◌<◌, ◌+◌, ◌∷◌, length, ℕ, List, Err, None, Ok, Some};
 ghost use Rattle.tcc_cert.specs.Texts.{HasText, certificate_text};
-ghost use Rattle.tcc_cert.specs.LargeTexts.{HasLargeText, large_certificate_text};
+ghost use Rattle.tcc_cert.specs.LargeTexts.{HasLargeText, HasRunsClaimText, large_certificate_text};
+ghost use Rattle.tcc_cert.specs.RunsTold.{order_claim_of};
+ghost use Rattle.tcc_cert.specs.declared.version_3.TheConstants.{V3_MAX_COUNT, V3_MAX_SESSIONS};
+ghost use Rattle.tcc_graph.specs.declared.level.Level.{Level};
+ghost use Rattle.tcc_reads.specs.History.{History, count, owner};
 ghost use Rattle.tcc_cert.specs.LargeReading.{large_certificate_read};
 ghost use Rattle.tcc_cert.specs.Outcomes.{IsLargeReading, IsReading};
 ghost use Rattle.tcc_cert.specs.Versions.{HasNoFirstLine};
@@ -51,4 +55,12 @@ pub fn large_read_text_is_one()
 /// A text without a first line has that fault whatever its version.
 pub fn no_first_line()
     ensures { (bytes : List ℕ) (fault : CertFault) → HasNoFirstLine bytes fault → IsReading bytes (Err fault) × IsLargeReading bytes (Err fault) }
+{}
+
+/// The claim that an order is a commit order has a text, where the order begins with `init` and the history is within the
+/// large limits.
+pub fn order_has_text()
+    ensures { (level : Level) (h : History) (order : List ℕ) → 0 < count h → count h ≤ V3_MAX_COUNT → length h.sessions ≤ V3_MAX_SESSIONS
+        → ((n : ℕ) → 0 < n → n < count h → owner h n < length h.sessions) → 1 + length order ≡ count h
+        → HasRunsClaimText (order_claim_of level h (0 ∷ order)) }
 {}

@@ -1,5 +1,5 @@
 //! The lines of a reader, within the limit on their length.
-ghost use Rattle.std.specs.Prelude.{◌≡◌, ◌<◌, ◌≤◌, ◌==◌, IfOk, IfSome, OnOk, length, position, take};
+ghost use Rattle.std.specs.Prelude.{◌≡◌, ◌<◌, ◌≤◌, ◌-◌, ◌==◌, IfOk, IfSome, OnOk, length, position, take};
 ghost use Rattle.tcc_cert.specs.WindowBytes.{window_bytes};
 ghost use Rattle.tcc_cert.specs.private.Showing.{at_line};
 ghost use Rattle.tcc_cert.specs.Reading.{line_length};
@@ -95,6 +95,18 @@ impl<R: Read> Input<R> {
             line: self.number,
             kind,
         }
+    }
+
+    /// From the first of the bytes that wait on, the reader gives at most so many bytes; to be asked for more is a failure.
+    pub(crate) fn limit(&mut self, most: usize)
+        ensures same { (at : Position) → IsAt R.remaining self.old at → IsAt R.remaining self.new at }
+        ensures works { AsBefore self.old self.new }
+        ensures first { self.new.passed ≡ self.old.passed }
+        ensures number { self.new.number ≡ self.old.number }
+        ensures left { self.new.source.left ≡ most - length (window_bytes self.old.window) }
+    {
+        let held = self.window.as_slice().len();
+        self.source.limit(most.saturating_sub(held));
     }
 
     /// Reads until the next line, of at most so many bytes, is held, and says how long it is.

@@ -13,10 +13,14 @@ use super::links::{lines, links};
 use super::mark;
 use super::words::next_line;
 use crate::ranges::{MAX_HEADER_BYTES, Scale};
+use crate::version_3::V3_MAX_TEXT_BYTES;
 use crate::{CertFault, CertFaultKind, LargeCertificate, LinksClaim, Run, Runs, RunsClaim};
 use std::alloc::Global;
 use std::io::Read;
 use tcc_graph::Level;
+
+/// The text is given up where it has more bytes than this: one more than it may have, so that its end is met.
+pub(crate) const MOST_BYTES: usize = V3_MAX_TEXT_BYTES + 1;
 
 /// So many runs, and the last line.
 fn runs<R: Read>(alloc: Global, input: &mut Input<R>, count: u32) -> Result<Runs, CertFault>
@@ -166,9 +170,11 @@ pub(crate) fn whole<R: Read>(
 
 /// Reads the certificate of version 3 whose text the reader gives, nothing behind it, or the first line with a fault. The
 /// first line has at most 8,191 bytes and a line feed, each other at most 127. Where the reader fails, that is the fault
-/// `Read` at the line that was wanted then, unless a line before it has another.
+/// `Read` at the line that was wanted then, unless a line before it has another; so it is where the text goes on past 1 GiB.
 pub fn read_large<R: Read + Drop>(alloc: Global, reader: R) -> Result<LargeCertificate, CertFault>
     ensures { IfSome (R.remaining reader) (λ bytes. IsLargeReading bytes result) }
 {
-    whole(alloc, &mut Input::new(reader))
+    let mut input = Input::new(reader);
+    input.limit(MOST_BYTES);
+    whole(alloc, &mut input)
 }

@@ -1,16 +1,17 @@
-//! A reader that keeps in mind that it failed.
-ghost use Rattle.std.specs.Prelude.{◌≡◌, IsTrue, OnErr, OnOk, false};
+//! A reader that keeps in mind that it failed, and that is asked no more once it has given as many bytes as it may.
+ghost use Rattle.std.specs.Prelude.{◌≡◌, ◌+◌, IfOk, IsErr, IsTrue, OnErr, OnOk, false};
 ghost use Rattle.std.specs.Io.{ReadsAtMost};
 ghost use Rattle.std.specs.Io.KnownBytes.{ReadConsumes};
 
-use std::io::{self, Read};
+use std::io::{self, ErrorKind, Read};
 
-/// A reader, and whether a read of it has failed. Nothing else says so than a read here: what is answered of a failed
-/// reader rests on this.
+/// A reader, whether a read of it has failed, and how many bytes it may still give: to be asked for more is a failure too.
+/// Nothing else says so than a read here: what is answered of a failed reader rests on this.
 #[derive(Drop)]
 pub(crate) struct Source<R> {
     reader: R,
     failed: bool,
+    left: usize,
 }
 
 impl<R: Read> Source<R> {
@@ -21,7 +22,17 @@ impl<R: Read> Source<R> {
         Source {
             reader,
             failed: false,
+            left: usize::MAX,
         }
+    }
+
+    /// From now on it gives at most so many bytes.
+    pub(crate) fn limit(&mut self, most: usize)
+        ensures reader { self.new.reader ≡ self.old.reader }
+        ensures failed { self.new.failed ≡ self.old.failed }
+        ensures left { self.new.left ≡ most }
+    {
+        self.left = most;
     }
 
     /// What one read of the reader gives.
@@ -30,9 +41,19 @@ impl<R: Read> Source<R> {
         ensures bytes { ReadConsumes (R.remaining self.old.reader) (R.remaining self.new.reader) result buf.new }
         ensures works { OnOk result (self.new.failed ≡ self.old.failed) }
         ensures failed { OnErr result (IsTrue self.new.failed) }
+        ensures left { IfOk result (λ count. count + self.new.left ≡ self.old.left) }
+        ensures given_up { self.old.left ≡ 0 → IsErr result }
     {
-        match self.reader.read(buf) {
-            Ok(count) => Ok(count),
+        if self.left == 0 {
+            self.failed = true;
+            return Err(io::Error::from(ErrorKind::Other));
+        }
+        let most = buf.len().min(self.left);
+        match self.reader.read(&mut buf[..most]) {
+            Ok(count) => {
+                self.left -= count;
+                Ok(count)
+            }
             Err(error) => {
                 self.failed = true;
                 Err(error)

@@ -4,7 +4,7 @@ ghost use Rattle.tcc_cert.specs.Outcomes.{IsLargeReading};
 ghost use Rattle.tcc_cert.specs.Versions.{IsLargeAt, IsReaderOf, IsUntouched};
 
 use super::input::Input;
-use super::large::{is_header, whole};
+use super::large::{MOST_BYTES, is_header, whole};
 use super::parts::CertReader;
 use crate::ranges::MAX_HEADER_BYTES;
 use crate::{CertFault, LargeCertificate};
@@ -47,6 +47,7 @@ pub fn reader_of<R: Read + Drop>(reader: R) -> Result<VersionReader<R>, CertFaul
     match input.find_line(MAX_HEADER_BYTES) {
         Ok(length) => {
             if is_header(input.ahead(length)) {
+                input.limit(MOST_BYTES);
                 Ok(VersionReader::Large(LargeReader { input }))
             } else {
                 Ok(VersionReader::Parts(CertReader::over(input)))

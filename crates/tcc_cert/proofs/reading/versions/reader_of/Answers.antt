@@ -11,7 +11,10 @@ pub returns-then-is_header-clause-version : goal.returns-then-is_header-clause-v
 returns-then-is_header-clause-version g c =
     let said = ap (λ line. is_ok (large_header_line line)) (sym c.ahead.ensures) ∙ sym c.is_header.ensures ∙ c.if-is_header.true in
     IfSome_then (g.R.Read.remaining c.args.reader) c.new-input.ensures.start
-    (λ bytes before. (named bytes _ true (c.in-Ok.ensures.found (start_of bytes) before) said, c.in-Ok.ensures.stays (start_of bytes) before))
+    (λ bytes before. (
+      named bytes _ true (c.in-Ok.ensures.found (start_of bytes) before) said,
+      c.limit.ensures.same (start_of bytes) (c.in-Ok.ensures.stays (start_of bytes) before),
+    ))
 
 pub returns-else-is_header-clause-version : goal.returns-else-is_header-clause-version
 returns-else-is_header-clause-version g c =
