@@ -39,7 +39,8 @@ pub fn open_input<'a>(rt: &HostRuntime, path: Option<&'a str>) -> io::Result<Tel
     }
 }
 
-/// Makes the file if a path is given, and makes it empty where it is there. The input or the output is no file for it.
+/// Makes the file if a path is given, and makes it empty where it is there. The input, the output and standard error are no
+/// files for it.
 pub fn open_output<'a>(
     rt: &HostRuntime,
     path: Option<&'a str>,

@@ -1,5 +1,5 @@
 //! Files opened beside the standard streams: none takes the place of one that is closed, and none is made empty that is the
-//! input or the output.
+//! input, the output or standard error.
 ghost use Rattle.std.specs.Prelude.{◌≡◌, ◌↔◌, ◌⊎◌, ◌≤ℤ◌, pos, Some, IfOk, IsTrue, MatchResult};
 ghost use Rattle.std.specs.Fd.{file_raw_fd};
 ghost use Rattle.std.specs.Fs.{metadata_mode};
@@ -17,6 +17,9 @@ const INPUT: &str = "/proc/self/fd/0";
 
 /// What the standard output is open on.
 const OUTPUT: &str = "/proc/self/fd/1";
+
+/// What standard error is open on.
+const ERRORS: &str = "/proc/self/fd/2";
 
 /// Which of all files one is: its device, and its number there.
 #[derive(Clone, Copy, PartialEq, Eq)]
@@ -87,19 +90,32 @@ fn input_id(rt: &HostRuntime, input: &Input) -> io::Result<Option<FileId>> {
     }
 }
 
-/// Whether the first file is the input or the output, which are the other two.
-fn is_either(file: Option<FileId>, input: Option<FileId>, output: Option<FileId>) -> bool
-    ensures { IsTrue result ↔ (AreSame file input ⊎ AreSame file output) }
+/// Whether the first file is the input, the output or standard error, which are the other three.
+fn is_any(
+    file: Option<FileId>,
+    input: Option<FileId>,
+    output: Option<FileId>,
+    errors: Option<FileId>,
+) -> bool
+    ensures { IsTrue result ↔ (AreSame file input ⊎ (AreSame file output ⊎ AreSame file errors)) }
 {
-    is_same(file, input) || is_same(file, output)
+    is_same(file, input) || is_same(file, output) || is_same(file, errors)
 }
 
-/// Whether this file is the input or the output; an error where a standard stream of these is closed, or the
+/// The id of the file that notes go to: none where standard error is closed, since nothing goes there then.
+fn errors_id(rt: &HostRuntime) -> Option<FileId> {
+    match stream(rt, ERRORS) {
+        Ok(errors) => errors,
+        Err(_) => None,
+    }
+}
+
+/// Whether this file is the input, the output or standard error; an error where the input or the output is closed, or the
 /// system doesn't tell.
 fn is_taken(rt: &HostRuntime, input: &Input, file: Option<FileId>) -> io::Result<bool> {
     let input = input_id(rt, input)?;
     let output = stream(rt, OUTPUT)?;
-    Ok(is_either(file, input, output))
+    Ok(is_any(file, input, output, errors_id(rt)))
 }
 
 /// The file by a descriptor that is none of the first three. One that is opened while a standard stream is closed has
@@ -122,8 +138,8 @@ pub fn open(rt: &HostRuntime, path: &str) -> io::Result<File>
     aside(fs::open(rt, path)?)
 }
 
-/// Makes a file to write, and makes it empty where it is there; but where it is the input or the output, or a standard stream of
-/// these is closed, nothing that it holds is touched.
+/// Makes a file to write, and makes it empty where it is there; but where it is the input, the output or standard error, or one of
+/// the first two is closed, nothing that it holds is touched.
 pub fn make(rt: &HostRuntime, path: &str, input: &Input) -> io::Result<File>
     ensures { IfOk result (λ file. pos 3 ≤ℤ file_raw_fd file) }
 {
@@ -131,7 +147,7 @@ pub fn make(rt: &HostRuntime, path: &str, input: &Input) -> io::Result<File>
     let file = aside(opened)?;
     let metadata = file.metadata()?;
     if is_taken(rt, input, FileId::of(&metadata))? {
-        let message = "it is the input or the output";
+        let message = "it is the input, the output or standard error";
         return Err(io::Error::new(ErrorKind::ResourceBusy, message));
     }
     if metadata.is_file() {
