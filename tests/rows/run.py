@@ -32,7 +32,7 @@ CASES = HERE / "cases"
 CHECKER = str(TOP / "crates/tcc_checker/out/tcc_checker")
 NEEDED = {"about", "arguments", "status"}
 FIELDS = NEEDED | {"input", "input_from", "typed", "cut", "closed", "files", "output", "output_to", "taken", "errors",
-                   "watched", "certificate", "checked", "slice", "explained", "seconds"}
+                   "errors_to", "watched", "certificate", "checked", "slice", "explained", "seconds"}
 COMMAND_LINE = 64
 
 
@@ -149,7 +149,8 @@ def finished(words, run, folder, seconds):
         else:
             output = path_of(run.get("output_to", os.path.join(folder, "standard-output")), folder)
             out = held.enter_context(open(output, "wb"))
-        streams = {"stdout": out, "stderr": subprocess.PIPE, "timeout": seconds, **given(run, folder, held)}
+        notes = held.enter_context(open(path_of(run["errors_to"], folder), "wb")) if "errors_to" in run else subprocess.PIPE
+        streams = {"stdout": out, "stderr": notes, "timeout": seconds, **given(run, folder, held)}
         if "closed" in run:
             streams["preexec_fn"] = lambda: [os.close(stream) for stream in run["closed"]]
         if "watched" not in run:
@@ -251,8 +252,8 @@ def difference(tcc, run, seconds):
         output = b"" if {"output_to", "taken"} & set(run) else pathlib.Path(folder, "standard-output").read_bytes()
         if done.returncode != run["status"]:
             return "status: wanted %d, got %d, output %s, standard error %s" % (
-                run["status"], done.returncode, shown(output), shown(done.stderr))
-        errors = done.stderr.replace(os.fsencode(os.path.join(folder, "")), b"@")
+                run["status"], done.returncode, shown(output), shown(done.stderr or b""))
+        errors = (done.stderr or b"").replace(os.fsencode(os.path.join(folder, "")), b"@")
         wrong = next(filter(None, compared(run, output, errors, pathlib.Path(folder))), None)
         return wrong or checked(tcc, run, folder, seconds) or explained(tcc, run, folder, seconds)
 

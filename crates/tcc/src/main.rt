@@ -4,14 +4,14 @@
 
 mod watch;
 
-use std::fs::File;
 use std::io::Write;
 use std::process::ExitCode;
 use std::sync::Wait;
 use std::thread::{self, Threads};
 use std::time::Clock;
 use tcc_files::{
-    Input, Telling, check_opened, is_waited_for, open_both, open_input, open_output, print_unopened,
+    Apart, Input, Telling, check_opened, is_waited_for, open_both, open_input, open_output,
+    print_unopened,
 };
 use tcc_large_run::run_large;
 use tcc_run::{OpenGate, Options, Status, run_explain};
@@ -24,7 +24,7 @@ fn run_shown<W: Write>(
     threads: &(impl Threads + Wait + Clock + Sync),
     options: Options,
     input: Telling<'_, Input>,
-    slice: Option<Telling<'_, File>>,
+    slice: Option<Telling<'_, Apart>>,
     out: &mut W,
 ) -> u8 {
     let mut slice = slice;
@@ -107,7 +107,7 @@ fn main(rt: HostRuntime) -> ExitCode {
             },
         ) => {
             let opened = open_both(&rt, history.as_str(), certificate.as_str());
-            check_opened(&rt, opened, &mut out)
+            check_opened(rt.alloc(), opened, &mut out, &mut rt.stderr())
         }
         Err(code) => code,
     };

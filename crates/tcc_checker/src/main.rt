@@ -12,7 +12,7 @@ fn main(rt: HostRuntime) -> ExitCode {
     let code = match read_check(&rt, &mut out) {
         Ok(files) => {
             let opened = open_both(&rt, files.history.as_str(), files.certificate.as_str());
-            check_opened(&rt, opened, &mut out)
+            check_opened(rt.alloc(), opened, &mut out, &mut rt.stderr())
         }
         Err(code) => code,
     };

@@ -1,9 +1,10 @@
 -- Which of all files one is.
-use Rattle.std.specs.Prelude.{ℕ, ◌≡◌, ◌==◌, Bool, true, false, Option, None, Some, Result, Ok, Err, bit_and, if◌then◌else◌}
+use Rattle.std.specs.Prelude.{ℕ, ◌≡◌, ◌⊎◌, ◌==◌, Bool, true, false, Option, None, Some, Result, Ok, Err, bit_and, if◌then◌else◌}
 use Rattle.std.specs.IoError.{error_kind}
 use Rattle.std.specs.declared.io.Error.{Error}
 use Rattle.std.specs.declared.io.ErrorKind.{ErrorKind}
 use Rattle.tcc_files.specs.declared.opening.FileId.{FileId}
+use Rattle.tcc_files.specs.declared.opening.Streams.{Streams}
 
 -- a file of this mode is a device of characters, as terminals and `/dev/null` are
 abbrev pub is_character_device : ℕ → Bool
@@ -26,3 +27,7 @@ AreSame one other = (id : FileId) × (one ≡ Some id) × (other ≡ Some id)
 abbrev pub FailsAs : ErrorKind → Result (Option FileId) Error → Type 0
 FailsAs kind (Ok id) = ⊥
 FailsAs kind (Err error) = error_kind error ≡ kind
+
+-- it is the file of the input, of the output or of standard error
+abbrev pub IsTaken : Option FileId → Streams → Type 0
+IsTaken file streams = AreSame file streams.input ⊎ (AreSame file streams.output ⊎ AreSame file streams.errors)

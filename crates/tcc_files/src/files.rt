@@ -1,19 +1,22 @@
 //! The files that the command line names.
-ghost use Rattle.std.specs.Prelude.{IfOk, MatchResult, false};
+ghost use Rattle.std.specs.Prelude.{◌≡◌, IfOk, IfSome, MatchResult, false};
 ghost use Rattle.std.specs.IoError.{error_kind};
 ghost use Rattle.tcc_files.specs.Files.{AreBothGiven, IsInputOf, PrintsUnopened};
-ghost use Rattle.tcc_verdict.specs.Checks.{PrintsSome};
+ghost use Rattle.tcc_verdict.specs.Checks.{IsCheckRun, PrintsSome};
 
 use crate::input::Input;
-use crate::opening;
+use crate::opening::{self, Apart};
 use crate::telling::Telling;
+use std::alloc::Global;
 use std::fs::File;
-use std::io::{self, ErrorKind, Write};
+use std::io::{self, ErrorKind, Read, Write};
 use tcc_print::printing::{print_device, print_memory};
 use tcc_verdict::run_check;
 
 /// The file, if it could be opened or made; else standard error is told which one could not, and why.
-fn told<T: Drop>(rt: &HostRuntime, path: &str, opened: io::Result<T>) -> io::Result<T> {
+fn told<T: Drop>(rt: &HostRuntime, path: &str, opened: io::Result<T>) -> io::Result<T>
+    ensures { result ≡ opened }
+{
     if let Err(error) = &opened {
         let _ = eprintln!(rt; "{path}: {error}");
     }
@@ -21,7 +24,9 @@ fn told<T: Drop>(rt: &HostRuntime, path: &str, opened: io::Result<T>) -> io::Res
 }
 
 /// Opens a file to read, which tells why where that fails, or a read does.
-fn open<'a>(rt: &HostRuntime, path: &'a str) -> io::Result<Telling<'a, File>> {
+fn open<'a>(rt: &HostRuntime, path: &'a str) -> io::Result<Telling<'a, File>>
+    ensures { IfOk result (λ telling. telling.name ≡ path.entry) }
+{
     let file = told(rt, path, opening::open(rt, path))?;
     Ok(Telling::new(file, path, rt.stderr()))
 }
@@ -39,12 +44,13 @@ pub fn open_input<'a>(rt: &HostRuntime, path: Option<&'a str>) -> io::Result<Tel
     }
 }
 
-/// Makes the file if a path is given, and makes it empty where it is there. The input or the output is no file for it.
+/// Makes the file if a path is given, and makes it empty where it is there. The input, the output and standard error are no
+/// files for it.
 pub fn open_output<'a>(
     rt: &HostRuntime,
     path: Option<&'a str>,
     input: &Input,
-) -> io::Result<Option<Telling<'a, File>>>
+) -> io::Result<Option<Telling<'a, Apart>>>
     ensures { IfOk result (AreBothGiven path.entry) }
 {
     match path {
@@ -66,31 +72,35 @@ pub fn print_unopened<W: Write>(kind: ErrorKind, json: bool, out: &mut W) -> u8
     }
 }
 
-/// Opens both files, the history before the certificate.
+/// Opens both files, the history before the certificate: the first is that of the history.
 pub fn open_both<'a>(
     rt: &HostRuntime,
     history: &'a str,
     certificate: &'a str,
-) -> io::Result<(Telling<'a, File>, Telling<'a, File>)> {
+) -> io::Result<(Telling<'a, File>, Telling<'a, File>)>
+    ensures history { IfOk result (λ both. both.0.name ≡ history.entry) }
+    ensures certificate { IfOk result (λ both. both.1.name ≡ certificate.entry) }
+{
     let history = open(rt, history)?;
     let certificate = open(rt, certificate)?;
     Ok((history, certificate))
 }
 
-/// Checks the certificate in the second of two files for the history in the first, or writes that one of them can't be opened, and
-/// gives the status of the run.
-pub fn check_opened<W: Write>(
-    rt: &HostRuntime,
-    opened: io::Result<(Telling<'_, File>, Telling<'_, File>)>,
+/// Checks the certificate that the second of two readers gives for the history of the first, or writes that one of them couldn't be
+/// opened, and gives the status of the run. What to mend goes to the notes.
+pub fn check_opened<H: Read + Drop, C: Read + Drop, W: Write, N: Write>(
+    alloc: Global,
+    opened: io::Result<(H, C)>,
     out: &mut W,
+    notes: &mut N,
 ) -> u8
-    ensures { MatchResult opened.entry (λ _. PrintsSome (W.contents out.old) (W.contents out.new) result)
+    ensures run { IfOk opened (λ both. IfSome (H.remaining both.0) (λ records. IfSome (C.remaining both.1)
+        (λ text. IsCheckRun records text (W.contents out.old) (W.contents out.new) result))) }
+    ensures printed { MatchResult opened (λ _. PrintsSome (W.contents out.old) (W.contents out.new) result)
         (λ error. PrintsUnopened false (error_kind error) (W.contents out.old) (W.contents out.new) result) }
 {
     match opened {
-        Ok((history, certificate)) => {
-            run_check(rt.alloc(), history, certificate, out, &mut rt.stderr())
-        }
+        Ok((history, certificate)) => run_check(alloc, history, certificate, out, notes),
         Err(error) => print_unopened(error.kind(), false, out),
     }
 }

@@ -9,5 +9,6 @@ mod terminal;
 
 pub use files::{check_opened, open_both, open_input, open_output, print_unopened};
 pub use input::Input;
+pub use opening::Apart;
 pub use telling::Telling;
 pub use terminal::is_waited_for;

@@ -1,14 +1,14 @@
 //! Files opened beside the standard streams: none takes the place of one that is closed, and none is made empty that is the
-//! input or the output.
-ghost use Rattle.std.specs.Prelude.{◌≡◌, ◌↔◌, ◌⊎◌, ◌≤ℤ◌, pos, Some, IfOk, IsTrue, MatchResult};
+//! input, the output or standard error.
+ghost use Rattle.std.specs.Prelude.{◌≡◌, ◌↔◌, ◌≤ℤ◌, pos, Some, IfOk, IsTrue, MatchResult};
 ghost use Rattle.std.specs.Fd.{file_raw_fd};
 ghost use Rattle.std.specs.Fs.{metadata_mode};
 ghost use Rattle.std.specs.IoError.{error_kind};
-ghost use Rattle.tcc_files.specs.FileIds.{AreSame, FailsAs, HasId, is_character_device, id_with};
+ghost use Rattle.tcc_files.specs.FileIds.{AreSame, FailsAs, HasId, IsTaken, is_character_device, id_with};
 
 use crate::input::Input;
 use std::fs::{self, File, Metadata, OpenOptions};
-use std::io::{self, ErrorKind};
+use std::io::{self, ErrorKind, Write};
 use std::os::fd::AsRawFd;
 use std::os::unix::fs::MetadataExt;
 
@@ -17,6 +17,9 @@ const INPUT: &str = "/proc/self/fd/0";
 
 /// What the standard output is open on.
 const OUTPUT: &str = "/proc/self/fd/1";
+
+/// What standard error is open on.
+const ERRORS: &str = "/proc/self/fd/2";
 
 /// Which of all files one is: its device, and its number there.
 #[derive(Clone, Copy, PartialEq, Eq)]
@@ -87,19 +90,70 @@ fn input_id(rt: &HostRuntime, input: &Input) -> io::Result<Option<FileId>> {
     }
 }
 
-/// Whether the first file is the input or the output, which are the other two.
-fn is_either(file: Option<FileId>, input: Option<FileId>, output: Option<FileId>) -> bool
-    ensures { IsTrue result ↔ (AreSame file input ⊎ AreSame file output) }
-{
-    is_same(file, input) || is_same(file, output)
+/// The id of the file that notes go to: none where standard error is closed, since nothing goes there then.
+fn errors_id(rt: &HostRuntime) -> Option<FileId> {
+    match stream(rt, ERRORS) {
+        Ok(errors) => errors,
+        Err(_) => None,
+    }
 }
 
-/// Whether this file is the input or the output; an error where a standard stream of these is closed, or the
-/// system doesn't tell.
-fn is_taken(rt: &HostRuntime, input: &Input, file: Option<FileId>) -> io::Result<bool> {
-    let input = input_id(rt, input)?;
-    let output = stream(rt, OUTPUT)?;
-    Ok(is_either(file, input, output))
+/// The ids of the files that a run reads from and writes to beside the one that it makes.
+#[derive(Clone, Copy)]
+struct Streams {
+    input: Option<FileId>,
+    output: Option<FileId>,
+    errors: Option<FileId>,
+}
+
+impl Streams {
+    /// Those of a run with this input; an error where the input or the output is closed, or the system doesn't tell.
+    fn of(rt: &HostRuntime, input: &Input) -> io::Result<Streams> {
+        Ok(Streams {
+            input: input_id(rt, input)?,
+            output: stream(rt, OUTPUT)?,
+            errors: errors_id(rt),
+        })
+    }
+
+    /// Whether the file is one of them.
+    fn have(self, file: Option<FileId>) -> bool
+        ensures { IsTrue result ↔ IsTaken file self }
+    {
+        is_same(file, self.input) || is_same(file, self.output) || is_same(file, self.errors)
+    }
+}
+
+/// A file to write, which is neither the input, nor the output, nor standard error.
+#[derive(Drop)]
+pub struct Apart {
+    file: File,
+    id: Option<FileId>,
+    streams: Streams,
+    ghost apart: { IsTaken id streams → ⊥ },
+}
+
+impl Apart {
+    /// The file with this id, unless it is one of the streams.
+    fn new(file: File, id: Option<FileId>, streams: Streams) -> io::Result<Apart>
+        ensures { MatchResult result (λ made. made.file ≡ file) (λ _. IsTaken id streams) }
+    {
+        if streams.have(id) {
+            let message = "it is the input, the output or standard error";
+            return Err(io::Error::new(ErrorKind::ResourceBusy, message));
+        }
+        Ok(Apart { file, id, streams })
+    }
+}
+
+impl Write for Apart {
+    fn write(&mut self, bytes: &[u8]) -> io::Result<usize> {
+        self.file.write(bytes)
+    }
+
+    fn flush(&mut self) -> io::Result<()> {
+        self.file.flush()
+    }
 }
 
 /// The file by a descriptor that is none of the first three. One that is opened while a standard stream is closed has
@@ -122,20 +176,17 @@ pub fn open(rt: &HostRuntime, path: &str) -> io::Result<File>
     aside(fs::open(rt, path)?)
 }
 
-/// Makes a file to write, and makes it empty where it is there; but where it is the input or the output, or a standard stream of
-/// these is closed, nothing that it holds is touched.
-pub fn make(rt: &HostRuntime, path: &str, input: &Input) -> io::Result<File>
-    ensures { IfOk result (λ file. pos 3 ≤ℤ file_raw_fd file) }
+/// Makes a file to write, and makes it empty where it is there; but where it is the input, the output or standard error, or one of
+/// the first two is closed, nothing that it holds is touched.
+pub fn make(rt: &HostRuntime, path: &str, input: &Input) -> io::Result<Apart>
+    ensures { IfOk result (λ made. pos 3 ≤ℤ file_raw_fd made.file) }
 {
     let opened = OpenOptions::new().write(true).create(true).open(rt, path)?;
     let file = aside(opened)?;
     let metadata = file.metadata()?;
-    if is_taken(rt, input, FileId::of(&metadata))? {
-        let message = "it is the input or the output";
-        return Err(io::Error::new(ErrorKind::ResourceBusy, message));
-    }
+    let made = Apart::new(file, FileId::of(&metadata), Streams::of(rt, input)?)?;
     if metadata.is_file() {
-        file.set_len(0)?;
+        made.file.set_len(0)?;
     }
-    Ok(file)
+    Ok(made)
 }

@@ -32,31 +32,35 @@ impl<'a, S> Telling<'a, S> {
     }
 }
 
-/// Tells why a stream failed, if it did. What standard error takes changes nothing.
-fn tell<T>(errors: &mut io::Stderr, name: &str, done: &io::Result<T>) {
-    if let Err(error) = done {
+/// Hands on what a stream did, and tells why it failed, if it did. What standard error takes changes nothing.
+fn told<T: Drop>(errors: &mut io::Stderr, name: &str, done: io::Result<T>) -> io::Result<T>
+    ensures { result ≡ done }
+{
+    if let Err(error) = &done {
         let _ = writeln!(errors, "{name}: {error}");
     }
+    done
 }
 
 impl<R: Read> Read for Telling<'_, R> {
+    ghost remaining = { λ telling. R.remaining telling.stream };
+
     fn read(&mut self, buffer: &mut [u8]) -> io::Result<usize> {
         let done = self.stream.read(buffer);
-        tell(&mut self.errors, self.name, &done);
-        done
+        told(&mut self.errors, self.name, done)
     }
 }
 
 impl<W: Write> Write for Telling<'_, W> {
+    ghost contents = { λ telling. W.contents telling.stream };
+
     fn write(&mut self, bytes: &[u8]) -> io::Result<usize> {
         let done = self.stream.write(bytes);
-        tell(&mut self.errors, self.name, &done);
-        done
+        told(&mut self.errors, self.name, done)
     }
 
     fn flush(&mut self) -> io::Result<()> {
         let done = self.stream.flush();
-        tell(&mut self.errors, self.name, &done);
-        done
+        told(&mut self.errors, self.name, done)
     }
 }

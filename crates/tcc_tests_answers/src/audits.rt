@@ -36,37 +36,85 @@ fn gives(
     true
 }
 
-/// Two recorders in threads of their own: the text is the same in whatever order they record and their passes come. A
+/// What recorders leave who record side by side, each in a thread of its own; none where one of them was refused.
+fn recorded(
+    rt: &(impl Threads + Wait + Sync),
+    alloc: Global,
+    book: &Book,
+    passes: Vec<Pass>,
+) -> Option<Vec<Pass>> {
+    let ends = thread::map_vec(rt, passes, &|pass| recorder(rt, alloc, book, pass)).ok()?;
+    let mut recorded = Vec::new(alloc);
+    for end in ends {
+        recorded.push(end?).ok()?;
+    }
+    Some(recorded)
+}
+
+/// The same one after the other, in this order.
+fn recorded_in_turn(
+    rt: &(impl Threads + Wait + Sync),
+    alloc: Global,
+    book: &Book,
+    passes: Vec<Pass>,
+) -> Option<Vec<Pass>> {
+    let mut all = Vec::new(alloc);
+    for pass in passes {
+        let mut one = Vec::new(alloc);
+        one.push(pass).ok()?;
+        for pass in recorded(rt, alloc, book, one)? {
+            all.push(pass).ok()?;
+        }
+    }
+    Some(all)
+}
+
+/// The text of an audit is that of the two recorders, once it has both their passes.
+fn assert_audited(
+    rt: &(impl Abort + Threads + Wait + Sync),
+    alloc: Global,
+    book: &Book,
+    recorded: Vec<Pass>,
+) {
+    let mut passes = Vec::new(alloc);
+    for pass in recorded {
+        let missed = audited(rt, alloc, book, &passes);
+        assert!(rt;
+            matches!(
+                missed,
+                Err(AuditFault::Whole(WholeFault::MissingPass { .. }))
+            )
+        );
+        assert!(rt; passes.push(pass).is_ok());
+    }
+    assert!(rt; gives(rt, alloc, book, &passes, OWN_TEXT));
+}
+
+/// Two recorders in threads of their own: the text is the same whoever records first, and in whatever order their passes come. A
 /// session without its pass is missed, and afterwards book and passes work on.
 #[test]
 fn two_recorders(rt: HostRuntime) {
     let alloc = rt.alloc();
-    for sessions in [[b"a", b"b"], [b"b", b"a"]] {
+    for (sessions, in_turn) in [
+        ([b"a", b"b"], false),
+        ([b"a", b"b"], true),
+        ([b"b", b"a"], true),
+    ] {
         let Ok(book) = Book::new(alloc) else {
             panic!(rt; "no memory");
         };
         let Some(passes) = opened(&rt, alloc, &book, &[sessions[0], sessions[1]]) else {
             panic!(rt; "not opened");
         };
-        let Ok(ends) = thread::map_vec(&rt, passes, &|pass| recorder(&rt, alloc, &book, pass))
-        else {
-            panic!(rt; "no memory");
+        let recorded = if in_turn {
+            recorded_in_turn(&rt, alloc, &book, passes)
+        } else {
+            recorded(&rt, alloc, &book, passes)
         };
-        let mut passes = Vec::new(alloc);
-        for end in ends {
-            let Some(pass) = end else {
-                panic!(rt; "a recorder was refused");
-            };
-            let missed = audited(&rt, alloc, &book, &passes);
-            assert!(rt;
-                matches!(
-                    missed,
-                    Err(AuditFault::Whole(WholeFault::MissingPass { .. }))
-                )
-            );
-            assert!(rt; passes.push(pass).is_ok());
-        }
-        assert!(rt; gives(&rt, alloc, &book, &passes, OWN_TEXT));
+        let Some(recorded) = recorded else {
+            panic!(rt; "a recorder was refused");
+        };
+        assert_audited(&rt, alloc, &book, recorded);
     }
 }
 

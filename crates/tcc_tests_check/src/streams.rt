@@ -160,3 +160,14 @@ fn endless_bytes(rt: HostRuntime) {
     let wanted = fault(1, CertFaultKind::TooLarge);
     assert_eq!(&rt; judged(&rt, rt.alloc(), STALE, Garbage {}), Err(wanted));
 }
+
+/// A text without an end is given up at its first line, which is too long.
+#[test]
+fn texts_without_an_end(rt: HostRuntime) {
+    let alloc = rt.alloc();
+    let graph = graph_of(&rt, alloc, TWO);
+    for byte in [b't', b'0', b' '] {
+        let verdict = check_stream(alloc, &graph, io::repeat(byte));
+        assert_eq!(&rt; verdict, Err(fault(1, CertFaultKind::Header)));
+    }
+}

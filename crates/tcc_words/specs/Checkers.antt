@@ -7,7 +7,7 @@ use Rattle.clap.specs.Faults.{fault_of}
 use Rattle.clap.specs.Kinds.{IsAmong}
 use Rattle.clap.specs.declared.error.kind.ErrorKind.{ErrorKind}
 use Rattle.clap.specs.declared.error.kind.ErrorKind.TheVariants.{OutOfMemory}
-use Rattle.tcc_words.specs.CommandLines.{EndsUnasked, check_command, with_subcommand_required, with_version}
+use Rattle.tcc_words.specs.CommandLines.{EndsUnasked, EndsWithoutWords, check_command, with_subcommand_required, with_version}
 use Rattle.tcc_words.specs.declared.checker.Files.{Files}
 
 -- tcc_checker check HISTORY CERTIFICATE: the subcommand is the one of the program `tcc`, and has to be given
@@ -31,3 +31,7 @@ abbrev pub AreAsked : List Text → Option (List ℕ) → Option (List ℕ) → 
 AreAsked words before after (Ok files) = (fault_of checker_command words ≡ []) × Asks words files × (after ≡ before)
 AreAsked words before after (Err code) =
     EndsUnasked OutOfMemory before after code ⊎ ((kind : ErrorKind) × IsAmong kind (fault_of checker_command words) × EndsUnasked kind before after code)
+
+-- it is what some words ask for, those of a process; or these could not be had
+abbrev pub WasAsked : Option (List ℕ) → Option (List ℕ) → Result Files ℕ → Type 0
+WasAsked before after o = ((words : List Text) × AreAsked words before after o) ⊎ EndsWithoutWords before after o

@@ -220,3 +220,12 @@ IsAskedBy app words before after (Err code) =
 -- the same by the command of the program, wherever the words for levels lie
 abbrev pub IsAsked : List (List ℕ) → Option (List ℕ) → Option (List ℕ) → Result Request ℕ → Type 0
 IsAsked words before after o = (levels : Words) × AreLevels levels × IsAskedBy (tcc_command levels) words before after o
+
+-- the words of a process could not be had, and the run ends as by a fault of them, or out of memory
+abbrev pub EndsWithoutWords : {R : Type 0} → Option (List ℕ) → Option (List ℕ) → Result R ℕ → Type 0
+EndsWithoutWords before after (Ok request) = ⊥
+EndsWithoutWords before after (Err code) = (kind : ErrorKind) × EndsUnasked kind before after code
+
+-- it is what some words ask for, those of a process; or these could not be had
+abbrev pub WasAsked : Option (List ℕ) → Option (List ℕ) → Result Request ℕ → Type 0
+WasAsked before after o = ((words : List (List ℕ)) × IsAsked words before after o) ⊎ EndsWithoutWords before after o

@@ -1,11 +1,9 @@
 //! What the command line of the checker asks for, the program that has `check` alone.
-ghost use Rattle.std.specs.Prelude.{◌≡◌, [], IfErr, IfOk, OnOk, map};
+ghost use Rattle.std.specs.Prelude.{◌≡◌, [], IfErr, IfOk, map};
 ghost use Rattle.std.specs.String.{string_bytes};
 ghost use Rattle.clap.specs.Words.{FailsBy, app_of, fault_of, kind_of, subcommand_rows_of};
-ghost use Rattle.clap.specs.declared.error.kind.ErrorKind.{ErrorKind};
 ghost use Rattle.clap.specs.declared.error.kind.ErrorKind.TheVariants.{OutOfMemory};
-ghost use Rattle.tcc_words.specs.Checkers.{AreAsked, Asks, AsksFor, checker_command};
-ghost use Rattle.tcc_words.specs.CommandLines.{EndsUnasked};
+ghost use Rattle.tcc_words.specs.Checkers.{AreAsked, Asks, AsksFor, WasAsked, checker_command};
 
 use crate::command_line::{Request, check_command, end_unasked, paths_of, words};
 use crate::help;
@@ -65,8 +63,13 @@ fn parse(alloc: Global, words: &[String]) -> Result<Files, Error>
     files_of(alloc, &matches)
 }
 
-/// What the words ask for; else the number that the process ends with.
-fn read_words<W: Write>(rt: &HostRuntime, words: &[String], out: &mut W) -> Result<Files, u8>
+/// What the words of the checker's command line ask for, the first of which is the program's name; else the number that the process
+/// ends with. Help and the version go to `out`, a fault of the words to standard error.
+pub fn read_check_words<W: Write>(
+    rt: &HostRuntime,
+    words: &[String],
+    out: &mut W,
+) -> Result<Files, u8>
     ensures { AreAsked (map string_bytes words.now) (W.contents out.old) (W.contents out.new) result }
 {
     match parse(rt.alloc(), words) {
@@ -75,11 +78,11 @@ fn read_words<W: Write>(rt: &HostRuntime, words: &[String], out: &mut W) -> Resu
     }
 }
 
-/// What the process was asked to check, as `read_words` has it; else the number that it ends with.
+/// What the process was asked to check: what `read_check_words` says of its words, of which nothing more is known; else the number
+/// that it ends with.
 pub fn read_check<W: Write>(rt: &HostRuntime, out: &mut W) -> Result<Files, u8>
-    ensures quiet { OnOk result (W.contents out.new ≡ W.contents out.old) }
-    ensures ends { IfErr result (λ code. (kind : ErrorKind) × EndsUnasked kind (W.contents out.old) (W.contents out.new) code) }
+    ensures { WasAsked (W.contents out.old) (W.contents out.new) result }
 {
     let words = words(rt, out)?;
-    read_words(rt, &words, out)
+    read_check_words(rt, &words, out)
 }

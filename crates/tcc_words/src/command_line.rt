@@ -5,7 +5,7 @@ ghost use Rattle.clap.specs.Words.{FailsBy, IsUnsignedIn, app_of, fault_of, foun
 ghost use Rattle.clap.specs.declared.error.kind.ErrorKind.TheVariants.{OutOfMemory};
 ghost use Rattle.tcc_graph.specs.declared.level.Level.{Level};
 ghost use Rattle.tcc_workers.specs.declared.workers.TheConstants.{MAX_WORKERS};
-ghost use Rattle.tcc_words.specs.CommandLines.{Asks, AsksBy, AsksCheck, AsksExplain, EndsUnasked, GoesTogether, IsAsked, IsFlag, IsInput, IsRequired};
+ghost use Rattle.tcc_words.specs.CommandLines.{Asks, AsksBy, AsksCheck, AsksExplain, EndsUnasked, GoesTogether, IsAsked, IsFlag, IsInput, IsRequired, WasAsked};
 ghost use Rattle.tcc_words.specs.CommandLines.{IsLevel, IsWorkers, PrintsHelp, SaysWorkers, certificate_option};
 ghost use Rattle.tcc_words.specs.CommandLines.{check_command, explain_command, flag, flag_text, level_option, level_text, level_word, option_text};
 ghost use Rattle.tcc_words.specs.CommandLines.{history_path, require_option, required_text, slice_option};
@@ -440,8 +440,9 @@ fn refusal_of(request: &Request) -> Option<&'static str>
     None
 }
 
-/// What the words ask for; else the number that the process ends with.
-fn read_words<W: Write>(rt: &HostRuntime, words: &[String], out: &mut W) -> Result<Request, u8>
+/// What the words of a command line ask for, the first of which is the program's name; else the number that the process ends with.
+/// Help and the version go to `out`, a fault of the words to standard error.
+pub fn read_words<W: Write>(rt: &HostRuntime, words: &[String], out: &mut W) -> Result<Request, u8>
     ensures { IsAsked (map string_bytes words.now) (W.contents out.old) (W.contents out.new) result }
 {
     let levels = ["causal", "atomic"];
@@ -479,10 +480,10 @@ pub(crate) fn words<W: Write>(rt: &HostRuntime, out: &mut W) -> Result<Vec<Strin
     }
 }
 
-/// What the process was asked for, as `read_words` has it; else the number that it ends with.
+/// What the process was asked for: what `read_words` says of its words, of which nothing more is known; else the number that it
+/// ends with.
 pub fn read<W: Write>(rt: &HostRuntime, out: &mut W) -> Result<Request, u8>
-    ensures quiet { OnOk result (W.contents out.new ≡ W.contents out.old) }
-    ensures ends { IfErr result (λ code. (kind : ErrorKind) × EndsUnasked kind (W.contents out.old) (W.contents out.new) code) }
+    ensures { WasAsked (W.contents out.old) (W.contents out.new) result }
 {
     let words = words(rt, out)?;
     read_words(rt, &words, out)

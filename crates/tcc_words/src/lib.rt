@@ -5,5 +5,5 @@ mod checker;
 mod command_line;
 mod help;
 
-pub use checker::{Files, read_check};
-pub use command_line::{Request, read};
+pub use checker::{Files, read_check, read_check_words};
+pub use command_line::{Request, read, read_words};

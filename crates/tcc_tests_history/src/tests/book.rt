@@ -192,8 +192,31 @@ fn side_by_side(
     Some(done)
 }
 
+/// Whether the book closes with exactly what these recorders have recorded.
+fn closes_whole(rt: &impl Wait, alloc: Global, book: Book, recorders: Vec<Recorder>) -> bool {
+    let mut passes = Vec::new(alloc);
+    for recorder in recorders {
+        if passes.push(recorder.pass).is_err() {
+            return false;
+        }
+    }
+    let Ok(whole) = book.whole(rt, alloc, &passes) else {
+        return false;
+    };
+    for pass in &passes {
+        if !has_exactly(&whole, pass) {
+            return false;
+        }
+    }
+    let sessions = passes.len();
+    match book.close(rt, alloc, passes) {
+        Ok(closed) => closed.is_same(&whole) && closed.sessions() as usize == sessions,
+        Err(_) => false,
+    }
+}
+
 /// Eight recorders in threads of their own, again and again: each seal has exactly what its caller recorded, and of each other
-/// session a beginning of what that one had recorded in the end; then all lists are whole.
+/// session a beginning of what that one had recorded in the end; then all lists are whole, and so the book closes.
 #[test]
 fn eight_recorders(rt: HostRuntime) {
     for _ in 0..TIMES {
@@ -209,6 +232,7 @@ fn eight_recorders(rt: HostRuntime) {
                 Err(_) => panic!(rt; "not sealed"),
             }
         }
+        assert!(rt; closes_whole(&rt, alloc, book, done));
     }
 }
 
@@ -245,7 +269,7 @@ fn assert_records(
     }
 }
 
-/// A session without its pass is missed, the least one first, and nothing is lost by it.
+/// A session without its pass is missed, the least one first, and nothing is lost by it: book and pass record on.
 #[test]
 fn missing_passes(rt: HostRuntime) {
     let alloc = rt.alloc();
@@ -258,12 +282,21 @@ fn missing_passes(rt: HostRuntime) {
         panic!(rt; "whole without a pass");
     };
     assert_eq!(rt; Some(fault), missing);
+    for pass in passes.iter_mut() {
+        assert_records(&rt, alloc, &book, pass, 2);
+    }
     for mut pass in others {
         assert_records(&rt, alloc, &book, &mut pass, 1);
         assert!(rt; passes.push(pass).is_ok());
     }
-    assert!(rt; book.whole(&rt, alloc, &passes).is_ok());
-    assert!(rt; book.close(&rt, alloc, passes).is_ok());
+    let Ok(whole) = book.whole(&rt, alloc, &passes) else {
+        panic!(rt; "not whole");
+    };
+    for pass in &passes {
+        assert!(rt; has_exactly(&whole, pass));
+    }
+    let closed = book.close(&rt, alloc, passes);
+    assert!(rt; closed.is_ok_and(|closed| closed.is_same(&whole)));
 }
 
 /// A pass of another book is torn, the least one first.

@@ -248,7 +248,7 @@ fn refuses_snapshots(rt: HostRuntime) -> Result<(), Fail> {
 fn tells_limits(rt: HostRuntime) {
     for (limits, sessions, transactions, keys, bytes) in [
         (Limits::Small, 64, 4_095, 1_024, 134_217_728),
-        (Limits::Large, 4_096, 1_048_575, 1_048_576, 1_073_741_824),
+        (Limits::Large, 65_535, 1_048_575, 1_048_576, 1_073_741_824),
     ] {
         assert_eq!(rt; limits.sessions(), sessions);
         assert_eq!(rt; limits.transactions(), transactions);

@@ -211,3 +211,32 @@ fn memory_refused(rt: HostRuntime) {
     assert_eq!(rt; more, 0);
     assert!(rt; again == Some(fault));
 }
+
+// As many seals as there may be, and one more: its record is the fault.
+#[test]
+fn seals_past_the_last(rt: HostRuntime) -> Result<(), Fail> {
+    let alloc = rt.alloc();
+    let mut text = Vec::new(alloc);
+    for _ in 0..257 {
+        text.extend_from_slice(b"seal\n")?;
+    }
+    let fault = Some(RowFault {
+        row: 257,
+        kind: Kind::TooManySeals,
+    });
+    gives(&rt, alloc, text.as_slice(), 256, &fault);
+    Ok(())
+}
+
+// A reader that never ends is given up, within one record or before the first.
+#[test]
+fn readers_without_an_end(rt: HostRuntime) {
+    let alloc = rt.alloc();
+    let fault = Some(RowFault {
+        row: 1,
+        kind: Kind::Read,
+    });
+    for byte in [b'a', b'\n'] {
+        gives(&rt, alloc, io::repeat(byte), 0, &fault);
+    }
+}

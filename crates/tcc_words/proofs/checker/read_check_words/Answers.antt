@@ -4,7 +4,7 @@ use Rattle.clap.specs.Words.{HasKind, fault_of, kind_of}
 use Rattle.clap.specs.declared.error.Error.{Error}
 use Rattle.tcc_words.specs.Checkers.{AreAsked, checker_command}
 use Rattle.tcc_words.specs.CommandLines.{EndsUnasked}
-use Rattle.tcc_words.proofs.checker.read_words.Goals as goal
+use Rattle.tcc_words.proofs.checker.read_check_words.Goals as goal
 
 ended : (words : List (List ℕ)) (before after : Option (List ℕ)) (e : Error) (code : ℕ)
     → HasKind (fault_of checker_command words) e → EndsUnasked (kind_of e) before after code → AreAsked words before after (Err code)
