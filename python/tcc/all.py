@@ -26,6 +26,7 @@ unresolved, 130 where it was interrupted, and that of `tcc` where its input or i
 """
 import argparse
 import csv
+import gc
 import io
 import re
 import sys
@@ -289,6 +290,7 @@ def run(asked: argparse.Namespace, doing: Doing, out: TextIO) -> int:
 
 def main() -> int:
     asked = arguments()
+    gc.disable()  # nothing here is held in a circle, and of millions of operations the collector takes a third of the time
     try:
         with Doing("reads the records") as doing:
             return run(asked, doing, sys.stdout)

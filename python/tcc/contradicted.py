@@ -9,6 +9,8 @@ The transactions are sorted by their pairs (Kahn), else by rows. Of the writes o
 each is looked at: whether C knew of it, and it of A, by a search back where few transactions stand between, and else by the clocks of
 their sessions, 64 at a time, along the order. N transactions, S sessions: N*S/64 rows at most.
 """
+import re
+import subprocess
 from bisect import bisect_right
 from collections import deque
 from dataclasses import dataclass
@@ -22,7 +24,9 @@ from tcc.rows import History, Operation, Transaction
 BLOCK = 64
 SEARCHED = 2  # times the transactions: so many may be searched through before clocks are worked out
 INIT = -1
-NAMES = ("read your writes", "monotonic reads", "monotonic writes", "writes follow reads", "fractured read", "causal chain")
+# A line of `tcc survey`, and its last one.
+CONTRADICTED = re.compile(r"contradicted (\S+) op ([1-9][0-9]*) (\S+) ([0-9]+): knew of (\S+), ([a-z ]+), row [1-9][0-9]*")
+TOTAL = re.compile(r"([0-9]+) contradicted reads of ([0-9]+), [0-9]+ faults")
 
 
 class Read(NamedTuple):
@@ -78,14 +82,15 @@ class Graph:
         twice: Set[Tuple[str, str]] = set()
         for one in sorted(history.transactions.values(), key=lambda one: (one.session, one.place)):
             for each in one.operations:
-                if each.does == "w":
-                    pair = each.key, each.value
+                _, _, does, key, value = each
+                if does == "w":
+                    pair = key, value
                     if first.setdefault(pair, one) is not one or pair in twice:
                         twice.add(pair)
                         self.faults.append(Fault("Duplicate", one.label, each, first[pair].label))
         visible: Dict[Tuple[str, str], int] = {}
         for number, one in enumerate(self.transactions):
-            last = {each.key: each.value for each in one.operations if each.does == "w"}
+            last = {key: value for _, _, does, key, value in one.operations if does == "w"}
             for pair in last.items():
                 if pair not in twice or first[pair] is one:
                     self.writers.setdefault(pair[0], []).append(number)
@@ -95,8 +100,8 @@ class Graph:
             own: Dict[str, str] = {}
             reads: List[Read] = []
             for each in one.operations:
-                key, value = each.key, each.value
-                if each.does == "w":
+                _, _, does, key, value = each
+                if does == "w":
                     own[key] = value
                 elif key in own:
                     if own[key] != value:
@@ -198,7 +203,7 @@ def _between(graph: Graph, order: List[int], position: List[int]) -> Iterator[_C
         key: sorted((position[one], one) for one in every if position[one] >= 0) for key, every in graph.writers.items()}
     for reader in order:
         for read in graph.reads[reader]:
-            every = writers.get(read.operation.key)
+            every = writers.get(read.operation[3])
             if not every:
                 continue
             begin = 0 if read.source == INIT else bisect_right(every, (position[read.source], len(position)))
@@ -402,4 +407,28 @@ def cycle_of_read(graph: Graph, one: Contradicted) -> Optional[List[Link]]:
 
 def surveyed(tcc: Program, history: History, records: Callable[[], bytes], doing: Callable[[str], None]) -> List[Contradicted]:
     """The contradicted reads of a history, whose records these are, by the program where it has a survey."""
+    if tcc.has_survey():
+        doing("runs tcc survey")
+        ended = subprocess.run(tcc.survey("-"), input=records(), capture_output=True, check=False)
+        found = told_by_program(ended.stdout.decode(errors="replace"), history)
+        if found is not None:
+            return found.contradicted
     return survey(history, tcc.level, doing)[0].contradicted
+
+
+def told_by_program(text: str, history: History) -> Optional[Survey]:
+    """What `tcc survey` printed of a history; none where that isn't a whole list, as of pairs on a circle."""
+    lines = text.splitlines()
+    total = TOTAL.fullmatch(lines[-1]) if lines else None
+    if total is None:
+        return None
+    told = [found for found in map(CONTRADICTED.fullmatch, lines) if found]
+    operations = [history.find(found.group(1)).operations[int(found.group(2)) - 1] for found in told]
+    if len(told) != int(total.group(1)) or any(
+            (one.does, one.key, one.value) != ("r", found.group(3), found.group(4)) for one, found in zip(operations, told)):
+        return None
+    writes = history.writes_of({(one.key, one.value) for one in operations})
+    sources = ["init" if one.value == "0" else writes[one.key, one.value][0][0] for one in operations]
+    contradicted = [Contradicted(found.group(1), one, source, found.group(5), found.group(6))
+                    for found, one, source in zip(told, operations, sources)]
+    return Survey(contradicted, [], int(total.group(2)), [])

@@ -134,6 +134,7 @@ class Imported:
     _unknown: Dict[str, int] = field(default_factory=dict)
     _words: Dict[str, str] = field(default_factory=dict)  # the names of keys by their words of EDN
     _texts: Dict[str, str] = field(default_factory=dict)  # and of those that are texts
+    _whole: Dict[int, str] = field(default_factory=dict)  # and of those that are whole numbers
     _numbers: Dict[str, int] = field(default_factory=dict)
 
     def __post_init__(self) -> None:
@@ -227,12 +228,14 @@ class Imported:
             return self._parts_of_text(line, raw, with_reads)
         parts: List[str] = []
         every: Sequence[Any] = raw or ()
+        texts, whole = self._texts, self._whole
         for one in every:
             does, key, what = one if type(one) is list else (one.does, json.loads(one.key), json.loads(one.value))
             if does == "r" and not with_reads:
                 self.left_out += 1
                 continue
-            name = (self._texts.get(key) if type(key) is str else None) or self._key(line, key)
+            kind = type(key)
+            name = (texts.get(key) if kind is str else whole.get(key) if kind is int else None) or self._key(line, key)
             is_plain = type(what) is int and 0 < what <= GREATEST_VALUE and not self.numbers_are_initial
             value = str(what) if is_plain else self._value(line, does, name, what)
             if value is not None:
@@ -267,6 +270,8 @@ class Imported:
         name = self.keys.name(spelled(key), plain_name(key), line)
         if type(key) is str:
             self._texts[key] = name
+        elif type(key) is int:
+            self._whole[key] = name
         return name
 
     def _list(self, line: int, does: str, name: str, items: str) -> Optional[str]:
@@ -443,4 +448,8 @@ def same_writes(line: int, raw: Raw, invoked: Waiting) -> bool:
     """Whether a transaction writes what its invoke said."""
     if type(raw) is str and type(invoked.raw) is str and WRITE.findall(raw) == WRITE.findall(invoked.raw):
         return True
+    if isinstance(raw, list) and isinstance(invoked.raw, list):
+        mine, its = ([one for one in each if one[0] != "r"] for each in (raw, invoked.raw))
+        if mine == its and not any(type(one[2]) is list for one in mine):
+            return True
     return written(steps_of(line, raw)) == written(steps_of(invoked.line, invoked.raw))

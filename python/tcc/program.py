@@ -36,7 +36,7 @@ class Program:
 
     def survey(self, *more: str) -> List[str]:
         """The words of `tcc survey`."""
-        return [self.path, "survey", "--level", self.level, *(["--large"] if self.is_large else []), "--json", *more]
+        return [self.path, "survey", "--level", self.level, *(["--large"] if self.is_large else []), *more]
 
     def answer(self, records: bytes) -> dict:
         """The last answer for these records."""

@@ -9,22 +9,24 @@ The status is that of the answer: 0 consistent, 1 an anomaly, 2 reads that can't
 read, 130 where it was interrupted, and that of `tcc` where its run failed. Then no page is written.
 """
 import argparse
+import gc
 import os
 import pathlib
 import re
 import shlex
+import shutil
 import subprocess
 import sys
 import tempfile
 import time
 from collections import Counter
 from dataclasses import dataclass, field
-from typing import Dict, Iterable, Iterator, List, Optional, Tuple
+from typing import Dict, Iterable, Iterator, List, Optional, Set, Tuple
 
 from tcc import jepsen
 from tcc.answers import FIELD_NAMES, Link, cycle_of, said, sentence_of, sentences, session_of, usual_name
 from tcc.chart import Course, Span, chart
-from tcc.contradicted import Contradicted, Fault, Graph, Survey, cycle_of_read, survey
+from tcc.contradicted import Contradicted, Fault, Graph, Survey, cycle_of_read, survey, told_by_program
 from tcc.imported import Imported, LIMITS
 from tcc.lanes import Edge, Scene, Size, picture, rows_of, scene_of
 from tcc.notes import NoNotes, Note, read_notes
@@ -153,9 +155,16 @@ def imported_history(asked: argparse.Namespace, work: Work) -> Imported:
 
 def is_large(history: History) -> bool:
     """Whether a history passes the limits without --large."""
-    sessions = {one.session for one in history.transactions.values()}
-    keys = {each.key for one in history.transactions.values() for each in one.operations}
-    return len(sessions) > LIMITS["sessions"] or len(history.transactions) > LIMITS["transactions"] or len(keys) > LIMITS["keys"]
+    return (len(sessions_of(history)) > LIMITS["sessions"] or len(history.transactions) > LIMITS["transactions"]
+            or len(keys_of(history)) > LIMITS["keys"])
+
+
+def sessions_of(history: History) -> Set[str]:
+    return {session_of(label) for label in history.transactions}
+
+
+def keys_of(history: History) -> Set[str]:
+    return {key for one in history.transactions.values() for _, _, _, key, _ in one.operations}
 
 
 def gathered(asked: argparse.Namespace, work: Work) -> Findings:
@@ -163,7 +172,8 @@ def gathered(asked: argparse.Namespace, work: Work) -> Findings:
     imported = None
     records = work.folder / "records.csv"
     if is_of_records(asked.history):
-        records.symlink_to(os.path.abspath(asked.history))
+        if not (records.exists() and os.path.samefile(records, asked.history)):
+            shutil.copyfile(asked.history, records)
     else:
         imported = imported_history(asked, work)
     work.doing.now("reads the records")
@@ -179,11 +189,21 @@ def gathered(asked: argparse.Namespace, work: Work) -> Findings:
         told.cycle = cycle_of(answer)
     certify(told, work, has_certificate)
     if told.verdict != "consistent":
-        begun = time.monotonic()
-        told.found, told.graph = survey(history, asked.level, work.doing.now)
-        work.commands.append(Command("all.py --level %s records.csv   # every contradicted read, by its vector clocks" % asked.level, 1,
-                                     time.monotonic() - begun))
+        list_contradicted(told, work)
     return told
+
+
+def list_contradicted(told: Findings, work: Work) -> None:
+    """Lists every contradicted read, by `tcc survey` where the program has it, and else by clocks of this script."""
+    found = None
+    if told.tcc.has_survey():
+        found = told_by_program(work.run(told.tcc.survey("records.csv"), "survey.txt").stdout.decode(errors="replace"), told.history)
+    begun = time.monotonic()
+    if found is not None:
+        told.found, told.graph, told.is_proved = found, Graph(told.history), True
+        return
+    told.found, told.graph = survey(told.history, told.tcc.level, work.doing.now)
+    work.commands.append(Command("all.py --level %s records.csv   # every contradicted read" % told.tcc.level, 1, time.monotonic() - begun))
 
 
 def certifies_large(tcc: Program) -> bool:
@@ -282,8 +302,7 @@ def is_time(word: str) -> bool:
 def summary(told: Findings) -> str:
     every = list(told.history.transactions.values())
     pairs = [("transactions", "%s, %s aborted" % (number(len(every)), number(sum(not one.committed for one in every)))),
-             ("sessions", number(len({one.session for one in every}))),
-             ("keys", number(len({each.key for one in every for each in one.operations}))),
+             ("sessions", number(len(sessions_of(told.history)))), ("keys", number(len(keys_of(told.history)))),
              ("promise", "causal consistency" if told.tcc.level == "causal" else "Read Atomic")]
     if told.contradicted:
         pairs.append(("first contradicted", first_of(told)))
@@ -347,7 +366,9 @@ def how_often(told: Findings) -> Iterator[str]:
     if not told.contradicted:
         return
     yield "<h2>What is contradicted</h2>"
-    yield '<p>A read is contradicted where its transaction knew of a newer write of the key, by its session or by what it read. Each is an anomaly by itself.</p>'
+    yield '<p>A read is contradicted where its transaction knew of a newer write of the key, by its session or by what it read. Each is an anomaly by itself. %s</p>' % (
+        "<code>tcc survey</code> lists them; that these are all is a theorem about it." if told.is_proved else
+        "This script lists them; the answer, and what is shown of the answer\'s anomaly, are the program\'s.")
     yield counts("By name", sorted_counts((one.name for one in told.contradicted), ABOUT), MOST_ROWS, "names")
     yield '<div class="tables">'
     yield counts("By key", sorted_counts((one.operation.key for one in told.contradicted), {}), MOST_ROWS, "keys")
@@ -609,6 +630,7 @@ def run(asked: argparse.Namespace, doing: Doing, folder: str) -> int:
 
 def main() -> int:
     asked = arguments()
+    gc.disable()  # nothing here is held in a circle, and of millions of operations the collector takes a third of the time
     try:
         with Doing("reads the history") as doing:
             if asked.keep:

@@ -195,6 +195,25 @@ def interruptions(tcc: List[str]) -> Iterator[Outcome]:
                                                 b"interrupted behind 1 anomalies\nread your writes: 1\n", 2.5)
 
 
+def by_survey(tcc: List[str]) -> Iterator[Outcome]:
+    """Where the program has `tcc survey`, the contradicted reads and their names are those that it prints."""
+    with tempfile.TemporaryDirectory() as folder:
+        program, page = pathlib.Path(folder, "tcc"), pathlib.Path(folder, "page.html")
+        program.write_text("#!/bin/sh\ncase \"$*\" in\n'survey --help') ;;\nsurvey*) cat > /dev/null < /dev/null; echo 'contradicted a/2 op 1 x 0: knew "
+                           "of a/1, causal chain, row 5'; echo 'causal chain: 1'; echo '1 contradicted reads of 1, 0 faults'; exit 1 ;;\n"
+                           "*) exec %s \"$@\" ;;\nesac\n" % os.path.abspath(tcc[-1]))
+        program.chmod(0o755)
+        records = str(TOP / "examples/stale-read.csv")
+        done = subprocess.run([sys.executable, str(RECIPES / "all.py"), "--tcc", str(program), records], capture_output=True,
+                              timeout=SECONDS, check=False)
+        wanted = b"1: causal chain: a/2 read x = 0 from init, row 5; it knew of a/1\n"
+        yield "all.py by the program's survey", None if done.stdout.startswith(wanted) else "%r" % (done.stdout + done.stderr)
+        done = subprocess.run([sys.executable, str(RECIPES / "report.py"), "--tcc", str(program), records, "-o", str(page)],
+                              capture_output=True, timeout=SECONDS, check=False)
+        has_it = done.returncode == 1 and all(word in page.read_text() for word in ("is a theorem about it", "tcc survey --level causal"))
+        yield "report.py by the program's survey", None if has_it else "%r" % (done.stdout + done.stderr)
+
+
 def at_terminal() -> Iterator[Outcome]:
     """Behind two seconds a script says at a terminal what it does, and takes that away before it ends."""
     mine, its = pty.openpty()
@@ -240,5 +259,6 @@ def outcomes(tcc: List[str]) -> Iterator[Outcome]:
     yield from lines_of_edn_py()
     yield from contradicted_reads()
     yield from interruptions(tcc)
+    yield from by_survey(tcc)
     yield from at_terminal()
     yield from lines_of_recording(tcc)
