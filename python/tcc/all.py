@@ -32,14 +32,14 @@ import re
 import sys
 from collections import Counter
 from dataclasses import dataclass, field
-from typing import Dict, Iterable, Iterator, List, NamedTuple, Set, TextIO, Tuple
+from typing import Counter as Count, Dict, Iterable, Iterator, List, NamedTuple, Set, TextIO, Tuple
 
 from tcc.answers import Link, cycle_of, usual_name
 from tcc.contradicted import Contradicted, surveyed
 from tcc.notes import NoNotes, Note, read_notes
 from tcc.program import NoAnswer, Program
 from tcc.progress import INTERRUPTED, Doing
-from tcc.rows import History, Operation, Transaction, Unfit, history_of, read_places
+from tcc.rows import History, Json, Operation, Transaction, Unfit, history_of, read_places
 
 EXAMPLE = """example: session a doesn't see its own write, and b sees one write of a transaction and not the other
   $ cat records.csv
@@ -124,7 +124,7 @@ def strike(records: Records, read: Link) -> Struck:
     return Struck(read.target, read.source, read.key, value, rows)
 
 
-def faulty_rows(records: Records, faults: List[dict]) -> Set[int]:
+def faulty_rows(records: Records, faults: List[Json]) -> Set[int]:
     """The rows of the reads at fault; of a value that was written twice, of its later writes and all its reads."""
     rows, twice = set(), set()
     for fault in faults:
@@ -154,7 +154,7 @@ class Search:
     notes: Dict[str, Note]
     strikes_faults: bool
     doing: Doing
-    names: Counter = field(default_factory=Counter)
+    names: "Count[str]" = field(default_factory=Counter)
     found: int = 0
     struck: int = 0
     last: str = ""
@@ -170,7 +170,7 @@ class Search:
             self.named(one.reader), one.key, one.value, self.named(one.source), "s" if len(one.rows) > 1 else "",
             ", ".join(map(str, one.rows)), " (%s)" % note if note else "")
 
-    def settled(self) -> dict:
+    def settled(self) -> Json:
         """The answer for what is left, once reads at fault are struck where that is asked for."""
         self.doing.now("asks for an answer behind %d anomalies" % self.found)
         answer = self.tcc.answer(self.records.text())
@@ -214,7 +214,7 @@ class Search:
         if more:
             yield "and %d contradicted reads more; --most N shows N" % more
 
-    def anomaly(self, answer: dict) -> str:
+    def anomaly(self, answer: Json) -> str:
         """The line of an anomaly, all whose reads are struck."""
         cycle = cycle_of(answer)
         reads = sorted((strike(self.records, read) for read in reads_of(cycle)), key=lambda one: one.rows)
@@ -228,7 +228,7 @@ class Search:
                                        ", least not proved" if answer.get("least") is False else "")
         return "%s: %s" % (", ".join(filter(None, [head, name])), "; ".join(map(self.read_text, reads)))
 
-    def end(self, answer: dict) -> Iterator[str]:
+    def end(self, answer: Json) -> Iterator[str]:
         behind = " behind %d struck reads" % self.struck if self.struck else ""
         if answer["answer"] == "consistent":
             yield "consistent%s: %d transactions, %d sessions" % (behind, answer["transactions"], answer["sessions"])

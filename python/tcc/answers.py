@@ -2,9 +2,9 @@
 import json
 import re
 from dataclasses import dataclass
-from typing import Dict, Iterable, Iterator, List, Optional, Tuple
+from typing import Any, Dict, Iterable, Iterator, List, Optional, Tuple
 
-from tcc.rows import History, Transaction, Unfit
+from tcc.rows import History, Json, Transaction, Unfit
 
 NAME = re.compile(r"[A-Za-z0-9_.-]{1,32}")
 LABEL = re.compile(r"init|(%s)/([1-9][0-9]*)" % NAME.pattern)
@@ -40,19 +40,19 @@ class Link:
                     tuple(step.moved(places) for step in self.walk))
 
 
-def label(value) -> str:
+def label(value: Any) -> str:
     if not isinstance(value, str) or not LABEL.fullmatch(value):
         raise Unfit("%s is no transaction of an answer" % json.dumps(value))
     return value
 
 
-def key(value) -> str:
+def key(value: Any) -> str:
     if not isinstance(value, str) or not NAME.fullmatch(value):
         raise Unfit("%s is no key of an answer" % json.dumps(value))
     return value
 
 
-def link(value: dict) -> Link:
+def link(value: Json) -> Link:
     """A link or step as JSON has it."""
     kind, source, target = value["kind"], label(value["from"]), label(value["to"])
     if kind == "session":
@@ -67,7 +67,7 @@ def link(value: dict) -> Link:
     raise Unfit("%s is no kind of link" % json.dumps(kind))
 
 
-def cycle_of(answer: dict, places: Optional[Dict[str, str]] = None) -> List[Link]:
+def cycle_of(answer: Json, places: Optional[Dict[str, str]] = None) -> List[Link]:
     """The links of an anomaly; of a slice, with the table of its places, those of the whole history."""
     links = [link(one) for one in answer["cycle"]]
     return [one.moved(places) for one in links] if places else links
@@ -97,13 +97,13 @@ def transactions_of(cycle: List[Link]) -> List[str]:
     return sorted({name for one in steps for name in (one.source, one.target, one.reader) if name}, key=place)
 
 
-def anomaly_head(answer: dict) -> str:
+def anomaly_head(answer: Json) -> str:
     """The first line of an anomaly, as `tcc` prints it."""
     least = ", least not proved" if answer.get("least") is False else ""
     return "anomaly: %d steps, %s%s" % (answer["steps"], answer["shape"], least)
 
 
-def order_head(answer: dict) -> str:
+def order_head(answer: Json) -> str:
     return "consistent: %d transactions, %d sessions" % (answer["transactions"], answer["sessions"])
 
 
@@ -210,7 +210,7 @@ def sentences(cycle: List[Link], history: History) -> Iterator[str]:
         yield "No one order of the writes explains these reads together."
 
 
-def read_answer(lines: Iterable[str], number: Optional[int] = None) -> Tuple[dict, int]:
+def read_answer(lines: Iterable[str], number: Optional[int] = None) -> Tuple[Json, int]:
     """The answer of that number, from 1, by default the last one, and how many there are."""
     answers = [line for line in lines if line.strip()]
     wanted = len(answers) if number is None else number

@@ -15,9 +15,10 @@ import re
 import sys
 from collections import Counter
 from dataclasses import dataclass, field
-from typing import Iterator, List, TextIO
+from typing import Any, Counter as Count, Iterator, List, TextIO
 
 from tcc.progress import INTERRUPTED, Doing
+from tcc.rows import Json
 
 EXAMPLE = """example:
   $ echo '{:type :ok, :process 3, :f :txn, :value [[:r :x nil] [:w :y 5]]}' | edn.py
@@ -47,7 +48,7 @@ class Reader:
     lines: Iterator[str]
     text: str = ""
     at: int = 0
-    left_out: Counter = field(default_factory=Counter)
+    left_out: "Count[str]" = field(default_factory=Counter)
     counted: int = 0  # up to here the line was counted
     number: int = 1
     pulled: int = PULLED
@@ -114,7 +115,7 @@ class Reader:
             if not closing:
                 self.drop()
 
-    def value_of_all(self):
+    def value_of_all(self) -> Any:
         """The value that is the whole text."""
         return list(self.values())[0]
 
@@ -124,7 +125,7 @@ class Reader:
         self.value(self.token())
         self.left_out = kept
 
-    def value(self, token: str):
+    def value(self, token: str) -> Any:
         while token == "#_":
             self.discard()
             token = self.token()
@@ -146,13 +147,13 @@ class Reader:
             return self.value(self.token())
         return atom(token)
 
-    def behind_metadata(self):
+    def behind_metadata(self) -> Any:
         """The value to which the metadata belongs that comes next."""
         self.discard()
         self.left_out["metadata"] += 1
         return self.value(self.token())
 
-    def map_of(self, inner: list) -> dict:
+    def map_of(self, inner: List[Any]) -> Json:
         if len(inner) % 2:
             raise self.fails("a map with a key that has no value", self.at - 1)
         pairs = zip(inner[::2], inner[1::2])
@@ -176,7 +177,7 @@ def character(name: str) -> str:
     return CHARACTERS.get(name, name)
 
 
-def atom(word: str):
+def atom(word: str) -> Any:
     """A word: nil, true, false, a number, or the name of a keyword or a symbol."""
     if word in WORDS:
         return WORDS[word]

@@ -9,11 +9,12 @@ import re
 from array import array
 from collections import Counter
 from dataclasses import dataclass, field
-from typing import Any, Dict, Iterator, List, Optional, Sequence, Set, Tuple, Union
+from typing import Any, Counter as Count, Dict, Iterator, List, Optional, Sequence, Set, Tuple, Union
 
 from tcc.edn import Reader, atom
 from tcc.notes import Note
 from tcc.operations import STEP, WRITE, Operation, Step, Untold, is_number, spelled, steps, written
+from tcc.rows import Json
 
 NAME = re.compile(r"[A-Za-z0-9_.-]{1,32}")
 GREATEST_VALUE = 2**64 - 1
@@ -93,7 +94,7 @@ class Names:
         return {"%s%d" % (self.mark, number): next(free) for number in range(len(self.listed))}
 
 
-def plain_name(thing) -> Optional[str]:
+def plain_name(thing: Any) -> Optional[str]:
     """A text that is a name, or a whole number's digits; of an independent key and a key of its own, both with a point."""
     if isinstance(thing, list) and len(thing) == 2 and None not in map(plain_name, thing):
         thing = ".".join(map(str, thing))
@@ -102,7 +103,7 @@ def plain_name(thing) -> Optional[str]:
     return str(thing) if NAME.fullmatch(str(thing)) else None
 
 
-def plain_session(process) -> Optional[str]:
+def plain_session(process: Any) -> Optional[str]:
     return plain_name("p%d" % process if isinstance(process, int) else process)
 
 
@@ -122,7 +123,7 @@ class Imported:
     times: List[Optional[int]] = field(default_factory=list)
     nodes: Dict[int, str] = field(default_factory=dict)
     nemesis: List[Nemesis] = field(default_factory=list)
-    passed_over: Counter = field(default_factory=Counter)
+    passed_over: "Count[str]" = field(default_factory=Counter)
     left_out: int = 0
     longest: int = 0
     doubled: List[Tuple[int, str, str]] = field(default_factory=list)
@@ -152,7 +153,7 @@ class Imported:
                    node.strip('":') if node and node != "nil" else None)
         return True
 
-    def usual_object(self, line: int, told: dict) -> bool:
+    def usual_object(self, line: int, told: Json) -> bool:
         """Takes an operation that stands as a usual object of JSON; whether it could."""
         process, value, index, time = told.get("process"), told.get("value"), told.get("index"), told.get("time")
         kind = told.get("type")
@@ -266,7 +267,7 @@ class Imported:
         name = self._words[key] = self._key(line, atom(key))
         return name
 
-    def _key(self, line: int, key) -> str:
+    def _key(self, line: int, key: Any) -> str:
         name = self.keys.name(spelled(key), plain_name(key), line)
         if type(key) is str:
             self._texts[key] = name
@@ -281,7 +282,7 @@ class Imported:
             return words[-1] if DIGITS.fullmatch(words[-1]) else self._value(line, does, name, atom(words[-1]))
         return self._value(line, does, name, [atom(one) for one in words])
 
-    def _value(self, line: int, does: str, name: str, what) -> Optional[str]:
+    def _value(self, line: int, does: str, name: str, what: Any) -> Optional[str]:
         """The value of a step as a record has it; none where it is a list with a value twice, of which the read is left out."""
         if type(what) is list and does == "r" and self.has_appends:
             things = [spelled(one) for one in what]

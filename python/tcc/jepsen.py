@@ -37,13 +37,14 @@ import json
 import re
 import sys
 from collections import Counter
-from typing import BinaryIO, Iterable, Iterator, Tuple
+from typing import Any, BinaryIO, Counter as Count, Iterable, Iterator, Tuple
 
 from tcc.edn import NoEdn, Reader
 from tcc.imported import Imported, Nemesis
 from tcc.notes import write_notes
 from tcc.operations import USUAL, Untold, is_number, operation, spelled
 from tcc.progress import INTERRUPTED, Doing
+from tcc.rows import Json
 
 EXAMPLE = """example: session p1 doesn't see its own write
   $ cat history.jsonl
@@ -65,7 +66,7 @@ JSON_OBJECT = re.compile(r'\{\s*(?:\}|"(?:[^"\\]|\\.)*"\s*:)')
 EDN_BEGINS = ("{", "#", "(", "^", ";", ":", "\\")
 
 
-def no_constant(word: str):
+def no_constant(word: str) -> Any:
     raise ValueError("it has no %s" % word)
 
 
@@ -90,7 +91,7 @@ class Reading:
     def __init__(self, file: BinaryIO, into: Imported, doing: Doing, name: str):
         self.file, self.into, self.doing, self.name = file, into, doing, name
         self.line = 0
-        self.left_out: Counter = Counter()
+        self.left_out: "Count[str]" = Counter()
 
     def all(self) -> None:
         """Reads all of it, in the form that it has."""
@@ -181,12 +182,12 @@ class Reading:
         if vector:
             raise Untold(vector, "no EDN: what begins here has no end: ']' is missing")
 
-    def edn_value(self, line: int, value) -> None:
+    def edn_value(self, line: int, value: Any) -> None:
         if not isinstance(value, dict):
             raise Untold(line, "no map of EDN; each is one operation")
         self.object(line, value)
 
-    def object(self, line: int, told: dict) -> None:
+    def object(self, line: int, told: Json) -> None:
         """Takes an operation, or passes it over."""
         if self.into.usual_object(line, told):
             return
@@ -200,7 +201,7 @@ class Reading:
                                          str(told.get("type")), str(told.get("f")), spelled(told.get("value"))))
 
 
-def read_object(line: int, text: str) -> dict:
+def read_object(line: int, text: str) -> Json:
     try:
         value = DECODER.decode(text)
     except json.JSONDecodeError as error:
@@ -224,7 +225,7 @@ def imported(reading: Reading, may_list: bool) -> Imported:
     return reading.into
 
 
-def write_rows(path: str, rows: Iterable[Tuple]) -> None:
+def write_rows(path: str, rows: Iterable[Tuple[object, ...]]) -> None:
     with open(path, "w", newline="") as file:
         csv.writer(file, lineterminator="\n").writerows(rows)
 

@@ -2,7 +2,9 @@
 import json
 import re
 from dataclasses import dataclass
-from typing import Optional, Tuple
+from typing import Any, Callable, Optional, Tuple
+
+from tcc.rows import Json
 
 TYPES = ("invoke", "ok", "fail", "info")
 STEPS = {"read": "r", "write": "w"}  # what one operation of a register does
@@ -56,21 +58,21 @@ class Operation:
     node: Optional[str] = None
 
 
-def spelled(value) -> str:
+def spelled(value: Any) -> str:
     """One spelling for each value of JSON; so 1, true, 1.0 and "1" differ."""
     return json.dumps(value, sort_keys=True)
 
 
-def is_number(value) -> bool:
+def is_number(value: Any) -> bool:
     return isinstance(value, int) and not isinstance(value, bool)
 
 
-def is_pair(value, is_second) -> bool:
+def is_pair(value: Any, is_second: Callable[[Any], Any]) -> bool:
     """Whether a value is that of an independent key: the key, which is no list, and what is so."""
     return isinstance(value, list) and len(value) == 2 and not isinstance(value[0], list) and is_second(value[1])
 
 
-def steps(line: int, value) -> Optional[Tuple[Step, ...]]:
+def steps(line: int, value: Any) -> Optional[Tuple[Step, ...]]:
     """The reads and writes that the value of a line lists, none where it is null."""
     if value is None:
         return None
@@ -82,7 +84,7 @@ def steps(line: int, value) -> Optional[Tuple[Step, ...]]:
     return tuple(step(line, one, lambda key: key) for one in value)
 
 
-def step(line: int, value, named) -> Step:
+def step(line: int, value: Any, named: Callable[[Any], Any]) -> Step:
     if not isinstance(value, list) or len(value) != 3:
         raise Untold(line, "%s is no [does, key, value]" % spelled(value))
     does, key, what = value
@@ -91,13 +93,13 @@ def step(line: int, value, named) -> Step:
     return Step(does, spelled(named(key)), spelled(what))
 
 
-def one_step(does: str, value) -> Tuple[Step, ...]:
+def one_step(does: str, value: Any) -> Tuple[Step, ...]:
     """What an operation on one register does."""
     key, what = value if is_pair(value, lambda _: True) else (REGISTER, value)
     return (Step(does, spelled(key), spelled(what)),)
 
 
-def operation(line: int, told: dict) -> Optional[Operation]:
+def operation(line: int, told: Json) -> Optional[Operation]:
     """The operation that an object tells, none where it isn't about a transaction."""
     process = told.get("process")
     does = told.get("f", "txn" if is_number(process) else None)

@@ -1,6 +1,6 @@
 """The parts of a report that are the same for all: its style, its script, and its frame. Nothing is fetched from elsewhere."""
 from html import escape
-from typing import Iterable, List, Sequence, Tuple
+from typing import Any, Iterable, List, Sequence, Tuple
 
 STYLE = """
 :root { color-scheme: light dark; --ground: #fff; --raised: #f6f7f9; --ink: #1b1f24; --faint: #5a6472; --line: #d4d9e0;
@@ -89,7 +89,7 @@ document.querySelectorAll('.example').forEach(function (example) {
 """
 
 
-def text(value) -> str:
+def text(value: Any) -> str:
     return escape(str(value), True)
 
 

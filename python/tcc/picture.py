@@ -29,7 +29,7 @@ from typing import Dict, Iterable, Iterator, List, Optional, TextIO, Tuple
 from tcc.answers import (Link, anomaly_head, columns, cycle_of, key, label, order_head, place, read_answer, sentences,
                      transactions_of)
 from tcc.progress import INTERRUPTED, Doing
-from tcc.rows import History, Operation, Transaction, Unfit, open_records, read_history, read_places
+from tcc.rows import History, Json, Operation, Transaction, Unfit, open_records, read_history, read_places
 
 EXAMPLE = """example: draw the anomaly of a history, then show the records that it speaks of
   $ tcc explain --json < examples/stale-read.csv > answer.json
@@ -188,7 +188,7 @@ def edges(one: Link, marks: Marks, text: List[str]) -> Iterator[str]:
     yield '"%s" -> "%s" [%s, arrowhead=empty, constraint=false];' % (note, one.target, STYLES[one.kind])
 
 
-def draw_anomaly(answer: dict, links_of_cycle: List[Link], history: Optional[History]) -> Iterator[str]:
+def draw_anomaly(answer: Json, links_of_cycle: List[Link], history: Optional[History]) -> Iterator[str]:
     with_reasons = answer["steps"] <= MOST_STEPS
     links = marked(links_of_cycle, with_reasons)
     labels = {name for one in links for name in (one.source, one.target)}
@@ -201,7 +201,7 @@ def draw_anomaly(answer: dict, links_of_cycle: List[Link], history: Optional[His
     return graph([anomaly_head(answer), *told, *legend], nodes, below, drawn)
 
 
-def draw_order(answer: dict, history: Optional[History]) -> Iterator[str]:
+def draw_order(answer: Json, history: Optional[History]) -> Iterator[str]:
     order = [label(one) for one in answer["order"]]
     if len(order) > MOST_ORDERED:
         raise Unfit("an order of %d transactions has no picture: at most %d are drawn; --text lists them" % (
@@ -222,7 +222,7 @@ def listed(name: str, history: History) -> Iterator[str]:
         yield "  row %d%s: %s %s %s" % (operation.row, line, operation.does, operation.key, operation.value)
 
 
-def list_answer(answer: dict, links: List[Link], history: History) -> Iterator[str]:
+def list_answer(answer: Json, links: List[Link], history: History) -> Iterator[str]:
     """The text of --text: what the answer is, and the transactions that it speaks of."""
     kind = answer["answer"]
     if kind == "anomaly":
@@ -241,14 +241,14 @@ def list_answer(answer: dict, links: List[Link], history: History) -> Iterator[s
         yield from listed(name, history)
 
 
-def fault_label(fault: dict) -> str:
+def fault_label(fault: Json) -> str:
     return label("%s/%d" % (fault["session"], fault["place"]))
 
 
 Writes = Dict[Tuple[str, str], List[Tuple[str, Operation]]]
 
 
-def fault_text(fault: dict, history: History, writes: Writes) -> str:
+def fault_text(fault: Json, history: History, writes: Writes) -> str:
     """The line of a fault, as `tcc` has it, with the row of its operation, and the write that it is about."""
     name = fault_label(fault)
     row = fault_operation(fault, history.find(name)).row
@@ -256,13 +256,14 @@ def fault_text(fault: dict, history: History, writes: Writes) -> str:
         fault["kind"], name, fault["op"], key(fault["key"]), fault["value"], row, write_text(fault, name, history, writes))
 
 
-def fault_operation(fault: dict, one: Transaction) -> Operation:
+def fault_operation(fault: Json, one: Transaction) -> Operation:
     if not 1 <= fault["op"] <= len(one.operations):
         raise Unfit("%s has no operation %d in the history: is it that of the answer?" % (one.label, fault["op"]))
-    return one.operations[fault["op"] - 1]
+    operation: Operation = one.operations[fault["op"] - 1]
+    return operation
 
 
-def write_text(fault: dict, name: str, history: History, writes: Writes) -> str:
+def write_text(fault: Json, name: str, history: History, writes: Writes) -> str:
     """Which write a fault of the transaction is about, with its row."""
     if fault["kind"] == "ThinAir":
         return "nobody wrote it"
@@ -279,7 +280,7 @@ def write_text(fault: dict, name: str, history: History, writes: Writes) -> str:
     return "%s op %d %s, row %d" % (writer, op, told, write.row)
 
 
-def shown(answer: dict, history: Optional[History], places: Dict[str, str], as_text: bool) -> Iterator[str]:
+def shown(answer: Json, history: Optional[History], places: Dict[str, str], as_text: bool) -> Iterator[str]:
     links = cycle_of(answer, places) if answer["answer"] == "anomaly" else []
     if places and answer["answer"] != "anomaly":
         raise Unfit("a table of places is for an anomaly of a slice")

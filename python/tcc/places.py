@@ -11,7 +11,7 @@ from typing import Dict, Iterator, Tuple
 
 from tcc.answers import columns, cycle_of, read_answer, transactions_of
 from tcc.progress import INTERRUPTED
-from tcc.rows import History, Unfit, open_records, read_history
+from tcc.rows import History, Json, Unfit, open_records, read_history
 
 EXAMPLE = """example: the answer speaks of p1/187 and of p2/9 alone, so they are the first ones of the slice
   $ tcc explain --large --json --slice slice.csv records.csv > answer.json
@@ -22,7 +22,7 @@ EXAMPLE = """example: the answer speaks of p1/187 and of p2/9 alone, so they are
 """
 
 
-def places(answer: dict, slice_of_it: History) -> Iterator[Tuple[str, str]]:
+def places(answer: Json, slice_of_it: History) -> Iterator[Tuple[str, str]]:
     """The slice's labels, each with that of the whole; the slice has of each session the transactions of the cycle, in order."""
     if answer["answer"] != "anomaly":
         raise Unfit("the answer is %s: only an anomaly has a slice" % answer["answer"])
@@ -34,7 +34,7 @@ def places(answer: dict, slice_of_it: History) -> Iterator[Tuple[str, str]]:
         yield from zip(labels, whole[session])
 
 
-def table(answer: dict, slice_of_it: History) -> Dict[str, str]:
+def table(answer: Json, slice_of_it: History) -> Dict[str, str]:
     return dict(places(answer, slice_of_it))
 
 

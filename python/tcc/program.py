@@ -4,6 +4,8 @@ import subprocess
 from dataclasses import dataclass
 from typing import List, Optional
 
+from tcc.rows import Json
+
 ANSWERS = ("anomaly", "consistent", "unresolved")
 
 
@@ -38,14 +40,15 @@ class Program:
         """The words of `tcc survey`."""
         return [self.path, "survey", "--level", self.level, *(["--large"] if self.is_large else []), *more]
 
-    def answer(self, records: bytes) -> dict:
+    def answer(self, records: bytes) -> Json:
         """The last answer for these records."""
         return last_answer(subprocess.run(self.explain(), input=records, capture_output=True, check=False))
 
 
-def last_answer(ended: "subprocess.CompletedProcess[bytes]") -> dict:
+def last_answer(ended: "subprocess.CompletedProcess[bytes]") -> Json:
     """The last answer that a run printed."""
     lines = ended.stdout.splitlines()
+    told: Json = {}
     try:
         told = json.loads(lines[-1]) if lines else {}
     except ValueError:

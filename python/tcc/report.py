@@ -35,7 +35,7 @@ from tcc.page import counts, facts, page, text
 from tcc.places import table
 from tcc.program import NoAnswer, Program, last_answer
 from tcc.progress import INTERRUPTED, Doing
-from tcc.rows import History, Unfit, open_records, read_history
+from tcc.rows import History, Json, Unfit, open_records, read_history
 
 EXAMPLE = """example: one page of the history that Jepsen left
   $ report.py store/latest/history.edn -o report.html
@@ -91,7 +91,7 @@ class Findings:
     tcc: Program
     history: History
     notes: Dict[str, Note]
-    answer: dict
+    answer: Json
     commands: List[Command]
     imported: Optional[Imported] = None
     cycle: List[Link] = field(default_factory=list)
@@ -104,7 +104,7 @@ class Findings:
 
     @property
     def verdict(self) -> str:
-        return self.answer["answer"]
+        return str(self.answer["answer"])
 
     @property
     def contradicted(self) -> List[Contradicted]:
@@ -450,7 +450,7 @@ def legend() -> str:
 
 def shape_name(told: Findings) -> str:
     """The name of the answer's anomaly: its usual one, and its shape with the name that the field has."""
-    shape = told.answer["shape"]
+    shape: str = told.answer["shape"]
     field_name = " (%s)" % FIELD_NAMES[shape] if shape in FIELD_NAMES else ""
     name = usual_name(told.cycle)
     return (name + ", " if name else "") + shape + field_name

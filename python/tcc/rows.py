@@ -1,9 +1,12 @@
 """Records as the scripts read them: the transactions, each with its rows and what it did."""
 import csv
 from dataclasses import dataclass, field
-from typing import Dict, Iterable, List, NamedTuple, Optional, Set, TextIO, Tuple
+from typing import Any, Dict, Iterable, List, NamedTuple, Optional, Set, TextIO, Tuple
 
 from tcc.notes import NoNotes, read_notes
+
+# An object of JSON.
+Json = Dict[str, Any]
 
 
 class Unfit(Exception):

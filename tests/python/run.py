@@ -27,9 +27,6 @@ from arguments import status_on_tcc  # noqa: E402
 from counted import Outcome  # noqa: E402
 
 SECONDS = 120
-# The modules whose types aren't whole yet.
-UNTYPED = ("all", "answers", "edn", "imported", "jepsen", "operations", "page", "picture", "places", "program", "progress",
-           "report")
 COMMANDS = ["tcc-all", "tcc-edn", "tcc-full", "tcc-jepsen", "tcc-picture", "tcc-places", "tcc-report", "tcc-settle"]
 THREADS, TURNS = 8, 40
 # A process that is killed while a transaction of its is in its COMMIT, and another one hasn't come so far.
@@ -316,8 +313,7 @@ def types() -> Iterator[Outcome]:
     if not shutil.which("mypy"):
         print("types: passed over: no mypy on the path")
         return
-    typed = sorted("tcc/" + path.name for path in (PACKAGE / "tcc").glob("*.py") if path.stem not in UNTYPED)
-    words = ["mypy", "--strict", "--ignore-missing-imports", "--follow-imports", "silent", "--cache-dir", os.devnull, "backend/wheels.py", *typed]
+    words = ["mypy", "--strict", "--ignore-missing-imports", "--cache-dir", os.devnull, "tcc", "backend/wheels.py"]
     done = subprocess.run(words, cwd=PACKAGE, capture_output=True, text=True, timeout=SECONDS, check=False)
     yield "mypy --strict", None if done.returncode == 0 else done.stdout[-500:]
 

@@ -164,6 +164,7 @@ def contradicted_reads() -> Iterator[Outcome]:
 
 def interrupted(words: List[str], given: bytes, wanted: bytes, after: float) -> Optional[str]:
     """What a script that is interrupted does otherwise than it should: it says what it has, without a traceback."""
+    signal.signal(signal.SIGINT, signal.default_int_handler)  # a shell has what it starts in the background ignore it
     with subprocess.Popen(words, stdin=subprocess.PIPE, stdout=subprocess.PIPE, stderr=subprocess.STDOUT) as script:
         assert script.stdin and script.stdout
         script.stdin.write(given)
