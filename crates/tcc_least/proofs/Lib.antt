@@ -1,3 +1,4 @@
+pub mod Built
 pub mod GroupRange
 pub mod Listed
 pub mod Overwritten

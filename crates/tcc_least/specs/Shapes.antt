@@ -4,7 +4,7 @@ use Rattle.tcc_reads.specs.History.{History}
 use Rattle.tcc_graph.specs.Relations.{IsReadsPair, IsCausalPair}
 use Rattle.tcc_graph.specs.Levels.{Judged}
 use Rattle.tcc_graph.specs.Links.{MayContradict, cost}
-use Rattle.tcc_graph.specs.Routes.{IsCycle}
+use Rattle.tcc_graph.specs.Routes.{IsCycle, IsLeastCycle}
 use Rattle.tcc_graph.specs.declared.link.Link.{Link}
 use Rattle.tcc_least.specs.declared.short.ShortCycle.{ShortCycle}
 use Rattle.tcc_least.specs.declared.short.ShortCycle.TheVariants as short
@@ -16,6 +16,10 @@ NoneBelow j n = (s : ℕ) (links : List Link) → IsCycle j s links → n ≤ co
 -- some cycle costs less than n
 abbrev pub SomeBelow : Judged → ℕ → Type 0
 SomeBelow j n = (s : ℕ) × (links : List Link) × IsCycle j s links × (cost links < n)
+
+-- the links are a cycle from some start, and no cycle costs less
+abbrev pub AreLeast : Judged → List Link → Type 0
+AreLeast j links = (s : ℕ) × IsLeastCycle j s links
 
 -- b reads some key from a
 abbrev pub IsRead : History → ℕ → ℕ → Type 0

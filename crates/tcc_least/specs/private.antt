@@ -1,4 +1,5 @@
 -- What nobody has to believe: private functions say it to one another, or proofs to themselves.
+pub mod Building
 pub mod Places
 pub mod Returns
 pub mod Rounds

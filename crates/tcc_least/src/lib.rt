@@ -2,9 +2,11 @@
 //! a cycle has few shapes, and each shows at one place.
 #![tactic(auto)]
 
+mod building;
 pub mod laws;
 mod returning;
 mod rounds;
 mod short;
 
+pub use building::least_short;
 pub use short::{ShortCycle, short_cycle};

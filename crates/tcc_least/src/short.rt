@@ -18,7 +18,7 @@ pub enum ShortCycle {
 }
 
 /// The cost, or 4 where it is more.
-fn up_to_four(cost: u64) -> u64
+pub(crate) fn up_to_four(cost: u64) -> u64
     ensures { result ≡ min cost 4 }
 {
     if cost < 4 { cost } else { 4 }

@@ -1,0 +1,87 @@
+-- Links of short cycles, put together.
+use Rattle.std.proofs.Common.{ℕ, ◌+◌, ◌<◌, ◌≤◌, ◌≡◌, ◌⊎◌, inl, inr, List, [], ◌∷◌, length, refl, sym, ◌∙◌, arith}
+use Rattle.std.specs.Prelude.{◌≢◌, slice_index, slice_index_or}
+use Rattle.tcc_reads.specs.History.{History}
+use Rattle.tcc_graph.specs.Relations.{IsReadsPair, IsCausalPair}
+use Rattle.tcc_graph.specs.Readings.{AreReadings}
+use Rattle.tcc_graph.specs.Walks.{IsStep, step_from, step_to}
+use Rattle.tcc_graph.specs.Levels.{IsAllowed, judged}
+use Rattle.tcc_graph.specs.Links.{cost}
+use Rattle.tcc_graph.specs.declared.level.Level.{Level}
+use Rattle.tcc_graph.specs.declared.level.Level.TheVariants as level
+use Rattle.tcc_graph.specs.declared.step.Step.{Step}
+use Rattle.tcc_graph.specs.declared.link.Link.{Link}
+use Rattle.tcc_graph.specs.declared.link.Link.TheVariants as link
+use Rattle.tcc_graph.proofs.Linking.{derived_cost, cost_cons, one_cost, some_links}
+use Rattle.tcc_least.specs.Shapes.{NoneBelow, IsRead, IsRound, IsReturn, AreLeast}
+use Rattle.tcc_least.specs.private.Building.{IsPairLink, Overwrites, IsShortCycle}
+use Rattle.tcc_least.proofs.Listed.{pair_at, at_pair}
+
+module _ (h : History) where
+  -- ---- rounds of pairs
+  pub round_of_one : (a c n : ℕ) (l : Link) → c ≡ a → IsRound h n a c → IsPairLink h a c l → IsShortCycle h n (l ∷ [])
+  round_of_one a c n l same round p = ((λ v. (a, (omega arith, (p.from, p.link v, p.to ∙ same)))), low round.1)
+    where
+      low : ((1 < n) × (c ≡ a)) ⊎ (((2 < n) × IsCausalPair h c a) ⊎ ((3 < n) × ((d : ℕ) × IsRead h d a × IsCausalPair h c d))) → cost (l ∷ []) < n
+      low (inl (few, is)) = omega (arith, p.one, one_cost l)
+      low (inr (inl (few, back))) = omega (arith, p.one, one_cost l)
+      low (inr (inr (few, back))) = omega (arith, p.one, one_cost l)
+
+  pub round_of_two : (a c n : ℕ) (l m : Link) → (c ≡ a → ⊥) → IsRound h n a c → IsPairLink h a c l → IsPairLink h c a m → IsShortCycle h n (l ∷ m ∷ [])
+  round_of_two a c n l m other round p q = ((λ v. (a, (omega arith, (p.from, p.link v, (q.from ∙ sym p.to, q.link v, q.to))))), low round.1)
+    where
+      sum : cost (l ∷ m ∷ []) ≡ 2
+      sum = omega (arith, p.one, q.one, cost_cons l (m ∷ []), one_cost m)
+
+      low : ((1 < n) × (c ≡ a)) ⊎ (((2 < n) × IsCausalPair h c a) ⊎ ((3 < n) × ((d : ℕ) × IsRead h d a × IsCausalPair h c d))) → cost (l ∷ m ∷ []) < n
+      low (inl (few, is)) = absurd (other is)
+      low (inr (inl (few, back))) = omega (arith, sum)
+      low (inr (inr (few, back))) = omega (arith, sum)
+
+  -- where there is no other, a pair leads to a source of the source
+  pub third : (a c n : ℕ) → (c ≡ a → ⊥) → (IsCausalPair h c a → ⊥) → IsRound h n a c → (3 < n) × ((d : ℕ) × IsRead h d a × IsCausalPair h c d)
+  third a c n other none (read, inl (few, same)) = absurd (other same)
+  third a c n other none (read, inr (inl (few, back))) = absurd (none back)
+  third a c n other none (read, inr (inr back)) = back
+
+  pub round_of_three : (a c d n : ℕ) (k l m : Link) → 3 < n → IsPairLink h d a k → IsPairLink h a c l → IsPairLink h c d m → IsShortCycle h n (k ∷ l ∷ m ∷ [])
+  round_of_three a c d n k l m few o p q = (
+    (λ v. (d, (omega arith, (o.from, o.link v, (p.from ∙ sym o.to, p.link v, (q.from ∙ sym p.to, q.link v, q.to)))))),
+    omega (arith, o.one, p.one, q.one, cost_cons k (l ∷ m ∷ []), cost_cons l (m ∷ []), one_cost m),
+  )
+
+  -- ---- a derived link and a pair
+  allowed_one : (v : Level) (s : Step) → IsAllowed v (s ∷ [])
+  allowed_one level.Causal s = tt
+  allowed_one level.Atomic s = refl
+
+  pub return_of : (b a c : ℕ) (x : List ℕ) (s : Step) (l : Link) → b ≢ a → IsReadsPair h a c x → Overwrites h b c x → step_from s ≡ b → step_to s ≡ c
+      → IsStep h s → IsPairLink h a b l → IsShortCycle h 4 (link.Derived b a x c (s ∷ []) ∷ l ∷ [])
+  return_of b a c x s l other read over from to is p = (
+    (λ v. (b, (omega arith, (refl, ((other, read, over.0), ((omega arith, (from, is, to)), allowed_one v s)), (p.from, p.link v, p.to))))),
+    omega (arith, p.one, derived_cost b a x c (s ∷ []), cost_cons (link.Derived b a x c (s ∷ [])) (l ∷ []), one_cost l),
+  )
+
+  -- ---- which read is overwritten
+  abbrev pub NoneOverwritten : ℕ → List ℕ → List (List ℕ) → ℕ → Type 0
+  NoneOverwritten b readers names n = (k : ℕ) → k < n → Overwrites h b (slice_index readers k) (slice_index_or names k []) → ⊥
+
+  pub some_overwritten : (b a : ℕ) (readers : List ℕ) (names : List (List ℕ)) (n : ℕ) → AreReadings h a readers names → IsReturn h b a
+      → length readers ≤ n → NoneOverwritten b readers names n → ⊥
+  some_overwritten b a readers names n are ((x, c, against, pair), back) all none =
+      let w = at_pair readers names [] are.long c x ((are.each c x).1 against.1) in
+      none w.0 (omega (arith, w.1)) (rw (w.2, w.3) (against.2, pair))
+
+  pub reading_at : (a : ℕ) (readers : List ℕ) (names : List (List ℕ)) (k : ℕ) → AreReadings h a readers names → k < length readers
+      → IsReadsPair h a (slice_index readers k) (slice_index_or names k [])
+  reading_at a readers names k are inside =
+      (are.each (slice_index readers k) (slice_index_or names k [])).0 (pair_at readers names [] are.long k inside)
+
+  -- ---- least of all
+  pub one_at_least : (v : Level) → NoneBelow (judged h v) 1
+  one_at_least v s links cycle = some_links links cycle.0
+
+  pub least_at : (v : Level) (n m : ℕ) (links : List Link) → m ≤ n + 1 → NoneBelow (judged h v) n → IsShortCycle h m links → AreLeast (judged h v) links
+  least_at v n m links few none short =
+      let w = short.0 v in
+      (w.0, record { cycle = w.1; least = λ t others cycle. omega (arith, short.1, none t others cycle) })

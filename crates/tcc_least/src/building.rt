@@ -1,0 +1,168 @@
+//! A least cycle, with its links, where one costs three steps at most.
+ghost use Rattle.std.specs.Prelude.{◌≡◌, ◌≤◌, ◌<◌, ◌↔◌, ℕ, min, length, IsTrue, IfOk, MatchOption};
+ghost use Rattle.tcc_reads.specs.History.{count};
+ghost use Rattle.tcc_graph.specs.Relations.{IsReadsPair, IsCausalPair};
+ghost use Rattle.tcc_graph.specs.Keys.{IsWriter};
+ghost use Rattle.tcc_graph.specs.Walks.{IsStep, step_from, step_to};
+ghost use Rattle.tcc_graph.specs.Levels.{Judged, judged};
+ghost use Rattle.tcc_graph.specs.Links.{MayContradict, IsLink, link_cost, link_from, link_to, cost};
+ghost use Rattle.tcc_graph.specs.Routes.{IsLeastCycle};
+ghost use Rattle.tcc_graph.specs.declared.level.Level.{Level};
+ghost use Rattle.tcc_least.specs.Shapes.{NoneBelow, IsRead, IsRound, IsReturn, IsFirstShort, AreLeast};
+ghost use Rattle.tcc_least.specs.private.Building.{IsShortCycle, Overwrites, IsPairLink};
+
+use crate::short::{ShortCycle, short_cycle, up_to_four};
+use std::alloc::Global;
+use tcc_graph::{LargeGraph, Link, Step, Walk};
+use tcc_txn::{Name, NoMemory};
+
+/// The step from one transaction to another by a pair.
+fn step(graph: &LargeGraph, from: u32, to: u32) -> Step
+    requires { IsCausalPair graph.now from to }
+    ensures from { step_from result ≡ from }
+    ensures to { step_to result ≡ to }
+    ensures step { IsStep graph.now result }
+{
+    if graph.session(from, to) {
+        return Step::Session { from, to };
+    }
+    Step::Reads {
+        from,
+        to,
+        key: graph.reads_from(from, to)[0],
+    }
+}
+
+/// The link from one transaction to another by a pair.
+fn pair_link(graph: &LargeGraph, from: u32, to: u32) -> Link
+    requires { IsCausalPair graph.now from to }
+    ensures { IsPairLink graph.now from to result }
+{
+    match step(graph, from, to) {
+        Step::Session { from, to } => Link::Session { from, to },
+        Step::Reads { from, to, key } => Link::Reads { from, to, key },
+    }
+}
+
+/// A source of a transaction to which a pair leads from its reader.
+fn source_of_source(graph: &LargeGraph, source: u32, reader: u32) -> u32
+    requires source { source < count graph.now }
+    requires reader { reader < count graph.now }
+    requires there { (d : ℕ) × IsRead graph.now d source × IsCausalPair graph.now reader d }
+    ensures { IsRead graph.now result source × IsCausalPair graph.now reader result }
+{
+    for read in graph.reads_at(source) {
+        if graph.causal(reader, read.1) {
+            return read.1;
+        }
+    }
+    unreachable!()
+}
+
+/// The links of a round of pairs.
+fn round_links(
+    alloc: Global,
+    graph: &LargeGraph,
+    source: u32,
+    reader: u32,
+) -> Result<Vec<Link>, NoMemory>
+    requires { (n : ℕ) × IsRound graph.now n source reader }
+    ensures { IfOk result (λ links. (n : ℕ) → n ≤ 4 → IsRound graph.now n source reader → IsShortCycle graph.now n links.items) }
+{
+    let mut links = Vec::new(alloc);
+    if reader == source {
+        links.push(pair_link(graph, source, reader))?;
+        return Ok(links);
+    }
+    if graph.causal(reader, source) {
+        links.push(pair_link(graph, source, reader))?;
+        links.push(pair_link(graph, reader, source))?;
+        return Ok(links);
+    }
+    let first = source_of_source(graph, source, reader);
+    links.push(pair_link(graph, first, source))?;
+    links.push(pair_link(graph, source, reader))?;
+    links.push(pair_link(graph, reader, first))?;
+    Ok(links)
+}
+
+/// Whether a transaction overwrites what a reader of the key reads, and a pair leads to the reader.
+fn overwrites(graph: &LargeGraph, from: u32, reader: u32, key: &Name) -> bool
+    requires from { from < count graph.now }
+    requires reader { reader < count graph.now }
+    ensures { IsTrue result ↔ Overwrites graph.now from reader key.now }
+{
+    graph.is_writer(from, key) && graph.causal(from, reader)
+}
+
+/// A reader of a transaction, and a key that it reads there, which another transaction overwrites, from which a pair leads to the
+/// reader.
+fn overwritten(graph: &LargeGraph, from: u32, to: u32) -> (u32, Name)
+    requires { IsReturn graph.now from to }
+    ensures { IsReadsPair graph.now to result.0 result.1 × Overwrites graph.now from result.0 result.1 }
+{
+    let (readers, keys) = graph.readings(to);
+    for index in 0..readers.len() {
+        if overwrites(graph, from, readers[index], &keys[index]) {
+            return (readers[index], keys[index]);
+        }
+    }
+    unreachable!()
+}
+
+/// A derived link of two steps, and the link of a pair back.
+fn return_links(
+    alloc: Global,
+    graph: &LargeGraph,
+    from: u32,
+    to: u32,
+) -> Result<Vec<Link>, NoMemory>
+    requires { IsReturn graph.now from to }
+    ensures { IfOk result (λ links. IsShortCycle graph.now 4 links.items) }
+{
+    let (reader, key) = overwritten(graph, from, to);
+    let mut steps = Vec::new(alloc);
+    steps.push(step(graph, from, reader))?;
+    let mut links = Vec::new(alloc);
+    links.push(Link::Derived {
+        from,
+        to,
+        key,
+        reader,
+        walk: Walk::new(steps),
+    })?;
+    links.push(pair_link(graph, to, from))?;
+    Ok(links)
+}
+
+/// The links of the cycle at a place.
+fn links_at(alloc: Global, graph: &LargeGraph, place: ShortCycle) -> Result<Vec<Link>, NoMemory>
+    requires { (n : ℕ) × IsFirstShort graph.now n place }
+    ensures { IfOk result (λ links. (n : ℕ) → n ≤ 4 → IsFirstShort graph.now n place → IsShortCycle graph.now n links.items) }
+{
+    match place {
+        ShortCycle::Round { from, to } => round_links(alloc, graph, from, to),
+        ShortCycle::Return { from, to } => return_links(alloc, graph, from, to),
+    }
+}
+
+/// The links of a least cycle, where one costs less than `cost` steps, for costs up to 4, and for higher ones where one costs less than
+/// 4; none exactly where no cycle costs less. It is a least cycle at each level.
+pub fn least_short(
+    alloc: Global,
+    graph: &LargeGraph,
+    cost: u64,
+) -> Result<Option<Vec<Link>>, NoMemory>
+    ensures { IfOk result (λ found. (level : Level) → MatchOption found (NoneBelow (judged graph.now level) (min cost 4))
+        (λ links. AreLeast (judged graph.now level) links.items × (Rattle.tcc_graph.specs.Links.cost links.items < min cost 4))) }
+{
+    let Some(place) = short_cycle(graph, cost) else {
+        return Ok(None);
+    };
+    for below in 2..up_to_four(cost) {
+        if let Some(shorter) = short_cycle(graph, below) {
+            return Ok(Some(links_at(alloc, graph, shorter)?));
+        }
+    }
+    Ok(Some(links_at(alloc, graph, place)?))
+}
