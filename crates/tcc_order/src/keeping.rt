@@ -65,7 +65,7 @@ fn count_up_to(numbers: &[u32], top: u32) -> usize
 }
 
 /// The last of these, which rise, that is no greater than `top`, or 0.
-fn last_up_to(numbers: &[u32], top: u32) -> u32
+pub(crate) fn last_up_to(numbers: &[u32], top: u32) -> u32
     requires { IsNonDecreasing numbers.now }
     ensures { IsLastUpTo numbers.now top result }
 {
@@ -89,7 +89,7 @@ fn last_but(numbers: &[u32], top: u32, a: u32) -> u32
 }
 
 /// The number of a session, raised to that of the last writer other than `a` that its clock reaches.
-fn lift_session(
+pub(crate) fn lift_session(
     owners: &[u32],
     session: usize,
     top: u32,

@@ -1,70 +1,130 @@
 //! The links at `Atomic` that are kept: of each read the last writer of its key that the reader's session wrote before, and
-//! the writers that the reader reads from.
-ghost use Rattle.std.specs.Prelude.{◌≡◌, ◌≢◌, ◌<◌, ◌≤◌, ◌-◌, ◌+◌, ◌⊎◌, ◌↔◌, ◌∷◌, [], ℕ, length, slice_index, All, Contains, IfOk, OnOk, IsTrue};
+//! the writers that the reader reads from. A number is kept once by a sparse set (Briggs and Torczon): the place at which it was
+//! put down last says at once whether it is there. For R reads, each by a transaction with S sources, among W writers of a key
+//! that takes O(R (S + log W)), and O(log W) more for each link that is kept.
+ghost use Rattle.std.specs.Prelude.{◌≡◌, ◌≢◌, ◌<◌, ◌≤◌, ◌-◌, ◌+◌, ◌⊎◌, ◌↔◌, ◌∷◌, [], ℕ, true, length, slice_index, All, Contains, IfOk, OnOk, IsTrue};
+ghost use Rattle.std.specs.List.Sorted.{IsNonDecreasing};
 ghost use Rattle.tcc_reads.specs.History.{IsBySession, count};
-ghost use Rattle.tcc_graph.specs.Keys.{keys, key_at, writers, IsWriter};
+ghost use Rattle.tcc_graph.specs.Keys.{keys, key_at, writers};
 ghost use Rattle.tcc_graph.specs.Levels.{atomically};
 ghost use Rattle.tcc_clocks.specs.Parents.{ArePrevious};
-ghost use Rattle.tcc_order.specs.private.Keeping.{IsLifted, AreLinks, lifted_by};
-ghost use Rattle.tcc_order.specs.private.Stepping.{IsOther, IsReader, KeepsRead, AreStepped};
+ghost use Rattle.tcc_clocks.specs.Clocks.{AreOwners};
+ghost use Rattle.tcc_order.specs.private.Keeping.{IsLifted, AreLinks, AreOrdered};
+ghost use Rattle.tcc_order.specs.private.Stepping.{IsOther, IsReader, KeepsRead, KeepsInto};
 
-use crate::keeping::no_links;
-use std::alloc::Global;
+use crate::keeping::{last_up_to, lift_session};
+use std::alloc::{AllocError, Global};
 use tcc_bits::Row;
 use tcc_clocks::{find_parents, owners};
 use tcc_graph::LargeGraph;
-use tcc_txn::{Name, NoMemory};
+use tcc_txn::NoMemory;
 
-/// The later of a number and a writer, where this is another one than `a`, of the session of `c`, and before `c`.
-fn later_writer(owners: &[u32], b: u32, c: u32, a: u32, last: u32) -> u32
-    requires writer { b < length owners.now }
-    requires reader { c < length owners.now }
-    ensures { result ≡ lifted_by owners.now (slice_index owners.now c) ((c - 1) ∷ []) a b 0 last }
+/// The number before `c`, if it is of the same session, or else 0.
+fn before_in_session(owners: &[u32], c: u32) -> u32
+    requires { c < length owners.now }
+    ensures own { (result ≡ 0) ⊎ ((result ≡ c - 1) × (slice_index owners.now result ≡ slice_index owners.now c)) }
+    ensures first { result ≡ 0 → (c ≡ 0) ⊎ ((c ≡ 1) ⊎ (slice_index owners.now (c - 1) ≢ slice_index owners.now c)) }
 {
-    if b > 0 && b != a && owners[b as usize] == owners[c as usize] && b < c {
-        b.max(last)
+    if c > 0 && owners[(c - 1) as usize] == owners[c as usize] {
+        c - 1
     } else {
-        last
+        0
     }
 }
 
 /// The last writer other than `a` before `c` in its session, or 0 where there is none.
 fn last_writer(owners: &[u32], writers: &[u32], c: u32, a: u32) -> u32
+    requires ordered { AreOrdered owners.now }
+    requires rising { IsNonDecreasing writers.now }
     requires writers { All (λ b. b < length owners.now) writers.now }
     requires reader { c < length owners.now }
     ensures { IsLifted owners.now (slice_index owners.now c) ((c - 1) ∷ []) writers.now a 0 0 result }
 {
-    let mut last = 0;
-    for writer in writers {
-        last = later_writer(owners, *writer, c, a, last);
-    }
-    last
+    let top = before_in_session(owners, c);
+    lift_session(owners, owners[c as usize] as usize, top, writers, a, 0)
 }
 
-/// Whether a committed transaction other than `a` writes the key.
-fn is_other(graph: &LargeGraph, b: u32, key: &Name, a: u32) -> bool
-    requires { b < count graph.now }
-    ensures { IsTrue result ↔ IsOther graph.now key.now a b }
+/// Whether a number stands in a row, at the place where it was put down last.
+fn is_held(kept: &Row<u32>, places: &[usize], b: u32) -> bool
+    requires { b < length places.now }
+    ensures { result ≡ true → Contains kept.now b }
 {
-    b > 0 && b != a && graph.writes(b).contains(key)
+    let row = kept.as_slice();
+    match row.get(places[b as usize]) {
+        Some(number) => *number == b,
+        None => false,
+    }
 }
 
-/// Keeps those of these transactions that write the key, other than `a`.
-fn keep_others(
+/// Keeps a number, once.
+fn keep_one(kept: &mut Row<u32>, places: &mut [usize], b: u32) -> Result<(), NoMemory>
+    requires { b < length places.old }
+    ensures same { length places.new ≡ length places.old }
+    ensures kept { OnOk result ((d : ℕ) → Contains kept.new d ↔ (Contains kept.old d ⊎ (d ≡ b))) }
+{
+    if is_held(kept, places, b) {
+        return Ok(());
+    }
+    places[b as usize] = kept.as_slice().len();
+    kept.push(b)?;
+    Ok(())
+}
+
+/// Whether a committed transaction other than `a` is one of these writers, which rise.
+fn is_other(writers: &[u32], b: u32, a: u32) -> bool
+    requires { IsNonDecreasing writers.now }
+    ensures { IsTrue result ↔ IsOther writers.now a b }
+{
+    b > 0 && b != a && last_up_to(writers, b) == b
+}
+
+/// Keeps a transaction that is one of these writers, other than `a`.
+fn keep_other(
     kept: &mut Row<u32>,
-    graph: &LargeGraph,
-    numbers: &[u32],
-    key: &Name,
+    places: &mut [usize],
+    writers: &[u32],
+    b: u32,
     a: u32,
 ) -> Result<(), NoMemory>
-    requires { All (λ b. b < count graph.now) numbers.now }
-    ensures { OnOk result ((b : ℕ) → Contains kept.new b
-        ↔ (Contains kept.old b ⊎ (Contains numbers.now b × IsOther graph.now key.now a b))) }
+    requires rising { IsNonDecreasing writers.now }
+    requires inside { b < length places.old }
+    ensures same { length places.new ≡ length places.old }
+    ensures kept { OnOk result ((d : ℕ) → Contains kept.new d ↔ (Contains kept.old d ⊎ ((d ≡ b) × IsOther writers.now a b))) }
+{
+    if !is_held(kept, places, b) && is_other(writers, b, a) {
+        keep_one(kept, places, b)?;
+    }
+    Ok(())
+}
+
+/// Keeps those of these transactions that are writers, other than `a`.
+fn keep_others(
+    kept: &mut Row<u32>,
+    places: &mut [usize],
+    writers: &[u32],
+    numbers: &[u32],
+    a: u32,
+) -> Result<(), NoMemory>
+    requires rising { IsNonDecreasing writers.now }
+    requires inside { All (λ b. b < length places.old) numbers.now }
+    ensures same { length places.new ≡ length places.old }
+    ensures kept { OnOk result ((b : ℕ) → Contains kept.new b
+        ↔ (Contains kept.old b ⊎ (Contains numbers.now b × IsOther writers.now a b))) }
 {
     for number in numbers {
-        if is_other(graph, *number, key, a) {
-            kept.push(*number)?;
-        }
+        keep_other(kept, places, writers, *number, a)?;
+    }
+    Ok(())
+}
+
+/// Keeps the last writer, if there is one.
+fn keep_last(kept: &mut Row<u32>, places: &mut [usize], last: u32) -> Result<(), NoMemory>
+    requires { last < length places.old }
+    ensures same { length places.new ≡ length places.old }
+    ensures kept { OnOk result ((b : ℕ) → Contains kept.new b ↔ (Contains kept.old b ⊎ ((0 < last) × (b ≡ last)))) }
+{
+    if last > 0 {
+        keep_one(kept, places, last)?;
     }
     Ok(())
 }
@@ -72,6 +132,7 @@ fn keep_others(
 /// Keeps of a read the links into what it reads.
 fn keep_read(
     kept: &mut Row<u32>,
+    places: &mut [usize],
     graph: &LargeGraph,
     owners: &[u32],
     numbers: &[u32],
@@ -81,34 +142,50 @@ fn keep_read(
 ) -> Result<(), NoMemory>
     requires reader { IsReader graph.now owners.now numbers.now c }
     requires key { key < length (keys graph.now) }
-    ensures { OnOk result (KeepsRead graph.now c (key_at graph.now key) a kept.old kept.new) }
+    requires long { length places.old ≡ count graph.now }
+    ensures same { length places.new ≡ length places.old }
+    ensures kept { OnOk result (KeepsRead graph.now c (key_at graph.now key) a kept.old kept.new) }
 {
-    let last = last_writer(owners, graph.writers_at(key), c, a);
-    if last > 0 {
-        kept.push(last)?;
-    }
-    keep_others(kept, graph, numbers, &graph.keys()[key as usize], a)?;
-    Ok(())
+    let writers = graph.writers_at(key);
+    let last = last_writer(owners, writers, c, a);
+    keep_last(kept, places, last)?;
+    keep_others(kept, places, writers, numbers, a)
 }
 
-/// Keeps of each read of a transaction the links into what it reads.
-fn keep_reads(
-    kept: &mut [Row<u32>],
+/// The links into a transaction that are kept.
+fn links_into(
+    alloc: Global,
+    places: &mut [usize],
+    found: &mut Vec<u32>,
     graph: &LargeGraph,
     owners: &[u32],
-    numbers: &[u32],
-    c: u32,
-) -> Result<(), NoMemory>
-    requires reader { IsReader graph.now owners.now numbers.now c }
-    requires stepped { AreStepped graph.now (λ d x a. d < c) kept.old }
-    ensures same { length kept.new ≡ length kept.old }
-    ensures stepped { OnOk result (AreStepped graph.now (λ d x a. d < c + 1) kept.new) }
+    parents: &[u32],
+    a: u32,
+) -> Result<Row<u32>, NoMemory>
+    requires numbered { IsBySession graph.now.entries }
+    requires parents { ArePrevious graph.now parents.now }
+    requires owners { AreOwners graph.now owners.now }
+    requires long { length places.old ≡ count graph.now }
+    requires below { a < count graph.now }
+    ensures same { length places.new ≡ length places.old }
+    ensures kept { IfOk result (KeepsInto graph.now a) }
 {
-    for read in graph.reads_at(c) {
-        let into = &mut kept[read.1 as usize];
-        keep_read(into, graph, owners, numbers, c, read.0, read.1)?;
+    let mut kept = Row::new(Vec::new(alloc));
+    let (readers, key_indices) = graph.readings_at(a);
+    for (index, reader) in readers.iter().enumerate() {
+        find_parents(found, graph, parents, *reader)?;
+        keep_read(
+            &mut kept,
+            places,
+            graph,
+            owners,
+            found,
+            *reader,
+            key_indices[index],
+            a,
+        )?;
     }
-    Ok(())
+    Ok(kept)
 }
 
 /// The links at `Atomic` that are kept.
@@ -122,11 +199,12 @@ pub(crate) fn atomic_links(
     ensures { IfOk result (λ kept. AreLinks (atomically graph.now) kept.items) }
 {
     let owners = owners(alloc, graph)?;
-    let mut kept = no_links(alloc, graph.count())?;
+    let mut places = vec![in alloc; 0usize; graph.count() as usize]?;
     let mut found = Vec::new(alloc);
-    for c in 0..graph.count() {
-        find_parents(&mut found, graph, parents, c)?;
-        keep_reads(&mut kept, graph, &owners, &found, c)?;
+    let mut kept = Vec::new(alloc);
+    for a in 0..graph.count() {
+        let into = links_into(alloc, &mut places, &mut found, graph, &owners, parents, a)?;
+        kept.push(into)?;
     }
     Ok(kept)
 }

@@ -1,16 +1,14 @@
 -- Writers one pair before a reader, and the links that are kept by them.
-use Rattle.std.specs.Prelude.{ℕ, ◌<◌, ◌≡◌, ◌≢◌, ◌⊎◌, List, length, take, Contains}
-use Rattle.tcc_reads.specs.History.{History, IsBySession, count, entry_at}
+use Rattle.std.specs.Prelude.{ℕ, ◌<◌, ◌≡◌, ◌≢◌, ◌⊎◌, List, Contains}
+use Rattle.tcc_reads.specs.History.{History, IsBySession, count}
 use Rattle.tcc_graph.specs.Relations.{IsCausalPair, IsReadsPair, IsSessionPair}
-use Rattle.tcc_graph.specs.Keys.{writers, IsWriter}
-use Rattle.tcc_graph.specs.Levels.{atomically}
+use Rattle.tcc_graph.specs.Keys.{writers}
 use Rattle.tcc_clocks.specs.Parents.{HasSourcesAt, parents}
 use Rattle.tcc_clocks.specs.Clocks.{AreOwners}
-use Rattle.tcc_order.specs.private.Keeping.{IsCovered, AreDerived, Derives}
 
--- the committed transaction b, another than a, writes x
-abbrev pub IsOther : History → List ℕ → ℕ → ℕ → Type 0
-IsOther h x a b = (0 < b) × (b ≢ a) × IsWriter h b x
+-- the committed transaction b is one of these writers, another than a
+abbrev pub IsOther : List ℕ → ℕ → ℕ → Type 0
+IsOther writers a b = (0 < b) × (b ≢ a) × Contains writers b
 
 -- b, another writer of x than a, stands one pair before c
 pub record StepsOver (h : History) (c : ℕ) (x : List ℕ) (a : ℕ) (b : ℕ) : Type 0 where
@@ -33,12 +31,13 @@ pub record IsReader (h : History) (owners : List ℕ) (numbers : List ℕ) (c : 
   pub listed : numbers ≡ parents h c
   pub sources : HasSourcesAt h c
 
--- each link that is kept is a derived pair, and those by some reads are covered
-pub record AreStepped (h : History) (IsDone : ℕ → List ℕ → ℕ → Type 0) (kept : List (List ℕ)) : Type 0 where
-  pub long : length kept ≡ count h
-  pub derived : AreDerived (Derives (atomically h)) kept
-  pub enough : (c : ℕ) (x : List ℕ) (a : ℕ) (b : ℕ) → IsReadsPair h a c x → IsDone c x a → StepsOver h c x a b → IsCovered h kept a b
+-- of what is kept each stands one pair before a reader of a, and of the writers that do so by some reads each is kept, or a later one
+-- of its session
+pub record KeepsSome (h : History) (a : ℕ) (IsDone : ℕ → List ℕ → Type 0) (row : List ℕ) : Type 0 where
+  pub sound : (b : ℕ) → Contains row b → (c : ℕ) × (x : List ℕ) × IsReadsPair h a c x × StepsOver h c x a b
+  pub enough : (c : ℕ) (x : List ℕ) (b : ℕ) → IsReadsPair h a c x → IsDone c x → StepsOver h c x a b
+      → (d : ℕ) × ((b ≡ d) ⊎ IsSessionPair h b d) × Contains row d
 
--- the reads of transactions before c, and the first of its own
-abbrev pub IsReadSoFar : History → ℕ → ℕ → ℕ → List ℕ → ℕ → Type 0
-IsReadSoFar h c n d x a = (d < c) ⊎ ((d ≡ c) × (let read : List ℕ × ℕ = (x, a) in Contains (take n (entry_at h c).reads) read))
+-- so by all reads
+abbrev pub KeepsInto : History → ℕ → List ℕ → Type 0
+KeepsInto h a row = KeepsSome h a (λ c x. Unit {0}) row

@@ -1,6 +1,7 @@
-use Rattle.std.proofs.Common.{◌<◌}
-use Rattle.tcc_order.specs.private.Stepping.{AreStepped}
+use Rattle.std.proofs.Common.{◌≡◌, length}
+use Rattle.tcc_reads.specs.History.{count}
+use Rattle.tcc_order.proofs.Stepped.{KeepsBelow}
 use Rattle.tcc_order.proofs.stepping.atomic_links.Given as goal
 
-abbrev pub invariant-loop-c : goal.invariant-loop-c
-invariant-loop-c l = AreStepped l.graph (λ d x a. d < l.c) l.kept.items
+abbrev pub invariant-loop-a : goal.invariant-loop-a
+invariant-loop-a l = (length l.places.items ≡ count l.graph) × KeepsBelow l.graph l.a l.kept.items
