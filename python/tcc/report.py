@@ -366,7 +366,8 @@ def how_often(told: Findings) -> Iterator[str]:
     if not told.contradicted:
         return
     yield "<h2>What is contradicted</h2>"
-    yield '<p>A read is contradicted where its transaction knew of a newer write of the key, by its session or by what it read. Each is an anomaly by itself. %s</p>' % (
+    yield "<p>A read is contradicted where its transaction knew of a newer write of the key, by its session or by what it read. Each is an anomaly by itself.</p>"
+    yield '<p class="faint">%s What takes several reads together isn\'t counted; <code>all.py</code> looks for that too.</p>' % (
         "<code>tcc survey</code> lists them; that these are all is a theorem about it." if told.is_proved else
         "This script lists them; the answer, and what is shown of the answer\'s anomaly, are the program\'s.")
     yield counts("By name", sorted_counts((one.name for one in told.contradicted), ABOUT), MOST_ROWS, "names")

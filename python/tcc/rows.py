@@ -104,13 +104,16 @@ def history_of(lines: Iterable[Tuple[int, List[str]]]) -> History:
     open_ones: Dict[str, Transaction] = {}
     places: Dict[str, int] = {}
     row, make = 0, tuple.__new__  # operations are many, and made this way in a third of the time
+    texts: Dict[str, str] = {}  # keys, and what operations do, each once
+    once = texts.setdefault
     for line, fields in lines:
         if not fields:
             continue
         row += 1
         session, count = fields[0], len(fields)
         if count == 4 and fields[1] in ("r", "w") and session in open_ones:
-            open_ones[session].operations.append(make(Operation, (row, line, fields[1], fields[2], fields[3])))
+            at = row if line == row else line
+            open_ones[session].operations.append(make(Operation, (row, at, once(fields[1], fields[1]), once(fields[2], fields[2]), fields[3])))
         elif count == 2 and fields[1] == "begin" and session not in open_ones:
             places[session] = places.get(session, 0) + 1
             open_ones[session] = Transaction("%s/%d" % (session, places[session]), row)

@@ -1,6 +1,7 @@
 """What the scripts of recipes/ do that no case can show: on a history of random operations by either way of reading, when they are
 interrupted, at a terminal, and in the lines of RECORDING that answer for a large history."""
 import io
+import json
 import os
 import pathlib
 import pty
@@ -196,6 +197,23 @@ def interruptions(tcc: List[str]) -> Iterator[Outcome]:
                                                 b"interrupted behind 1 anomalies\nread your writes: 1\n", 2.5)
 
 
+def many_faults() -> Iterator[Outcome]:
+    """The list of an answer with thousands of faults, each with the write that it is about, takes no minutes."""
+    count = 3000
+    aborted = ["a,begin\na,w,k%d,%d\na,abort\n" % (number % 50, number + 1) for number in range(count)]
+    read = ["b,begin\nb,r,k%d,%d\nb,commit\n" % (number % 50, number + 1) for number in range(count)]
+    faults = [{"key": "k%d" % (number % 50), "kind": "Aborted", "op": 1, "place": number + 1, "session": "b", "value": number + 1}
+              for number in range(count)]
+    with tempfile.TemporaryDirectory() as folder:
+        records, answer = pathlib.Path(folder, "records.csv"), pathlib.Path(folder, "answer.json")
+        records.write_text("".join(aborted + read))
+        answer.write_text(json.dumps({"answer": "unresolved", "faults": faults}) + "\n")
+        done = subprocess.run([sys.executable, str(RECIPES / "picture.py"), str(answer), "--history", str(records), "--text"],
+                              capture_output=True, timeout=SECONDS, check=False)
+    last = b"Aborted b/3000 op 1 k49 3000, row 17999: a/3000 op 1 wrote it, in a transaction that aborted, row 8999\n"
+    yield "a list of many faults", None if done.returncode == 0 and last in done.stdout else "%r" % (done.stdout[:200] + done.stderr)
+
+
 def by_survey(tcc: List[str]) -> Iterator[Outcome]:
     """Where the program has `tcc survey`, the contradicted reads and their names are those that it prints."""
     with tempfile.TemporaryDirectory() as folder:
@@ -260,6 +278,7 @@ def outcomes(tcc: List[str]) -> Iterator[Outcome]:
     yield from lines_of_edn_py()
     yield from contradicted_reads()
     yield from interruptions(tcc)
+    yield from many_faults()
     yield from by_survey(tcc)
     yield from at_terminal()
     yield from lines_of_recording(tcc)
