@@ -181,6 +181,11 @@ def outcomes(tcc: List[str]) -> Iterator[Outcome]:
                     yield "page of %s, %d wide" % (name, width), fault_in_browser(page, program, width, boxes, folder)
     with tempfile.TemporaryDirectory() as folder:
         given, made = pathlib.Path(folder, "records.csv"), pathlib.Path(folder, "page.html")
+        call = [sys.executable, str(REPORT), str(TOP / "examples/monotonic-reads-violated.csv"), "-o", str(made), "--level", "atomic"]
+        ended = subprocess.run([*call, "--tcc", os.path.abspath(tcc[-1])], capture_output=True, timeout=SECONDS, check=False)
+        is_so = ended.returncode == 0 and "Consistent at the level of Read Atomic" in made.read_text()
+        yield "page at Read Atomic", None if is_so else "status %d, %r" % (ended.returncode, ended.stdout + ended.stderr)
+        made.unlink()
         given.write_text("a,begin\na,w,x\n")
         ended = subprocess.run([sys.executable, str(REPORT), str(given), "-o", str(made), "--tcc", os.path.abspath(tcc[-1])],
                                capture_output=True, timeout=SECONDS, check=False)

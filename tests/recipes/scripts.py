@@ -193,6 +193,11 @@ def interruptions(tcc: List[str]) -> Iterator[Outcome]:
             folder, folder, os.path.abspath(tcc[-1])))
         slow.chmod(0o755)
         records.write_text((TOP / "examples/stale-read.csv").read_text())
+        page = os.path.join(folder, "page.html")
+        pathlib.Path(folder, "once").touch()
+        said = interrupted(script("report.py", "--tcc", str(slow), "-o", page, str(records)), b"", b"no page was written", 2.5)
+        yield "report.py interrupted", said or ("there is a page" if os.path.exists(page) else None)
+        pathlib.Path(folder, "once").unlink()
         yield "all.py interrupted", interrupted(script("all.py", "--tcc", str(slow), str(records)), b"",
                                                 b"interrupted behind 1 anomalies\nread your writes: 1\n", 2.5)
 
