@@ -6,7 +6,7 @@ read, has the certificate checked by `tcc check` (of a large history that of its
 and no other file.
 
 The status is that of the answer: 0 consistent, 1 an anomaly, 2 reads that can't be traced to a write; 3 where the history can't be
-read, 130 where it was interrupted, and that of `tcc` where its run failed. Then no page is written.
+read, 127 where there is no program, 130 where it was interrupted, and that of `tcc` where its run failed. Then no page is written.
 """
 import argparse
 import gc
@@ -24,7 +24,7 @@ from dataclasses import dataclass, field
 from typing import Dict, Iterable, Iterator, List, Optional, Set, Tuple
 
 from tcc import jepsen
-from tcc.answers import FIELD_NAMES, Link, cycle_of, said, sentence_of, sentences, session_of, usual_name
+from tcc.answers import FIELD_NAMES, Link, cycle_of, place, said, sentence_of, sentences, session_of, usual_name
 from tcc.chart import Course, Span, chart
 from tcc.contradicted import Contradicted, Fault, Graph, Survey, cycle_of_read, survey, told_by_program
 from tcc.imported import Imported, LIMITS
@@ -42,7 +42,7 @@ EXAMPLE = """example: one page of the history that Jepsen left
   report.html: an anomaly, 37 contradicted reads
 """
 STATUSES = {"consistent": 0, "anomaly": 1, "unresolved": 2}
-NOT_READ, TOO_LARGE = 3, 4
+NOT_READ, TOO_LARGE, NO_PROGRAM = 3, 4, 127
 NANOSECONDS = 1e9
 # What ends that which the nemesis began, where it isn't start-THIS and stop-THIS.
 ENDS = {"stop": ["start"], "start": ["kill"], "resume": ["pause"], "heal": ["partition", "start-partition"]}
@@ -167,6 +167,14 @@ def keys_of(history: History) -> Set[str]:
     return {key for one in history.transactions.values() for _, _, _, key, _ in one.operations}
 
 
+def program(path: str) -> str:
+    """The program, wherever it is run."""
+    found = shutil.which(path)
+    if found is None:
+        raise NoAnswer(NO_PROGRAM, "there is no program %s; --tcc PATH says where it is" % path)
+    return os.path.abspath(found)
+
+
 def gathered(asked: argparse.Namespace, work: Work) -> Findings:
     """Runs everything."""
     imported = None
@@ -180,7 +188,7 @@ def gathered(asked: argparse.Namespace, work: Work) -> Findings:
     with open_records(str(records)) as file:
         history = read_history(file)
     notes = dict(imported.notes()) if imported else read_notes(asked.notes) if asked.notes else {}
-    tcc = Program(os.path.abspath(asked.tcc) if os.sep in asked.tcc else asked.tcc, asked.level, is_large(history), asked.workers)
+    tcc = Program(program(asked.tcc), asked.level, is_large(history), asked.workers)
     has_certificate = not tcc.is_large or certifies_large(tcc)
     beside = [*(["--slice", "slice.csv"] if tcc.is_large else []), *(["--certificate", "certificate.txt"] if has_certificate else [])]
     answer = last_answer(work.run(tcc.explain(*beside, "records.csv"), "answer.json"))
@@ -507,7 +515,8 @@ def faults_of(told: Findings) -> List[Fault]:
     for one in told.answer["faults"]:
         label = "%s/%d" % (one["session"], one["place"])
         operation = told.history.find(label).operations[one["op"] - 1]
-        first = next((name for name, write in sorted(writes[one["key"], str(one["value"])], key=lambda each: each[1].row) if write != operation), "")
+        others = [(place(name), write.row, name) for name, write in writes[one["key"], str(one["value"])] if write != operation]
+        first = min(others)[2] if others else ""
         found.append(Fault(one["kind"], label, operation, label if one["kind"] in ("BrokenInternal", "Future") else first))
     return found
 

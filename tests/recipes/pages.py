@@ -186,6 +186,9 @@ def outcomes(tcc: List[str]) -> Iterator[Outcome]:
         is_so = ended.returncode == 0 and "Consistent at the level of Read Atomic" in made.read_text()
         yield "page at Read Atomic", None if is_so else "status %d, %r" % (ended.returncode, ended.stdout + ended.stderr)
         made.unlink()
+        ended = subprocess.run([*call, "--tcc", os.path.join(folder, "none")], capture_output=True, timeout=SECONDS, check=False)
+        is_so = ended.returncode == 127 and b"there is no program" in ended.stderr and not made.exists()
+        yield "page without a program", None if is_so else "status %d, %r" % (ended.returncode, ended.stderr)
         given.write_text("a,begin\na,w,x\n")
         ended = subprocess.run([sys.executable, str(REPORT), str(given), "-o", str(made), "--tcc", os.path.abspath(tcc[-1])],
                                capture_output=True, timeout=SECONDS, check=False)
