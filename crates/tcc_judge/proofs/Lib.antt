@@ -5,3 +5,8 @@ pub mod HeldLemmas
 pub mod NextLemmas
 pub mod FoundLemmas
 pub mod BehindLemmas
+pub mod Firsts
+pub mod Laid
+pub mod Told
+pub mod SingleLemmas
+pub mod Ordered

@@ -19,16 +19,16 @@ use Rattle.tcc_judge.specs.private.Positions.{ArePositions, IsTurned}
 use Rattle.tcc_judge.proofs.ReadingLemmas.{reading_at, reading_place}
 
 -- the first i numbers have their positions
-pub record ArePositionsTo (i : ℕ) (order : List ℕ) (positions : List ℕ) : Type 0 where
-  pub long : length positions ≡ length order
+pub record ArePositionsTo (n : ℕ) (i : ℕ) (order : List ℕ) (positions : List ℕ) : Type 0 where
+  pub long : length positions ≡ n
   pub seen : (k : ℕ) → k < i → get_or positions (get_or order k 0) 0 ≡ k
 
-pub none_placed : (order : List ℕ) (n : ℕ) → n ≡ length order → ArePositionsTo 0 order (replicate n 0)
-none_placed order n is = record { long = length-replicate n 0 ∙ is; seen = λ k l. absurd (omega arith) }
+pub none_placed : (order : List ℕ) (n : ℕ) → ArePositionsTo n 0 order (replicate n 0)
+none_placed order n = record { long = length-replicate n 0; seen = λ k l. absurd (omega arith) }
 
-pub one_placed : (order positions : List ℕ) (i : ℕ) → IsNumbering (length order) order → i < length order → ArePositionsTo i order positions
-    → ArePositionsTo (i + 1) order (set positions (get_or order i 0) i)
-one_placed order positions i numbering inside w = record {
+pub one_placed : (n : ℕ) (order positions : List ℕ) (i : ℕ) → IsNumbering n order → i < length order → ArePositionsTo n i order positions
+    → ArePositionsTo n (i + 1) order (set positions (get_or order i 0) i)
+one_placed n order positions i numbering inside w = record {
   long = length-set positions (get_or order i 0) i ∙ w.long;
   seen = λ k l. go k l (cases_eq k i);
 }
@@ -37,14 +37,15 @@ one_placed order positions i numbering inside w = record {
     low = omega (arith, below_in numbering i inside, w.long)
 
     go : (k : ℕ) → k < i + 1 → (k ≡ i) ⊎ (k ≢ i) → get_or (set positions (get_or order i 0) i) (get_or order k 0) 0 ≡ k
-    go k l (inl same) = ap (λ z. get_or (set positions (get_or order i 0) i) (get_or order z 0) 0) same ∙ (get_or-set_same positions (get_or order i 0) i 0 low ∙ sym same)
+    go k l (inl same) =
+        ap (λ z. get_or (set positions (get_or order i 0) i) (get_or order z 0) 0) same ∙ (get_or-set_same positions (get_or order i 0) i 0 low ∙ sym same)
     go k l (inr other) =
         let apart : get_or order k 0 ≢ get_or order i 0 = λ e. other (one_index numbering k i (omega arith) inside e) in
         get_or-set_other positions (get_or order i 0) (get_or order k 0) i 0 apart ∙ w.seen k (omega arith)
 
-pub all_placed : (order positions : List ℕ) (i : ℕ) → IsNumbering (length order) order → length order ≤ i → ArePositionsTo i order positions
-    → ArePositions order positions
-all_placed order positions i numbering all w = record {
+pub all_placed : (n : ℕ) (order positions : List ℕ) (i : ℕ) → IsNumbering n order → length order ≤ i → ArePositionsTo n i order positions
+    → ArePositions n order positions
+all_placed n order positions i numbering all w = record {
   long = w.long;
   within = λ a l. let at = has_index numbering a l in omega (arith, at.1, ap (λ z. get_or positions z 0) at.2, w.seen at.0 (omega (arith, at.1)));
   here = λ a l. here a (has_index numbering a l);
@@ -56,17 +57,20 @@ all_placed order positions i numbering all w = record {
         ap (λ z. get_or order z 0) at ∙ e
 
 -- who stands before whom
-module _ (order positions : List ℕ) (numbering : IsNumbering (length order) order) (are : ArePositions order positions) where
-  pub stands_at : (k a : ℕ) → k < length order → get_or order k 0 ≡ a → get_or positions a 0 ≡ k
+module _ (n : ℕ) (order positions : List ℕ) (numbering : IsNumbering n order) (are : ArePositions n order positions) where
+  stands_at : (k a : ℕ) → k < length order → get_or order k 0 ≡ a → get_or positions a 0 ≡ k
   stands_at k a l e =
-      let low : a < length order = omega (arith, below_in numbering k l, e) in
+      let low : a < n = omega (arith, below_in numbering k l, e) in
       one_index numbering (get_or positions a 0) k (are.within a low) l (are.here a low ∙ sym e)
 
   pub before_at : (a b : ℕ) → Before order a b → get_or positions a 0 < get_or positions b 0
   before_at a b (i, j, less, within, at_a, at_b) = omega (arith, stands_at i a (omega arith) at_a, stands_at j b within at_b, less)
 
-  pub at_before : (a b : ℕ) → a < length order → b < length order → get_or positions a 0 < get_or positions b 0 → Before order a b
+  pub at_before : (a b : ℕ) → a < n → b < n → get_or positions a 0 < get_or positions b 0 → Before order a b
   at_before a b low within less = (get_or positions a 0, get_or positions b 0, less, are.within b within, are.here a low, are.here b within)
+
+  pub same_place : (a b : ℕ) → a < n → b < n → get_or positions a 0 ≡ get_or positions b 0 → a ≡ b
+  same_place a b low within same = sym (are.here a low) ∙ (ap (λ z. get_or order z 0) same ∙ are.here b within)
 
 -- ---- pairs that are not in order
 

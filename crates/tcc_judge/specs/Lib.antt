@@ -1,3 +1,4 @@
+pub mod Runs
 pub mod Orders
 pub mod Verdicts
 pub mod private

@@ -3,3 +3,5 @@ pub mod Least
 pub mod Positions
 pub mod NextWriters
 pub mod Behind
+pub mod Telling
+pub mod Singles

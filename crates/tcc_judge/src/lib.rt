@@ -3,10 +3,15 @@
 #![tactic(auto)]
 
 mod behind;
+pub mod laws;
 mod least;
 mod next_writers;
+mod ordering;
 mod positions;
+mod singles;
+mod telling;
 mod turned;
 mod verdict;
 
+pub use ordering::judge_order;
 pub use verdict::{Rule, Verdict};

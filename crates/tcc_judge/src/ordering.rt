@@ -1,0 +1,113 @@
+//! The judge of a claim that runs tell a commit order.
+ghost use Rattle.std.specs.Prelude.{◌≡◌, ℕ, IfOk, List, MatchOption};
+ghost use Rattle.tcc_reads.specs.History.{IsBySession, count};
+ghost use Rattle.tcc_graph.specs.Levels.{judged};
+ghost use Rattle.tcc_graph.specs.Orders.{Before, IsNumbering};
+ghost use Rattle.tcc_graph.specs.Relations.{IsSessionPair};
+ghost use Rattle.tcc_clocks.specs.Clocks.{LeadsOnward};
+ghost use Rattle.tcc_judge.specs.Orders.{BreaksAxiom};
+ghost use Rattle.tcc_judge.specs.Runs.{order_of};
+ghost use Rattle.tcc_judge.specs.Verdicts.{HasOrderSizes, IsVerdictOf, order_rules, pair_rules};
+ghost use Rattle.tcc_judge.specs.private.Least.{IsFoundFirst};
+ghost use Rattle.tcc_judge.specs.private.Positions.{ArePositions};
+ghost use Rattle.tcc_judge.specs.private.Telling.{IsOrdered};
+
+use crate::behind::first_behind;
+use crate::positions::positions_of;
+use crate::singles::first_single;
+use crate::telling::told;
+use crate::turned::first_turned;
+use crate::{Rule, Verdict};
+use std::alloc::Global;
+use tcc_cert::RunsClaim;
+use tcc_graph::{LargeGraph, Level};
+use tcc_txn::NoMemory;
+
+/// The first pair of a transaction and one that it has to stand before and doesn't.
+fn first_broken(
+    alloc: Global,
+    graph: &LargeGraph,
+    level: Level,
+    order: &[u32],
+    positions: &[u32],
+) -> Result<Option<(u32, u32)>, NoMemory>
+    requires numbered { IsBySession graph.now.entries }
+    requires numbering { IsNumbering (count graph.now) order.now }
+    requires positions { ArePositions (count graph.now) order.now positions.now }
+    requires onward { LeadsOnward graph.now order.now }
+    ensures { IfOk result (IsFoundFirst (BreaksAxiom (judged graph.now level) order.now)) }
+{
+    match level {
+        Level::Causal => first_behind(alloc, graph, order),
+        Level::Atomic => Ok(first_single(graph, order, positions)),
+    }
+}
+
+/// What the rules on an order say of one that has each transaction once, and every session pair in order.
+pub(crate) fn pairs_verdict(
+    alloc: Global,
+    graph: &LargeGraph,
+    level: Level,
+    order: &[u32],
+) -> Result<Verdict, NoMemory>
+    requires numbered { IsBySession graph.now.entries }
+    requires ordered { IsOrdered graph.now order.now }
+    ensures { IfOk result (IsVerdictOf (pair_rules (judged graph.now level) order.now)) }
+{
+    let positions = positions_of(alloc, order, graph.count())?;
+    if let Some(at) = first_turned(graph, &positions) {
+        return Ok(Verdict::Rejected {
+            rule: Rule::Pairs,
+            at,
+        });
+    }
+    match first_broken(alloc, graph, level, order, &positions)? {
+        Some(at) => Ok(Verdict::Rejected {
+            rule: Rule::Axiom,
+            at,
+        }),
+        None => Ok(Verdict::Accepted),
+    }
+}
+
+/// The order that a claim tells; none where its sizes are not those of the history.
+fn claimed_order(
+    alloc: Global,
+    graph: &LargeGraph,
+    claim: &RunsClaim,
+) -> Result<Option<Vec<u32>>, NoMemory>
+    requires { IsBySession graph.now.entries }
+    ensures { IfOk result (λ found. MatchOption found
+        (HasOrderSizes graph.now claim.now → ⊥)
+        (λ order. HasOrderSizes graph.now claim.now × (order.items ≡ order_of graph.now claim.now.runs))) }
+{
+    if claim.transactions != graph.count() || claim.sessions as usize != graph.sessions().len() {
+        return Ok(None);
+    }
+    let Some(order) = told(alloc, graph, claim.runs.as_slice())? else {
+        return Ok(None);
+    };
+    Ok(Some(order))
+}
+
+/// Accepts the claim exactly where the runs come to the sizes of the sessions and tell a commit order of the level; otherwise
+/// names the first broken rule and where.
+pub fn judge_order(
+    alloc: Global,
+    graph: &LargeGraph,
+    claim: &RunsClaim,
+) -> Result<Verdict, NoMemory>
+    ensures { IfOk result (IsVerdictOf (order_rules graph.now claim.now)) }
+{
+    // transactions stand by session and by place, and there is `init`, as these calls say
+    graph.sessions();
+    graph.count();
+    let Some(order) = claimed_order(alloc, graph, claim)? else {
+        return Ok(Verdict::Rejected {
+            rule: Rule::Sizes,
+            at: (0, 0),
+        });
+    };
+    let verdict = pairs_verdict(alloc, graph, claim.level, &order)?;
+    Ok(verdict)
+}
