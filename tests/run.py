@@ -1,9 +1,9 @@
 #!/usr/bin/env python3
 """All tests: the merge gate, which proves everything from nothing, and then on the program that it built the rows, by 32
 workers, and those with an anomaly by two as well; the seals of a history that grows, small histories decided as large ones,
-what a long run shows at a terminal, the altered certificates, the refused allocations and the hostile records; the scripts of
-recipes/ on stored inputs, and the package of python/ as pip installs it; and that what the documents name is there, and no
-script defines a name twice.
+what a long run shows at a terminal, random histories surveyed, the altered certificates, the refused allocations and the
+hostile records; the scripts of recipes/ on stored inputs, and the package of python/ as pip installs it; and that what the
+documents name is there, and no script defines a name twice.
 
 The last line is `N passed, M failed`, the sum of all; the status is 0 only where all passed.
 """
@@ -14,7 +14,7 @@ import sys
 
 TOP = pathlib.Path(__file__).resolve().parent.parent
 ON_THE_PROGRAM = ("rows/run.py --workers 32", "rows/run.py --workers 2 --searched", "rows/run.py --checker", "rows/numbers.py", "seals/run.py",
-                  "large/run.py", "large/watched.py", "certificates/run.py", "memory/run.py", "hostile/run.py", "recipes/run.py", "python/run.py", "docs/run.py")
+                  "large/run.py", "large/watched.py", "survey/run.py", "certificates/run.py", "memory/run.py", "hostile/run.py", "recipes/run.py", "python/run.py", "docs/run.py")
 CLOSING = re.compile(r"(\d+) passed, (\d+) failed$")
 
 

@@ -2,7 +2,7 @@
 use Rattle.std.specs.Prelude.{ℕ, List, codes}
 use Rattle.tcc_bench_stages.specs.declared.Stage.{Stage}
 use Rattle.tcc_bench_stages.specs.declared.Stage.TheVariants.{Csv, Rows, Snapshot, Resolve, Graph, Order, Near, Derive}
-use Rattle.tcc_bench_stages.specs.declared.Stage.TheVariants.{LargeSnapshot, LargeResolve, LargeGraph, LargeOrder, LargeCycle, LargeSlice, LargeAnswer}
+use Rattle.tcc_bench_stages.specs.declared.Stage.TheVariants.{LargeSnapshot, LargeResolve, LargeGraph, LargeOrder, LargeCycle, LargeSlice, LargeAnswer, LargeSurvey, SurveyAnswer}
 
 abbrev pub word_of : Stage → List ℕ
 word_of Csv = codes "csv"
@@ -20,3 +20,5 @@ word_of LargeOrder = codes "large-order"
 word_of LargeCycle = codes "large-cycle"
 word_of LargeSlice = codes "large-slice"
 word_of LargeAnswer = codes "large-answer"
+word_of LargeSurvey = codes "large-survey"
+word_of SurveyAnswer = codes "survey-answer"

@@ -1,5 +1,6 @@
 //! The stages of a history within the large limits.
 use crate::Stage;
+use crate::surveying::contradicted;
 use std::alloc::Global;
 use std::io::Read;
 use tcc_graph::{LargeGraph, Level, Link};
@@ -64,6 +65,7 @@ pub fn run_large<R: Read + Drop>(
     match stage {
         Stage::LargeGraph => Some(graph.count()),
         Stage::LargeOrder => ordered(alloc, &graph, level),
+        Stage::LargeSurvey => contradicted(alloc, &graph, level),
         _ => decided(alloc, &snapshot, &graph, level, stage),
     }
 }

@@ -5,7 +5,7 @@
 //!
 //! `large-snapshot`, `large-resolve`, `large-graph` and `large-order` do the same within the large limits, `large-cycle` looks
 //! for a cycle where there is no order, and `large-slice` cuts a small history out by it. `large-answer` prints what is
-//! decided. A second argument `atomic` asks for that level of these.
+//! decided. `large-survey` counts the contradicted reads, and `survey-answer` prints them. A second argument `atomic` asks for that level of these.
 #![tactic(auto)]
 
 ghost use Rattle.std.specs.Prelude.{◌≡◌, ◌≢◌, IfNone, IfSome};
@@ -13,9 +13,11 @@ ghost use Rattle.tcc_bench_stages.specs.Stages.{word_of};
 
 mod counting;
 mod large;
+mod surveying;
 
 use crate::counting::count_records;
 use crate::large::{large_answer, run_large};
+use crate::surveying::survey_answer;
 use std::alloc::Global;
 use std::env;
 use std::io::Read;
@@ -46,6 +48,8 @@ pub enum Stage {
     LargeCycle,
     LargeSlice,
     LargeAnswer,
+    LargeSurvey,
+    SurveyAnswer,
 }
 
 /// Whether a stage is one of a history within the large limits.
@@ -58,6 +62,7 @@ fn is_large(stage: Stage) -> bool {
             | Stage::LargeOrder
             | Stage::LargeCycle
             | Stage::LargeSlice
+            | Stage::LargeSurvey
     )
 }
 
@@ -137,6 +142,8 @@ fn stage_of(word: &str) -> Option<Stage>
         "large-cycle" => Some(Stage::LargeCycle),
         "large-slice" => Some(Stage::LargeSlice),
         "large-answer" => Some(Stage::LargeAnswer),
+        "large-survey" => Some(Stage::LargeSurvey),
+        "survey-answer" => Some(Stage::SurveyAnswer),
         _ => None,
     }
 }
@@ -169,6 +176,8 @@ fn main(rt: HostRuntime) -> ExitCode {
     let alloc = rt.alloc();
     let text = if stage == Stage::LargeAnswer {
         large_answer(alloc, rt.stdin(), level)
+    } else if stage == Stage::SurveyAnswer {
+        survey_answer(alloc, rt.stdin(), level)
     } else if is_large(stage) {
         text_of(alloc, run_large(alloc, rt.stdin(), level, stage))
     } else {
