@@ -10,7 +10,7 @@ use std::sync::Wait;
 use std::thread::{self, Threads};
 use std::time::Clock;
 use tcc_files::{
-    Apart, Input, Telling, check_opened, is_waited_for, open_both, open_input, open_output,
+    Apart, Input, Quiet, Telling, check_opened, is_waited_for, open_both, open_input, open_output,
     print_unopened,
 };
 use tcc_large_run::run_large;
@@ -83,7 +83,8 @@ fn explain<W: Write>(
 }
 
 fn main(rt: HostRuntime) -> ExitCode {
-    let mut out = Telling::new(rt.stdout(), "standard output", rt.stderr());
+    let told = Telling::new(rt.stdout(), "standard output", rt.stderr());
+    let mut out = Quiet::new(told);
     let code = match read(&rt, &mut out) {
         Ok(
             Request::Explain {
@@ -92,14 +93,18 @@ fn main(rt: HostRuntime) -> ExitCode {
                 certificate,
                 large,
                 slice,
+                quiet,
             },
-        ) => match open_input(&rt, history.as_deref()) {
-            Ok(input) => {
-                let path = if large { &slice } else { &certificate };
-                explain(&rt, &rt, options, large, input, path, &mut out)
+        ) => {
+            out.leave_out_orders(quiet);
+            match open_input(&rt, history.as_deref()) {
+                Ok(input) => {
+                    let path = if large { &slice } else { &certificate };
+                    explain(&rt, &rt, options, large, input, path, &mut out)
+                }
+                Err(error) => print_unopened(error.kind(), options.json, &mut out),
             }
-            Err(error) => print_unopened(error.kind(), options.json, &mut out),
-        },
+        }
         Ok(
             Request::Check {
                 history,

@@ -4,11 +4,13 @@
 mod files;
 mod input;
 mod opening;
+mod quiet;
 mod telling;
 mod terminal;
 
 pub use files::{check_opened, open_both, open_input, open_output, print_unopened};
 pub use input::Input;
 pub use opening::Apart;
+pub use quiet::Quiet;
 pub use telling::Telling;
 pub use terminal::is_waited_for;

@@ -44,6 +44,7 @@ record Asked : Type 0 where
   level : Option Text
   workers : Option Text
   json : Option Text
+  quiet : Option Text
   large : Option Text
   slice : Option Text
   certificate : Option Text
@@ -57,6 +58,7 @@ asks words =
       level = level_text met;
       workers = workers_text met;
       json = flag_text (codes "json") met;
+      quiet = flag_text (codes "quiet") met;
       large = flag_text (codes "large") met;
       slice = slice_path met;
       certificate = certificate_path met;
@@ -70,6 +72,7 @@ plain = record {
   level = Some (codes "causal");
   workers = Some (codes "1");
   json = Some (codes "false");
+  quiet = Some (codes "false");
   large = Some (codes "false");
   slice = None;
   certificate = None;
@@ -82,6 +85,7 @@ abbrev explain_lines : List (List Text × Asked)
 explain_lines =
     ([], plain)
     ∷ (codes "--json" ∷ [], record plain { json = Some (codes "true") })
+    ∷ (codes "--quiet" ∷ [], record plain { quiet = Some (codes "true") })
     ∷ (codes "--level" ∷ codes "atomic" ∷ [], record plain { level = Some (codes "atomic") })
     ∷ (codes "--level=atomic" ∷ codes "--json" ∷ [], record plain { level = Some (codes "atomic"); json = Some (codes "true") })
     ∷ (codes "--certificate" ∷ codes "c.txt" ∷ [], record plain { certificate = Some (codes "c.txt") })

@@ -79,10 +79,11 @@ slice_option = path_option (codes "slice")
 abbrev pub path : Text → Bool → Rule
 path id needed = record (new_rule id) { value_names = 1; required = needed }
 
--- explain [--level LEVEL] [--workers N] [--json] [--large] [--slice PATH] [--certificate PATH] [--require N] [FILE]
+-- explain [--level LEVEL] [--workers N] [--json] [--quiet] [--large] [--slice PATH] [--certificate PATH] [--require N] [FILE]
 abbrev pub explain_command : Words → App
 explain_command levels =
-    let answered : App = with_rule (with_rule (with_rule (new_app (codes "explain")) (level_option levels)) workers_option) (flag (codes "json")) in
+    let judged : App = with_rule (with_rule (new_app (codes "explain")) (level_option levels)) workers_option in
+    let answered : App = with_rule (with_rule judged (flag (codes "json"))) (flag (codes "quiet")) in
     let sized : App = with_rule (with_rule answered (flag (codes "large"))) slice_option in
     with_rule (with_rule (with_rule sized certificate_option) require_option) (path (codes "history") false)
 
@@ -157,36 +158,38 @@ IsInput None path = path ≡ None
 IsInput (Some word) None = word ≡ codes "-"
 IsInput (Some word) (Some path) = (word ≢ codes "-") × (path ≡ word)
 
--- the answers are as JSON and within the large limits by the flags, at the level of the word, by as many workers as the word
+-- the answers are as JSON, without orders and within the large limits by the flags, at the level of the word, by as many workers as the word
 -- says, and for as many transactions; the records are those of the file, and the certificate and the slice go to their paths,
 -- if there are any
 abbrev pub AsksExplain : Option (Text × List Row) → Request → Type 0
-AsksExplain met (Explain options history certificate large slice) =
+AsksExplain met (Explain options history certificate large slice quiet) =
     IsFlag (flag_text (codes "json") met) options.json × IsLevel (level_text met) options.level × IsWorkers (workers_text met) options.workers
     × IsRequired (required_text met) options.required × IsInput (history_path met) (option_map string_bytes history)
     × (option_map string_bytes certificate ≡ certificate_path met)
     × IsFlag (flag_text (codes "large") met) large × (option_map string_bytes slice ≡ slice_path met)
+    × IsFlag (flag_text (codes "quiet") met) quiet
 AsksExplain met (Check history certificate) = ⊥
 
 -- the paths are those that clap finds
 abbrev pub AsksCheck : List Row → Request → Type 0
-AsksCheck rows (Explain options history certificate large slice) = ⊥
+AsksCheck rows (Explain options history certificate large slice quiet) = ⊥
 AsksCheck rows (Check history certificate) =
     (first_of (codes "history") rows ≡ Some (string_bytes history)) × (first_of (codes "certificate") rows ≡ Some (string_bytes certificate))
 
 -- what the subcommand that was met asks for: a check by its name with its two paths; else answers
 abbrev pub AsksBy : Option (Text × List Row) → Request → Type 0
-AsksBy met (Explain options history certificate large slice) =
-    (option_map (λ entered. entered.0) met ≢ Some (codes "check")) × AsksExplain met (Explain options history certificate large slice)
+AsksBy met (Explain options history certificate large slice quiet) =
+    (option_map (λ entered. entered.0) met ≢ Some (codes "check")) × AsksExplain met (Explain options history certificate large slice quiet)
 AsksBy None (Check history certificate) = ⊥
 AsksBy (Some entered) (Check history certificate) = (entered.0 ≡ codes "check") × AsksCheck entered.1 (Check history certificate)
 
 abbrev pub Asks : App → List Text → Request → Type 0
 Asks app words request = AsksBy (subcommand_of app words) request
 
--- of a large history no certificate is asked for, and of another one no slice
+-- of a large history no certificate is asked for, and of another one no slice; and JSON keeps its orders
 abbrev pub GoesTogether : Request → Type 0
-GoesTogether (Explain options history certificate large slice) = (large ≡ true → certificate ≡ None) × (large ≡ false → slice ≡ None)
+GoesTogether (Explain options history certificate large slice quiet) =
+    (large ≡ true → certificate ≡ None) × (large ≡ false → slice ≡ None) × (quiet ≡ true → options.json ≡ false)
 GoesTogether (Check history certificate) = Unit {0}
 
 -- a text, or the line `memory` in its place, goes out with its status

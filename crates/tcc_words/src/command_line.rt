@@ -38,6 +38,8 @@ pub enum Request {
         large: bool,
         /// The path of the file for the slice of the last anomaly, if it is wanted of a large history.
         slice: Option<String>,
+        /// Whether the lines of orders are left out; then no JSON is wanted.
+        quiet: bool,
     },
     /// Judge a certificate for a history.
     Check {
@@ -171,6 +173,11 @@ fn explain_command<'a>(alloc: Global, levels: &'a [&'a str]) -> Result<Command<'
 {
     let level = level_option(alloc, levels);
     let json = flag(alloc, "json", "Answers in one line of JSON");
+    let quiet = flag(
+        alloc,
+        "quiet",
+        "Leaves out the order of a consistent history",
+    );
     let workers = workers_option(alloc);
     let first = Command::new(alloc, "explain")
         .about("Reads records and says whether the history is consistent at a level")
@@ -178,7 +185,8 @@ fn explain_command<'a>(alloc: Global, levels: &'a [&'a str]) -> Result<Command<'
         .arg(level)?;
     let second = first.arg(workers)?;
     let third = second.arg(json)?;
-    with_places(alloc, with_large(alloc, third)?)
+    let fourth = third.arg(quiet)?;
+    with_places(alloc, with_large(alloc, fourth)?)
 }
 
 /// A path, which may have to be given.
@@ -338,6 +346,7 @@ fn options_of(alloc: Global, matches: &ArgMatches) -> Result<Request, Error>
     };
     let json = is_set(matches, "json");
     let large = is_set(matches, "large");
+    let quiet = is_set(matches, "quiet");
     let history = history_of(alloc, matches)?;
     let certificate = path_for(alloc, matches, "certificate")?;
     let slice = path_for(alloc, matches, "slice")?;
@@ -352,6 +361,7 @@ fn options_of(alloc: Global, matches: &ArgMatches) -> Result<Request, Error>
         certificate,
         large,
         slice,
+        quiet,
     })
 }
 
@@ -421,9 +431,11 @@ fn refusal_of(request: &Request) -> Option<&'static str>
     ensures { MatchOption result (GoesTogether request.now) (λ _. GoesTogether request.now → ⊥) }
 {
     let Request::Explain {
+        options,
         certificate,
         large,
         slice,
+        quiet,
         ..
     } = request
     else {
@@ -436,6 +448,9 @@ fn refusal_of(request: &Request) -> Option<&'static str>
     }
     if !*large && slice.is_some() {
         return Some("'--slice' needs '--large'");
+    }
+    if *quiet && options.json {
+        return Some("'--quiet' can't be used with '--json', which has the order in its one line");
     }
     None
 }

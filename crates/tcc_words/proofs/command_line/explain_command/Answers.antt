@@ -22,4 +22,7 @@ returns c =
     let third_is : app_of c.in_ok-third.third ≡ with_rule (with_rule (with_rule (new_app (codes "explain")) (level_option c.args.levels)) workers_option)
     (flag (codes "json"))
     = c.in_ok-third.ensures.shape c.flag-json.ensures.own ∙ ap₂ with_rule second_is c.flag-json.ensures.rule in
-    IfOk-weaker c.with_places.result _ _ (λ made adds. adds ∙ ap with_added (c.in_ok-with_large.ensures ∙ ap with_sizes third_is)) c.with_places.ensures
+    let fourth_is : app_of c.in_ok-fourth.fourth ≡ with_rule (with_rule (with_rule (with_rule (new_app (codes "explain")) (level_option c.args.levels))
+    workers_option) (flag (codes "json"))) (flag (codes "quiet"))
+    = c.in_ok-fourth.ensures.shape c.flag-quiet.ensures.own ∙ ap₂ with_rule third_is c.flag-quiet.ensures.rule in
+    IfOk-weaker c.with_places.result _ _ (λ made adds. adds ∙ ap with_added (c.in_ok-with_large.ensures ∙ ap with_sizes fourth_is)) c.with_places.ensures
