@@ -59,4 +59,6 @@ def outcomes(tcc: List[str]) -> Iterator[Outcome]:
     program = os.path.abspath(tcc[-1])
     for about, files, status, printed in CASES:
         yield "step of a forge, %s" % about, wrong_step(files, status, printed, program)
+    done = subprocess.run(["sh", str(TOP / "recipes/ci/judge.sh"), "--help"], capture_output=True, text=True, timeout=SECONDS, check=False)
+    yield "help of judge.sh", None if done.returncode == 0 and "\nexample:\n" in done.stdout else "%d, %r" % (done.returncode, done.stdout)
     yield "step of a forge, no program", wrong_step({"a.csv": STALE}, 127, "", "/nonexistent/tcc")
