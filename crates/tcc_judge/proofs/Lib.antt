@@ -10,3 +10,4 @@ pub mod Laid
 pub mod Told
 pub mod SingleLemmas
 pub mod Ordered
+pub mod Linked

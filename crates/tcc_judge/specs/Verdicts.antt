@@ -5,6 +5,8 @@ use Rattle.tcc_graph.specs.Levels.{Judged, judged}
 use Rattle.tcc_cert.specs.Tables.{IsFirstAt}
 use Rattle.tcc_cert.specs.Rules.{HoldsEverywhere}
 use Rattle.tcc_cert.specs.declared.large.RunsClaim.{RunsClaim}
+use Rattle.tcc_cert.specs.declared.large.LinksClaim.{LinksClaim}
+use Rattle.tcc_judge.specs.Cycles.{IsRightCycle, IsCycleFault}
 use Rattle.tcc_judge.specs.Runs.{AreWhole, order_of}
 use Rattle.tcc_judge.specs.Orders.{BreaksPair, BreaksAxiom}
 use Rattle.tcc_judge.specs.declared.verdict.Rule.{Rule}
@@ -65,3 +67,7 @@ pair_rules j order = at_each Pairs (BreaksPair j.history order) ∷ at_each Axio
 -- the rules for a claim that runs tell a commit order, in turn
 abbrev pub order_rules : History → RunsClaim → List Asked
 order_rules h k = as_whole Sizes (HasOrderSizes h k) ∷ pair_rules (judged h k.level) (order_of h k.runs)
+
+-- the rule on the links of a claim
+abbrev pub links_rules : History → LinksClaim → List Asked
+links_rules h k = record { rule = Links; holds = IsRightCycle h k; broken = IsCycleFault h k } ∷ []

@@ -5,3 +5,4 @@ pub mod NextWriters
 pub mod Behind
 pub mod Telling
 pub mod Singles
+pub mod Links

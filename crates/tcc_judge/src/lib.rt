@@ -5,6 +5,7 @@
 mod behind;
 pub mod laws;
 mod least;
+mod links;
 mod next_writers;
 mod ordering;
 mod positions;
@@ -13,5 +14,6 @@ mod telling;
 mod turned;
 mod verdict;
 
+pub use links::judge_links;
 pub use ordering::judge_order;
 pub use verdict::{Rule, Verdict};
