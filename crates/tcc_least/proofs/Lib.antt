@@ -1,5 +1,6 @@
 pub mod Built
 pub mod GroupRange
+pub mod LeadingBack
 pub mod Listed
 pub mod Overwritten
 pub mod PlaceLemmas

@@ -1,2 +1,3 @@
+pub mod LeadingBack
 pub mod Shapes
 pub mod private
