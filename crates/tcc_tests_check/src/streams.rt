@@ -168,6 +168,6 @@ fn texts_without_an_end(rt: HostRuntime) {
     let graph = graph_of(&rt, alloc, TWO);
     for byte in [b't', b'0', b' '] {
         let verdict = check_stream(alloc, &graph, io::repeat(byte));
-        assert_eq!(&rt; verdict, Err(fault(1, CertFaultKind::Header)));
+        assert_eq!(&rt; verdict, Err(fault(1, CertFaultKind::TooLarge)));
     }
 }
