@@ -1,6 +1,7 @@
 #!/usr/bin/env python3
 """Small histories, decided as large ones are: the same first order as `tcc explain` gives, and an anomaly exactly where it
-gives one, of at least as many steps.
+gives one, of at least as many steps; of as many where it is said to be a least one, which it has to be up to four steps, and wherever
+a least one has three at most.
 
     run.py [--tcc PATH] [--stages PATH] [--kinds KIND ..] [--sizes N ..]
 
@@ -52,11 +53,11 @@ def small_answer(tcc, history, level):
 
 
 def large_answer(stages, history, level):
-    """The same as a large history."""
+    """The same as a large history, and of a cycle whether it is said to be a least one."""
     _, text = printed([stages, "large-answer"] + ([level] if level == "atomic" else []), history)
     word, _, rest = text.partition(" ")
     numbers = [int(number) for number in rest.split()]
-    return word, numbers if word == "order" else (numbers or [0])[0]
+    return ("order", numbers) if word == "order" else ("cycle", (numbers or [0])[0], word == "least")
 
 
 def difference(small, large):
@@ -67,6 +68,10 @@ def difference(small, large):
         return "another first order"
     if small[0] == "cycle" and large[1] < small[1]:
         return "a least cycle of %d steps, and one of %d" % (small[1], large[1])
+    if small[0] == "cycle" and large[2] and large[1] > small[1]:
+        return "a least cycle of %d steps, and one of %d is said to be least" % (small[1], large[1])
+    if small[0] == "cycle" and not large[2] and (large[1] <= 4 or small[1] <= 3):
+        return "a least cycle of %d steps, and one of %d isn't said to be least" % (small[1], large[1])
     return None
 
 

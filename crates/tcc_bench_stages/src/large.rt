@@ -36,14 +36,15 @@ fn decided(
     level: Level,
     stage: Stage,
 ) -> Option<u32> {
-    let Decision::Cycle(links) = decide(alloc, graph, level).ok()? else {
+    let decision = decide(alloc, graph, level).ok()?;
+    let Some(links) = decision.links() else {
         return Some(0);
     };
     if stage == Stage::LargeSlice {
-        let found = slice(alloc, snapshot, graph, level, &links).ok()?;
+        let found = slice(alloc, snapshot, graph, level, links).ok()?;
         return Some(found.map_or(0, |slice| slice.sessions()));
     }
-    Some(steps(&links))
+    Some(steps(links))
 }
 
 /// Goes as far as asked, and says how many sessions, transactions or steps there are at the end.
@@ -79,7 +80,8 @@ fn numbers(alloc: Global, order: &[u32]) -> Option<String> {
     Some(text)
 }
 
-/// What is decided of a history within the large limits: the numbers of its first commit order, or how many steps the cycle has.
+/// What is decided of a history within the large limits: the numbers of its first commit order, or the word
+/// `least`, or `cycle` where that isn't known, and how many steps the cycle has.
 pub fn large_answer<R: Read + Drop>(alloc: Global, reader: R, level: Level) -> Option<String> {
     let snapshot = large_snapshot_of(alloc, reader).ok()?;
     let LargeAnswer {
@@ -88,6 +90,10 @@ pub fn large_answer<R: Read + Drop>(alloc: Global, reader: R, level: Level) -> O
     } = explain_large(alloc, &snapshot, level).ok()?;
     match decision {
         Decision::Order(order) => numbers(alloc, &order),
+        Decision::Least(links) => {
+            let steps = steps(&links);
+            format!(in alloc; "least {steps}").ok()
+        }
         Decision::Cycle(links) => {
             let steps = steps(&links);
             format!(in alloc; "cycle {steps}").ok()

@@ -1,11 +1,28 @@
 -- What is decided of a history of any size.
+use Rattle.std.specs.Prelude.{ℕ, ◌<◌, ◌≡◌, List}
 use Rattle.tcc_graph.specs.Levels.{Judged}
+use Rattle.tcc_graph.specs.Links.{cost}
 use Rattle.tcc_graph.specs.Orders.{IsFirstOrder}
+use Rattle.tcc_graph.specs.declared.link.Link.{Link}
+use Rattle.tcc_least.specs.Shapes.{AreLeast, NoneBelow}
 use Rattle.tcc_large.specs.Cycles.{AreCycle}
 use Rattle.tcc_large.specs.declared.decision.Decision.{Decision}
 use Rattle.tcc_large.specs.declared.decision.Decision.TheVariants as decision
 
--- the first commit order, or the links of a cycle
+-- the first commit order; or the links of a least cycle; or those of a cycle that costs more than four steps, and then none
+-- costs less than four
 abbrev pub IsDecision : Judged → Decision → Type 0
 IsDecision j (decision.Order order) = IsFirstOrder j order.items
-IsDecision j (decision.Cycle links) = AreCycle j links.items
+IsDecision j (decision.Least links) = AreLeast j links.items
+IsDecision j (decision.Cycle links) = AreCycle j links.items × (4 < cost links.items) × NoneBelow j 4
+
+-- the links of a decision for a cycle; and that it has none
+abbrev pub HasLinks : Decision → List Link → Type 0
+HasLinks (decision.Order order) links = ⊥
+HasLinks (decision.Least found) links = links ≡ found.items
+HasLinks (decision.Cycle found) links = links ≡ found.items
+
+abbrev pub HasNone : Decision → Type 0
+HasNone (decision.Order order) = Unit {0}
+HasNone (decision.Least links) = ⊥
+HasNone (decision.Cycle links) = ⊥

@@ -6,6 +6,23 @@ use tcc_graph::Link;
 pub enum Decision {
     /// The numbers of all transactions in the first commit order.
     Order(Vec<u32>),
-    /// The links of a cycle, in order.
+    /// The links of a least cycle, in order.
+    Least(Vec<Link>),
+    /// The links of a cycle that costs more than four steps, in order, where none costs less than four.
     Cycle(Vec<Link>),
+}
+
+impl Decision {
+    ghost use Rattle.std.specs.Prelude.{MatchOption};
+    ghost use Rattle.tcc_large.specs.Decisions.{HasLinks, HasNone};
+
+    /// The links of the cycle, where it has one.
+    pub fn links(&self) -> Option<&[Link]>
+        ensures { MatchOption result (HasNone self.now) (λ links. HasLinks self.now links.now) }
+    {
+        match self {
+            Decision::Least(links) | Decision::Cycle(links) => Some(links),
+            Decision::Order(_) => None,
+        }
+    }
 }

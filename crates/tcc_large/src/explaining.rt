@@ -10,8 +10,8 @@ use tcc_graph::{LargeGraph, Level};
 use tcc_reads::{ResolveFault, resolve_large};
 use tcc_txn::LargeSnapshot;
 
-/// What is decided of the history of a large snapshot at a level: its first commit order; or the links of a cycle, not always of
-/// a least one. Or all its read faults, where there are some.
+/// What is decided of the history of a large snapshot at a level: its first commit order; or the links of a cycle, of a least one
+/// where it costs four steps at most, and not always where it costs more. Or all its read faults, where there are some.
 pub fn explain_large(
     alloc: Global,
     snapshot: &LargeSnapshot,

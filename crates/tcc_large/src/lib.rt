@@ -1,5 +1,6 @@
 //! What is decided of a history of any size: its first commit order, or a cycle. The finder of a cycle is trusted by nobody:
-//! each link of what it finds is judged by itself, and where that isn't a cycle, a plain search, which is complete, finds one.
+//! each link of what it finds is judged by itself, and where that isn't a cycle, a plain search, which is complete, finds one. That
+//! a cycle of four steps at most is a least one is proved by a look at each place.
 #![tactic(auto)]
 
 mod among;

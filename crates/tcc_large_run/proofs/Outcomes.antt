@@ -17,6 +17,7 @@ use Rattle.tcc_large_run.specs.declared.outcome.Outcome.{Outcome}
 
 decided : (options : Options) (h : History) (d : Decision) → outcome_said options (outcome_of options.level h d) ≡ decision_said options h d
 decided options h (decision.Order order) = refl
+decided options h (decision.Least links) = refl
 decided options h (decision.Cycle links) = refl
 
 resolved_as : (options : Options) (s : Sessions) (o : Outcome) → IsResolved options.level s o → IsResolvedAs options s (outcome_said options o)

@@ -11,7 +11,8 @@ use Rattle.tcc_reads.specs.History.{History}
 use Rattle.tcc_reads.specs.Sources.{history}
 use Rattle.tcc_graph.specs.Levels.{judged}
 use Rattle.tcc_graph.specs.declared.level.Level.{Level}
-use Rattle.tcc_answer.specs.Answers.{LabelledOrder}
+use Rattle.tcc_graph.specs.declared.link.Link.{Link}
+use Rattle.tcc_answer.specs.Answers.{LabelledOrder, LabelledCycle}
 use Rattle.tcc_answer.specs.Labels.{labels_of}
 use Rattle.tcc_answer.specs.declared.answer.Answer.{Answer}
 use Rattle.tcc_answer.specs.declared.answer.Answer.TheVariants as answer
@@ -39,9 +40,15 @@ bare_said options a = record { text = answered options.json a; status = answer_s
 abbrev pub bare_order : Level → History → List ℕ → LabelledOrder
 bare_order level h order = record { level = level; order = order; sessions = length h.sessions; clocks = []; labels = labels_of h }
 
--- what is decided of a large history: an order, as it is said of a small one; or a cycle, which needn't be a least one
+-- a least cycle of a history, with what its text needs: it has no distances
+abbrev pub bare_cycle : Level → History → List Link → LabelledCycle
+bare_cycle level h links = record { level = level; links = links; near = []; far = []; labels = labels_of h }
+
+-- what is decided of a large history: an order or a least cycle, as it is said of a small one; or a cycle that isn't known to be a
+-- least one
 abbrev pub decision_said : Options → History → Decision → Said
 decision_said options h (decision.Order order) = bare_said options (answer.Commit (bare_order options.level h order.items))
+decision_said options h (decision.Least links) = bare_said options (answer.Anomaly (bare_cycle options.level h links.items))
 decision_said options h (decision.Cycle links) =
     record { text = unproved options.json (labels_of h) links.items; status = Anomaly; certificate = None }
 

@@ -2,17 +2,18 @@
 ghost use Rattle.std.specs.Prelude.{◌≡◌, ℕ, IfErr, IfOk, IfSome, OnOk};
 ghost use Rattle.std.specs.Io.KnownBytes.{Appends};
 ghost use Rattle.tcc_txn.specs.Finished.{KeepsLimits};
+ghost use Rattle.tcc_graph.specs.Links.{cost};
 ghost use Rattle.tcc_answer.specs.declared.answer.Answer.TheVariants as answer;
 ghost use Rattle.tcc_print.specs.Printed.{EndsIn};
 ghost use Rattle.tcc_print.specs.declared.status.Status.TheVariants as status;
-ghost use Rattle.tcc_large_run.specs.LargeRuns.{bare_order};
+ghost use Rattle.tcc_large_run.specs.LargeRuns.{bare_cycle, bare_order};
 ghost use Rattle.tcc_large_run.specs.private.Stages.{IsOutcome, outcome_of, outcome_status, outcome_text};
 
 use std::alloc::Global;
 use std::io::Write;
 use std::thread::Threads;
-use tcc_answer::{Answer, Commit, Labels};
-use tcc_cert::{Numbers, Table};
+use tcc_answer::{Anomaly, Answer, CappedRows, Commit, Labels};
+use tcc_cert::{Links, Numbers, Table};
 use tcc_explain::{ExplainFault, Gate, explain};
 use tcc_graph::{LargeGraph, Level, Link};
 use tcc_large::{Decision, LargeAnswer, explain_large};
@@ -29,9 +30,10 @@ use tcc_txn::{LargeSnapshot, NoMemory, Snapshot};
 pub(crate) enum Outcome {
     /// All its read faults.
     Unresolved(Vec<ReadFault>),
-    /// Within the small limits its first answer; past them its first commit order, as an answer without clocks.
+    /// Within the small limits its first answer; past them its first commit order, as an answer without clocks, or a least cycle, as one
+    /// without distances.
     Answered(Answer),
-    /// Past the small limits: a cycle, which needn't be a least one, and the names of the transactions.
+    /// Past the small limits: a cycle that isn't known to be a least one, and the names of the transactions.
     Cycle { labels: Labels, links: Vec<Link> },
 }
 
@@ -48,6 +50,45 @@ fn order_answer(
     let sessions = graph.sessions().len() as u32;
     let clocks = Table::new(Vec::new(alloc));
     Ok(Answer::Commit(Commit::new(level, Numbers::new(order), sessions, clocks, labels)))
+}
+
+/// How many steps the links have together.
+fn steps_of(links: &[Link]) -> Result<u32, NoMemory>
+    ensures { IfOk result (λ steps. steps ≡ cost links.now) }
+{
+    let mut steps: u32 = 0;
+    for link in links {
+        // So many steps are those of no least cycle.
+        let Ok(cost) = u32::try_from(link.cost()) else {
+            return Err(NoMemory);
+        };
+        let Some(more) = steps.checked_add(cost) else {
+            return Err(NoMemory);
+        };
+        steps = more;
+    }
+    Ok(steps)
+}
+
+/// A least cycle of a large history as an answer without distances.
+fn cycle_answer(
+    alloc: Global,
+    graph: &LargeGraph,
+    level: Level,
+    links: Vec<Link>,
+) -> Result<Answer, NoMemory>
+    ensures { IfOk result (λ a. a ≡ answer.Anomaly (bare_cycle level graph.now links.items)) }
+{
+    let labels = Labels::of_large(alloc, graph)?;
+    let steps = steps_of(&links)?;
+    Ok(Answer::Anomaly(Anomaly::new(
+        level,
+        Links::new(links),
+        steps,
+        CappedRows::empty(alloc),
+        CappedRows::empty(alloc),
+        labels,
+    )))
 }
 
 impl Outcome {
@@ -82,6 +123,9 @@ impl Outcome {
         match decision {
             Decision::Order(order) => {
                 Ok(Outcome::Answered(order_answer(alloc, &graph, level, order)?))
+            }
+            Decision::Least(links) => {
+                Ok(Outcome::Answered(cycle_answer(alloc, &graph, level, links)?))
             }
             Decision::Cycle(links) => {
                 let labels = Labels::of_large(alloc, &graph)?;

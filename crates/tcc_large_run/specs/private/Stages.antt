@@ -27,7 +27,7 @@ use Rattle.tcc_print.specs.declared.options.Options.{Options}
 use Rattle.tcc_print.specs.declared.status.Status.{Status}
 use Rattle.tcc_print.specs.declared.status.Status.TheVariants.{Anomaly, Device, Memory, ReadFaults}
 use Rattle.tcc_print.specs.private.Courses.{Course}
-use Rattle.tcc_large_run.specs.LargeRuns.{IsSaidOfSnapshot, IsSliceText, IsSliced, bare_order}
+use Rattle.tcc_large_run.specs.LargeRuns.{IsSaidOfSnapshot, IsSliceText, IsSliced, bare_cycle, bare_order}
 use Rattle.tcc_large_run.specs.declared.outcome.Outcome.{Outcome}
 use Rattle.tcc_large_run.specs.declared.outcome.Outcome.TheVariants as outcome
 
@@ -36,6 +36,7 @@ use Rattle.tcc_large_run.specs.declared.outcome.Outcome.TheVariants as outcome
 -- what is said of a history by what is decided of it
 abbrev pub outcome_of : Level → History → Decision → Outcome
 outcome_of level h (decision.Order order) = outcome.Answered (answer.Commit (bare_order level h order.items))
+outcome_of level h (decision.Least links) = outcome.Answered (answer.Anomaly (bare_cycle level h links.items))
 outcome_of level h (decision.Cycle links) = outcome.Cycle (labels_of h) links
 
 -- the first answer of a small snapshot; what is decided of a larger one

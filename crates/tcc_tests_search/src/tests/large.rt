@@ -49,16 +49,16 @@ fn assert_decided(
     let graph = graph_of(rt, alloc, records);
     let decision = decide(alloc, graph.large(), level).expect(rt, "no memory");
     let first = order(alloc, graph.large(), level).expect(rt, "no memory");
-    match decision {
+    match &decision {
         Decision::Order(found) => {
             assert!(rt; wanted.is_none(), "an order of {records}");
             let first = first.expect(rt, records);
             assert!(rt; found.as_slice() == first.as_slice(), "of {records}");
         }
-        Decision::Cycle(links) => {
+        Decision::Least(links) | Decision::Cycle(links) => {
             assert!(rt; first.is_none(), "a cycle of {records}");
-            assert!(rt; is_cycle(graph.large(), level, &links), "of {records}");
-            let found = (links.len(), derived(&links));
+            assert!(rt; is_cycle(graph.large(), level, links), "of {records}");
+            let found = (links.len(), derived(links));
             assert!(rt; Some(found) == wanted, "of {records}");
         }
     }
@@ -105,7 +105,7 @@ fn judged(rt: HostRuntime) {
 /// The records of the slice of these records by the cycle that is found at `Causal`.
 fn assert_slice(rt: &impl Abort, alloc: Global, whole: &str, wanted: &str) {
     let graph = graph_of(rt, alloc, whole);
-    let Ok(Decision::Cycle(links)) = decide(alloc, graph.large(), Level::Causal) else {
+    let Ok(Decision::Least(links)) = decide(alloc, graph.large(), Level::Causal) else {
         panic!(rt; "no cycle of {whole}");
     };
     let snapshot = snapshot_of(alloc, whole.as_bytes())
@@ -151,7 +151,7 @@ fn large_answers(rt: HostRuntime) {
         .large();
     let causal = explain_large(alloc, &chain, Level::Causal).expect(&rt, CHAIN);
     assert!(&rt; causal.graph.count() == 5);
-    assert!(&rt; matches!(causal.decision, Decision::Cycle(_)));
+    assert!(&rt; matches!(causal.decision, Decision::Least(_) | Decision::Cycle(_)));
     let atomic = explain_large(alloc, &chain, Level::Atomic).expect(&rt, CHAIN);
     assert!(&rt; matches!(atomic.decision, Decision::Order(_)));
     let thin = "a,begin\na,r,x,1\na,commit\n";
