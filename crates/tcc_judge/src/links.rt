@@ -73,7 +73,13 @@ fn no_links(least: u32) -> LinksSeen
 }
 
 /// One link more, the one of this number, from 1.
-fn with_link(seen: LinksSeen, graph: &LargeGraph, level: Level, number: usize, link: &Link) -> LinksSeen
+fn with_link(
+    seen: LinksSeen,
+    graph: &LargeGraph,
+    level: Level,
+    number: usize,
+    link: &Link,
+) -> LinksSeen
     ensures { (least i : ℕ) (links : List Link) → number ≡ i + 1 → i < length links → link.now ≡ get_or links i link.now
         → AreSeenTo (judged graph.now level) least links i seen
         → AreSeenTo (judged graph.now level) least links (i + 1) result }
@@ -126,7 +132,10 @@ fn seen_verdict(seen: LinksSeen) -> Result<Verdict, NoMemory>
     let Ok(at) = u32::try_from(at) else {
         return Err(NoMemory);
     };
-    Ok(Verdict::Rejected { rule: Rule::Links, at: (at, 0) })
+    Ok(Verdict::Rejected {
+        rule: Rule::Links,
+        at: (at, 0),
+    })
 }
 
 /// Accepts the links exactly where they are a cycle of the level and cost what is claimed; otherwise names the first wrong one.
