@@ -11,3 +11,4 @@ pub mod Told
 pub mod SingleLemmas
 pub mod Ordered
 pub mod Linked
+pub mod Cycled

@@ -1,10 +1,13 @@
--- The rule on the links of a claim.
-use Rattle.std.specs.Prelude.{ℕ, ◌<◌, ◌≡◌, ◌⊎◌, length}
-use Rattle.tcc_reads.specs.History.{History}
+-- The rules on the links of a claim.
+use Rattle.std.specs.Prelude.{ℕ, ◌<◌, ◌≤◌, ◌≡◌, ◌⊎◌, List, [], All, MatchOption, length}
+use Rattle.tcc_reads.specs.History.{History, count}
 use Rattle.tcc_graph.specs.Levels.{judged}
 use Rattle.tcc_graph.specs.Links.{cost}
-use Rattle.tcc_cert.specs.CycleRules.{IsLinkWrong}
+use Rattle.tcc_cert.specs.CycleRules.{IsLinkBelow, IsLinkWrong}
 use Rattle.tcc_cert.specs.declared.large.LinksClaim.{LinksClaim}
+use Rattle.tcc_cert.specs.declared.large.Run.{Run}
+use Rattle.tcc_least.specs.Shapes.{IsRound, IsReturn}
+use Rattle.tcc_judge.specs.Runs.{AreWhole}
 
 -- the links, one at least, are a cycle of the cost that is claimed
 pub record IsRightCycle (h : History) (k : LinksClaim) : Type 0 where
@@ -17,3 +20,22 @@ abbrev pub IsCycleFault : History → LinksClaim → ℕ × ℕ → Type 0
 IsCycleFault h k at =
     (IsLinkWrong (judged h k.level) k.links at.0 × ((at.1 ≡ 0) × ((i : ℕ) → i < at.0 → IsLinkWrong (judged h k.level) k.links i → ⊥)))
     ⊎ ((at ≡ (0, 0)) × (((i : ℕ) → IsLinkWrong (judged h k.level) k.links i → ⊥) × (IsRightCycle h k → ⊥)))
+
+-- the runs beside a claim that no cycle costs less: past a cost of 4 those of an order, else none
+pub record AreNeeded (h : History) (most : ℕ) (runs : List Run) : Type 0 where
+  pub whole : 4 < most → AreWhole h runs
+  pub none : most ≤ 4 → runs ≡ []
+
+-- the size is that of the history, each number of a link is below it, and the runs are those that are needed
+pub record HasLinksSizes (h : History) (k : LinksClaim) : Type 0 where
+  pub transactions : k.transactions ≡ count h
+  pub links : All (IsLinkBelow (count h)) k.links
+  pub least : MatchOption k.least (Unit {0}) (AreNeeded h k.cost)
+
+-- up to a cost of 4: a round of fewer pairs, by one of its reads-from pairs
+abbrev pub BreaksRound : History → ℕ → ℕ × ℕ → Type 0
+BreaksRound h most at = (most ≤ 4) × IsRound h most at.0 at.1
+
+-- where the cost is 4: a derived link of two steps with a pair back
+abbrev pub BreaksReturn : History → ℕ → ℕ × ℕ → Type 0
+BreaksReturn h most at = (most ≡ 4) × IsReturn h at.0 at.1

@@ -1,12 +1,13 @@
 -- What is answered of a claim: it is accepted, or the first rule that is broken and where it is first.
-use Rattle.std.specs.Prelude.{ℕ, ◌≡◌, ◌⊎◌, List, [], ◌∷◌, length}
+use Rattle.std.specs.Prelude.{ℕ, ◌≡◌, ◌≤◌, ◌⊎◌, List, [], ◌∷◌, Option, None, Some, length}
 use Rattle.tcc_reads.specs.History.{History, count}
 use Rattle.tcc_graph.specs.Levels.{Judged, judged}
 use Rattle.tcc_cert.specs.Tables.{IsFirstAt}
 use Rattle.tcc_cert.specs.Rules.{HoldsEverywhere}
 use Rattle.tcc_cert.specs.declared.large.RunsClaim.{RunsClaim}
 use Rattle.tcc_cert.specs.declared.large.LinksClaim.{LinksClaim}
-use Rattle.tcc_judge.specs.Cycles.{IsRightCycle, IsCycleFault}
+use Rattle.tcc_judge.specs.Cycles.{HasLinksSizes, IsRightCycle, IsCycleFault, BreaksRound, BreaksReturn}
+use Rattle.tcc_cert.specs.declared.large.Run.{Run}
 use Rattle.tcc_judge.specs.Runs.{AreWhole, order_of}
 use Rattle.tcc_judge.specs.Orders.{BreaksPair, BreaksAxiom}
 use Rattle.tcc_judge.specs.declared.verdict.Rule.{Rule}
@@ -71,3 +72,20 @@ order_rules h k = as_whole Sizes (HasOrderSizes h k) ∷ pair_rules (judged h k.
 -- the rule on the links of a claim
 abbrev pub links_rules : History → LinksClaim → List Asked
 links_rules h k = record { rule = Links; holds = IsRightCycle h k; broken = IsCycleFault h k } ∷ []
+
+-- the rules on that no cycle costs less, in turn; past a cost of 4 that is refused, since it isn't decided yet
+abbrev pub least_rules : History → ℕ → List Asked
+least_rules h most =
+    at_each ShortPairs (BreaksRound h most) ∷ at_each ShortLinks (BreaksReturn h most) ∷ as_whole Limits (most ≤ 4) ∷ []
+
+-- so where it is claimed
+abbrev pub least_rules_of : History → ℕ → Option (List Run) → List Asked
+least_rules_of h most None = []
+least_rules_of h most (Some runs) = least_rules h most
+
+-- the rules for a claim of a cycle, in turn
+abbrev pub cycle_rules : History → LinksClaim → List Asked
+cycle_rules h k =
+    as_whole Sizes (HasLinksSizes h k)
+    ∷ record { rule = Links; holds = IsRightCycle h k; broken = IsCycleFault h k }
+    ∷ least_rules_of h k.cost k.least

@@ -3,6 +3,7 @@
 #![tactic(auto)]
 
 mod behind;
+mod cycles;
 pub mod laws;
 mod least;
 mod links;
@@ -14,6 +15,7 @@ mod telling;
 mod turned;
 mod verdict;
 
+pub use cycles::judge_cycle;
 pub use links::judge_links;
 pub use ordering::judge_order;
 pub use verdict::{Rule, Verdict};

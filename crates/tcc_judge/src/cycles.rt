@@ -1,0 +1,160 @@
+//! The judge of a claim that links are a cycle, and perhaps a least one.
+ghost use Rattle.std.specs.Prelude.{◌≡◌, ◌≤◌, ◌↔◌, [], All, IfOk, IsTrue, List};
+ghost use Rattle.tcc_reads.specs.History.{IsBySession, count};
+ghost use Rattle.tcc_cert.specs.CycleRules.{IsLinkBelow, IsStepBelow};
+ghost use Rattle.tcc_judge.specs.Cycles.{AreNeeded, HasLinksSizes};
+ghost use Rattle.tcc_judge.specs.Verdicts.{IsVerdictOf, cycle_rules, least_rules};
+
+use crate::links::judge_links;
+use crate::telling::told;
+use crate::{Rule, Verdict};
+use std::alloc::Global;
+use tcc_cert::{LinksClaim, Run};
+use tcc_graph::{LargeGraph, Link, Step};
+use tcc_least::{ShortCycle, short_cycle};
+use tcc_txn::NoMemory;
+
+/// Up to this cost no runs are needed.
+const SHORT: u32 = 4;
+
+/// Whether both ends of a step are below the count.
+fn is_step_below(step: &Step, count: u32) -> bool
+    ensures { IsTrue result ↔ IsStepBelow count step.now }
+{
+    match step {
+        Step::Session { from, to } => *from < count && *to < count,
+        Step::Reads { from, to, .. } => *from < count && *to < count,
+    }
+}
+
+/// Whether both ends of each step are below the count.
+fn are_steps_below(steps: &[Step], count: u32) -> bool
+    ensures { IsTrue result ↔ All (IsStepBelow count) steps.now }
+{
+    steps.iter().all(|step| is_step_below(step, count))
+}
+
+/// Whether all numbers in a link are below the count.
+fn is_link_below(link: &Link, count: u32) -> bool
+    ensures { IsTrue result ↔ IsLinkBelow count link.now }
+{
+    match link {
+        Link::Session { from, to } => *from < count && *to < count,
+        Link::Reads { from, to, .. } => *from < count && *to < count,
+        Link::Derived {
+            from,
+            to,
+            reader,
+            walk,
+            ..
+        } => {
+            *from < count
+                && *to < count
+                && *reader < count
+                && are_steps_below(walk.as_slice(), count)
+        }
+    }
+}
+
+/// Whether all numbers in the links are below the count.
+fn are_links_below(links: &[Link], count: u32) -> bool
+    ensures { IsTrue result ↔ All (IsLinkBelow count) links.now }
+{
+    links.iter().all(|link| is_link_below(link, count))
+}
+
+/// Whether there are no runs.
+fn is_none(runs: &[Run]) -> bool
+    ensures { IsTrue result ↔ (runs.now ≡ []) }
+{
+    runs.is_empty()
+}
+
+/// Whether the runs are those that are needed for a claim that no cycle costs less.
+fn are_needed(alloc: Global, graph: &LargeGraph, cost: u32, runs: &[Run]) -> Result<bool, NoMemory>
+    requires { IsBySession graph.now.entries }
+    ensures { IfOk result (λ needed. IsTrue needed ↔ AreNeeded graph.now cost runs.now) }
+{
+    if cost <= SHORT {
+        return Ok(is_none(runs));
+    }
+    match told(alloc, graph, runs)? {
+        Some(_order) => Ok(true),
+        None => Ok(false),
+    }
+}
+
+/// Whether the sizes of a claim are those of the history.
+fn has_links_sizes(alloc: Global, graph: &LargeGraph, claim: &LinksClaim) -> Result<bool, NoMemory>
+    requires { IsBySession graph.now.entries }
+    ensures { IfOk result (λ right. IsTrue right ↔ HasLinksSizes graph.now claim.now) }
+{
+    if claim.transactions != graph.count() {
+        return Ok(false);
+    }
+    if !are_links_below(claim.links.as_slice(), claim.transactions) {
+        return Ok(false);
+    }
+    match &claim.least {
+        Some(runs) => {
+            let needed = are_needed(alloc, graph, claim.cost, runs.as_slice())?;
+            Ok(needed)
+        }
+        None => Ok(true),
+    }
+}
+
+/// The verdict on that no cycle costs less.
+fn least_verdict(graph: &LargeGraph, cost: u32) -> Verdict
+    ensures { IsVerdictOf (least_rules graph.now cost) result }
+{
+    if cost > SHORT {
+        return Verdict::Rejected {
+            rule: Rule::Limits,
+            at: (0, 0),
+        };
+    }
+    match short_cycle(graph, u64::from(cost)) {
+        Some(ShortCycle::Round { from, to }) => {
+            Verdict::Rejected {
+                rule: Rule::ShortPairs,
+                at: (from, to),
+            }
+        }
+        Some(ShortCycle::Return { from, to }) => {
+            Verdict::Rejected {
+                rule: Rule::ShortLinks,
+                at: (from, to),
+            }
+        }
+        None => Verdict::Accepted,
+    }
+}
+
+/// Accepts the claim exactly where the links are a cycle of its cost and its level, and, where that is claimed, no cycle costs
+/// less; otherwise names the first broken rule and where. That no cycle costs less is decided up to a cost of 4, and past that
+/// refused by the rule on limits.
+pub fn judge_cycle(
+    alloc: Global,
+    graph: &LargeGraph,
+    claim: &LinksClaim,
+) -> Result<Verdict, NoMemory>
+    ensures { IfOk result (IsVerdictOf (cycle_rules graph.now claim.now)) }
+{
+    // transactions stand by session and by place, as this call says
+    graph.sessions();
+    if !has_links_sizes(alloc, graph, claim)? {
+        return Ok(Verdict::Rejected {
+            rule: Rule::Sizes,
+            at: (0, 0),
+        });
+    }
+    let verdict = judge_links(graph, claim)?;
+    if verdict != Verdict::Accepted {
+        return Ok(verdict);
+    }
+    match &claim.least {
+        Some(_runs) => Ok(least_verdict(graph, claim.cost)),
+        None => Ok(Verdict::Accepted),
+    }
+}
