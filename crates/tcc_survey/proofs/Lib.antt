@@ -4,3 +4,5 @@ pub mod ScanLemmas
 pub mod ListLemmas
 pub mod FindLemmas
 pub mod ChosenLemmas
+pub mod CalledLemmas
+pub mod LaneLemmas

@@ -13,7 +13,7 @@ use Rattle.tcc_survey.specs.private.Settled.{reading_of}
 use Rattle.tcc_survey.specs.private.Listed.{IsEarlier, IsReadOf, AreReadsUpTo}
 
 -- a read that is listed is a pair
-listed_pair : (h : History) (a c : ℕ) (x : List ℕ) → a < count h → c < count h → (let read : List ℕ × ℕ = (x, a) in Contains (entry_at h c).reads read)
+pub listed_pair : (h : History) (a c : ℕ) (x : List ℕ) → a < count h → c < count h → (let read : List ℕ × ℕ = (x, a) in Contains (entry_at h c).reads read)
     → IsReadsPair h a c x
 listed_pair h a c x from to there = (
   from,

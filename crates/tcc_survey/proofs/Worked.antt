@@ -1,5 +1,5 @@
 -- Small histories, and which of their reads are contradicted, worked out by hand.
-use Rattle.std.proofs.Common.{ℕ, ◌≡◌, true, List, [], ◌∷◌, length, refl, subst, arith}
+use Rattle.std.proofs.Common.{ℕ, ◌≡◌, true, List, [], ◌∷◌, refl, subst, arith}
 use Rattle.std.proofs.lemmas.Bool.{false≢true}
 use Rattle.tcc_graph.specs.Levels.{causally, atomically}
 use Rattle.tcc_graph.specs.Relations.{causal_pair}
@@ -8,7 +8,7 @@ use Rattle.tcc_graph.specs.declared.step.Step.{Step}
 use Rattle.tcc_graph.specs.declared.step.Step.TheVariants as step
 use Rattle.tcc_graph.proofs.Pairs.{first_pair}
 use Rattle.tcc_graph.proofs.Worked.{x, y, stale_read, long_chain, long_chain-link}
-use Rattle.tcc_survey.specs.Contradictions.{IsContradictedBy, Contradicts, HasRead, read_at}
+use Rattle.tcc_survey.specs.Contradictions.{IsContradictedBy, Contradicts, HasRead}
 
 -- a/2 reads the initial value of x, though its own session wrote x before
 stale_read-by : IsContradictedBy (causally stale_read) 2 x 0 1

@@ -1,2 +1,3 @@
 pub mod Contradictions
+pub mod Names
 pub mod private

@@ -2,3 +2,4 @@
 pub mod Firsts
 pub mod Settled
 pub mod Listed
+pub mod Spells

@@ -1,6 +1,7 @@
 //! The least that contradicts each read: by vector clocks both ways (Fidge, Mattern), for a block of 64 sessions at a time. For
-//! N transactions, S sessions and R reads that takes at most S (N + R) steps, and the writers of a key in a block once for each
-//! read of the key whose clock differs from that of its source; and two tables of 64 N numbers.
+//! N transactions, S sessions and R reads that takes at most S (N + R) steps, and for each block and each read whose clock differs
+//! from that of its source a look at the writers of its key in the block, one by one where they are few and else by halving for
+//! each session; and two tables of 64 N numbers.
 ghost use Rattle.std.specs.Prelude.{◌≡◌, IfOk, reverse};
 ghost use Rattle.tcc_reads.specs.History.{count};
 ghost use Rattle.tcc_graph.specs.Levels.{judged};

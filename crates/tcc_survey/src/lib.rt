@@ -4,13 +4,17 @@
 
 mod contradicted;
 mod finding;
+mod naming;
 mod reaching;
 mod reading;
 mod scanning;
 mod surveyed;
 mod surveying;
+mod usual_name;
 
 pub use contradicted::Contradicted;
+pub use naming::name_of;
 pub use reading::Reading;
 pub use surveyed::Surveyed;
 pub use surveying::survey;
+pub use usual_name::UsualName;

@@ -1,5 +1,5 @@
 //! Which of the writers in a block of sessions contradict a read: those that its source reaches and that reach its reader.
-ghost use Rattle.std.specs.Prelude.{◌≡◌, ◌<◌, ◌≤◌, ◌+◌, ◌↔◌, ℕ, length, All, IsTrue, OnOk};
+ghost use Rattle.std.specs.Prelude.{◌≡◌, ◌<◌, ◌≤◌, ◌+◌, ◌^◌, ◌↔◌, ℕ, length, slice_index, All, IsTrue, OnOk};
 ghost use Rattle.std.specs.List.Sorted.{IsNonDecreasing};
 ghost use Rattle.tcc_reads.specs.History.{IsBySession, count};
 ghost use Rattle.tcc_graph.specs.Keys.{key_at};
@@ -7,13 +7,16 @@ ghost use Rattle.tcc_graph.specs.Levels.{judged};
 ghost use Rattle.tcc_clocks.specs.Clocks.{AreOwners, AreClocks};
 ghost use Rattle.tcc_clocks.specs.declared.latest.TheConstants.{WIDE};
 ghost use Rattle.tcc_survey.specs.private.Firsts.{AreFirsts};
-ghost use Rattle.tcc_survey.specs.private.Settled.{IsLeastOf, IsAcyclic, IsWithin, IsKnown, IsHit, AreWritersIn, IsReading, IsLeastBefore, AreReads, AreSettled, AreSpansIn};
+ghost use Rattle.tcc_survey.specs.private.Settled.{IsLeastOf, IsAcyclic, IsWithin, IsKnown, IsHit, IsHitIn, AreWritersIn, IsReading, IsLeastBefore, AreReads, AreSettled, AreSpansIn};
 
 use crate::reading::Reading;
 use std::alloc::Global;
 use tcc_clocks::{SharedRows, WIDE, between, block_bounds, find_spans};
 use tcc_graph::{LargeGraph, Level};
 use tcc_txn::NoMemory;
+
+/// Up to so many writers of a key are looked at one by one.
+const FEW: usize = 32;
 
 /// Whether a transaction is of the block, and no earlier in its session than the one row says and no later than the other.
 fn is_within(owners: &[u32], from: u32, first: &[u32], clock: &[u32], b: u32) -> bool
@@ -42,8 +45,9 @@ fn is_known(level: Level, graph: &LargeGraph, b: u32, c: u32) -> bool
     }
 }
 
-/// The first of these writers, which rise, that lies between the rows and is known to `c`, or 0 where there is none.
-fn first_hit(
+/// The first of these writers, which rise, that lies between the rows and is known to `c`, or 0 where there is none: one by
+/// one.
+fn hit_of_few(
     level: Level,
     graph: &LargeGraph,
     owners: &[u32],
@@ -70,6 +74,116 @@ fn first_hit(
     0
 }
 
+/// How many of these, which rise, are less than `bound`.
+fn count_before(numbers: &[u32], bound: u32) -> usize
+    requires { IsNonDecreasing numbers.now }
+    ensures within { result ≤ length numbers.now }
+    ensures less { (k : ℕ) → k < result → slice_index numbers.now k < bound }
+{
+    numbers.partition_point(|number| *number < bound)
+}
+
+/// The first of these writers, which rise, that is of a session, from `low` up to `high`, and known to `c`, or 0.
+fn hit_in_session(
+    level: Level,
+    graph: &LargeGraph,
+    owners: &[u32],
+    session: u32,
+    low: u32,
+    high: u32,
+    writers: &[u32],
+    c: u32,
+) -> u32
+    requires owners { length owners.now ≡ count graph.now }
+    requires inside { All (λ b. b < count graph.now) writers.now }
+    requires rising { IsNonDecreasing writers.now }
+    requires reader { c < count graph.now }
+    ensures { IsLeastOf (IsHitIn (judged graph.now level) owners.now session low high writers.now c) result }
+{
+    if low > high {
+        return 0;
+    }
+    for index in count_before(writers, low)..writers.len() {
+        let b = writers[index];
+        if b > high {
+            return 0;
+        }
+        if b > 0 && b >= low && owners[b as usize] == session && is_known(level, graph, b, c) {
+            return b;
+        }
+    }
+    0
+}
+
+/// The first of these writers, which rise, that lies between the rows and is known to `c`, or 0: session by session.
+fn hit_of_many(
+    level: Level,
+    graph: &LargeGraph,
+    owners: &[u32],
+    from: u32,
+    first: &[u32],
+    clock: &[u32],
+    writers: &[u32],
+    c: u32,
+) -> u32
+    requires owners { AreOwners graph.now owners.now }
+    requires numbered { IsBySession graph.now.entries }
+    requires room { from + WIDE < 2 ^ 32 }
+    requires inside { All (λ b. b < count graph.now) writers.now }
+    requires rising { IsNonDecreasing writers.now }
+    requires first { length first.now ≡ WIDE }
+    requires clock { length clock.now ≡ WIDE }
+    requires reader { c < count graph.now }
+    ensures { IsLeastOf (IsHit (judged graph.now level) owners.now from first.now clock.now writers.now c) result }
+{
+    for lane in 0..WIDE {
+        let session = from + lane as u32;
+        let found = hit_in_session(
+            level,
+            graph,
+            owners,
+            session,
+            first[lane],
+            clock[lane],
+            writers,
+            c,
+        );
+        if found > 0 {
+            return found;
+        }
+    }
+    0
+}
+
+/// The first of these writers, which rise, that lies between the rows and is known to `c`, or 0: of many session by session, but
+/// where all are reached, as they are from `init`.
+fn first_hit(
+    level: Level,
+    graph: &LargeGraph,
+    owners: &[u32],
+    from: u32,
+    first: &[u32],
+    clock: &[u32],
+    writers: &[u32],
+    c: u32,
+    are_reached: bool,
+) -> u32
+    requires owners { AreOwners graph.now owners.now }
+    requires numbered { IsBySession graph.now.entries }
+    requires room { from + WIDE < 2 ^ 32 }
+    requires inside { All (λ b. b < count graph.now) writers.now }
+    requires rising { IsNonDecreasing writers.now }
+    requires first { length first.now ≡ WIDE }
+    requires clock { length clock.now ≡ WIDE }
+    requires reader { c < count graph.now }
+    ensures { IsLeastOf (IsHit (judged graph.now level) owners.now from first.now clock.now writers.now c) result }
+{
+    if are_reached || writers.len() <= FEW {
+        return hit_of_few(level, graph, owners, from, first, clock, writers, c);
+    }
+    hit_of_many(level, graph, owners, from, first, clock, writers, c)
+}
+
 /// The least number that contradicts a read, of those up to the block: the one of an earlier block, or else of these writers of
 /// its key.
 fn least_up_to(
@@ -84,6 +198,7 @@ fn least_up_to(
     known: u32,
 ) -> u32
     requires numbered { IsBySession graph.now.entries }
+    requires room { from + WIDE < 2 ^ 32 }
     requires acyclic { IsAcyclic graph.now }
     requires owners { AreOwners graph.now owners.now }
     requires firsts { AreFirsts graph.now from firsts.now }
@@ -98,6 +213,8 @@ fn least_up_to(
     }
     let first = firsts.get(reading.source);
     let clock = clocks.get(reading.reader);
+    let c = reading.reader;
+    let are_reached = reading.source == 0;
     first_hit(
         level,
         graph,
@@ -106,7 +223,8 @@ fn least_up_to(
         first,
         clock,
         writers,
-        reading.reader,
+        c,
+        are_reached,
     )
 }
 
@@ -123,6 +241,7 @@ fn settle_each(
     reads: &[Reading],
 )
     requires numbered { IsBySession graph.now.entries }
+    requires room { from + WIDE < 2 ^ 32 }
     requires acyclic { IsAcyclic graph.now }
     requires owners { AreOwners graph.now owners.now }
     requires spans { AreSpansIn graph.now from spans.now }
@@ -155,6 +274,7 @@ pub(crate) fn settle_block(
     reads: &[Reading],
 ) -> Result<(), NoMemory>
     requires numbered { IsBySession graph.now.entries }
+    requires room { from + WIDE < 2 ^ 32 }
     requires acyclic { IsAcyclic graph.now }
     requires owners { AreOwners graph.now owners.now }
     requires firsts { AreFirsts graph.now from firsts.now }

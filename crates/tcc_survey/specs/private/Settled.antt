@@ -35,6 +35,11 @@ IsKnown level.Atomic h b c = causal_pair h b c ≡ true
 abbrev pub IsHit : Judged → List ℕ → ℕ → List ℕ → List ℕ → List ℕ → ℕ → ℕ → Type 0
 IsHit j owners from first clock among c b = (0 < b) × Contains among b × IsWithin owners from first clock b × IsKnown j.level j.history b c
 
+-- b, one of these writers, is of the session, from `low` up to `high`, and known to c
+abbrev pub IsHitIn : Judged → List ℕ → ℕ → ℕ → ℕ → List ℕ → ℕ → ℕ → Type 0
+IsHitIn j owners session low high among c b =
+    (0 < b) × Contains among b × (slice_index owners b ≡ session) × (low ≤ b) × (b ≤ high) × IsKnown j.level j.history b c
+
 -- some writers of the key, and all that are of the block; they rise
 pub record AreWritersIn (h : History) (from : ℕ) (x : List ℕ) (among : List ℕ) : Type 0 where
   pub listed : (b : ℕ) → Contains among b → Contains (writers h x) b

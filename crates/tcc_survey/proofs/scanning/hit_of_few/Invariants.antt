@@ -1,7 +1,7 @@
 use Rattle.std.proofs.Common.{◌<◌, ℕ, slice_index}
 use Rattle.tcc_graph.specs.Levels.{judged}
 use Rattle.tcc_survey.specs.private.Settled.{IsHit}
-use Rattle.tcc_survey.proofs.scanning.first_hit.Given as goal
+use Rattle.tcc_survey.proofs.scanning.hit_of_few.Given as goal
 
 abbrev pub invariant-loop-writer : goal.invariant-loop-writer
 invariant-loop-writer l =

@@ -1,0 +1,201 @@
+-- The usual names of contradicted reads.
+use Rattle.std.proofs.Common.{◌≡◌, ◌≢◌, ◌<◌, ◌≤◌, ◌+◌, ◌-◌, ◌⊎◌, inl, inr, ℕ, true, false, List, [], length, get_or, sym, ap, ◌∙◌, subst, arith}
+use Rattle.std.specs.List.{All, Contains}
+use Rattle.std.proofs.lemmas.Bool.{cases_lt, cases_eq, false≢true}
+use Rattle.std.proofs.lemmas.List.{get_or_default}
+use Rattle.std.proofs.lemmas.List.Elements.{All-filter, All-contains, filter_passes}
+use Rattle.tcc_txn.proofs.Lists.{from_map, in_filter}
+use Rattle.tcc_reads.specs.History.{History, IsBySession, count, entry_at, owner}
+use Rattle.tcc_graph.specs.Relations.{causal_pair, IsSessionPair, IsReadsPair, reads_from}
+use Rattle.tcc_graph.specs.Keys.{has_name, readers, numbers}
+use Rattle.tcc_graph.proofs.NameLemmas.{has_name-contains, contains-has_name}
+use Rattle.tcc_graph.proofs.Pairs.{PairParts, pair_kinds, pair_from_reads, pair_parts}
+use Rattle.tcc_graph.proofs.WriterLemmas.{numbers_below, number_in}
+use Rattle.tcc_clocks.proofs.Reaching.{reads_source}
+use Rattle.tcc_survey.specs.declared.usual_name.UsualName.{UsualName}
+use Rattle.tcc_survey.specs.declared.usual_name.UsualName.TheVariants as name
+use Rattle.tcc_survey.specs.Names.{ReadsFrom, IsUpTo, Fits, rank, IsUsualName}
+use Rattle.tcc_survey.specs.private.Spells.{ReadsLater, ReadsAfter, IsStart}
+use Rattle.tcc_survey.proofs.FirstLemmas.{in_session}
+use Rattle.tcc_survey.proofs.ListLemmas.{listed_pair}
+
+-- ---- who reads a key
+pub readers_below : (h : History) (a : ℕ) (x : List ℕ) → All (λ c. c < count h) (readers h a x)
+readers_below h a x = All-filter (λ b. has_name (reads_from h a b) x) (λ c. c < count h) (numbers h) (numbers_below h)
+
+reader_reads : (h : History) (a : ℕ) (x : List ℕ) (c : ℕ) → a < count h → Contains (readers h a x) c → IsReadsPair h a c x
+reader_reads h a x c from there = (
+  from,
+  All-contains (λ d. d < count h) (readers h a x) c (readers_below h a x) there,
+  has_name-contains (reads_from h a c) x (All-contains (λ d. has_name (reads_from h a d) x ≡ true) (readers h a x) c
+      (filter_passes (λ d. has_name (reads_from h a d) x) (numbers h)) there),
+)
+
+reads_reader : (h : History) (a : ℕ) (x : List ℕ) (c : ℕ) → IsReadsPair h a c x → Contains (readers h a x) c
+reads_reader h a x c (from, to, there) =
+    in_filter (λ d. has_name (reads_from h a d) x) (numbers h) c (number_in h c to) (contains-has_name (reads_from h a c) x there)
+
+-- ---- whom a transaction reads from
+module _ (h : History) (c : ℕ) (below : c < count h) (P : ℕ → Type 0) where
+  pub found_read : (k : ℕ) → k < length (entry_at h c).reads → (get_or (entry_at h c).reads k ([], 0)).1 < count h
+      → P (get_or (entry_at h c).reads k ([], 0)).1 → (d : ℕ) × ReadsFrom h d c × P d
+  found_read k l from is =
+      let read : List ℕ × ℕ = get_or (entry_at h c).reads k ([], 0) in
+      let here = get_or_default (entry_at h c).reads k (get_or (entry_at h c).reads k ([], 0)) ([], 0) l in
+      (read.1, (read.0, listed_pair h read.1 c read.0 from below (k, l, here)), is)
+
+  pub no_read : ((k : ℕ) → k < length (entry_at h c).reads → P (get_or (entry_at h c).reads k ([], 0)).1 → ⊥) → (d : ℕ) × ReadsFrom h d c × P d → ⊥
+  no_read never (d, (y, pair), is) =
+      let w = from_map (λ (read : List ℕ × ℕ). read.1) (entry_at h c).reads d (reads_source h d c y pair.2) in
+      go w.0 w.1 w.2
+    where
+      go : (r : List ℕ × ℕ) → Contains (entry_at h c).reads r → r.1 ≡ d → ⊥
+      go r (k, l, e) same =
+          let here : ◌≡◌ {A = List ℕ × ℕ} (get_or (entry_at h c).reads k ([], 0)) r = get_or_default (entry_at h c).reads k ([], 0) r l ∙ e in
+          never k l (subst P (sym (ap (λ (p : List ℕ × ℕ). p.1) here ∙ same)) is)
+
+-- the same, of the reads as they are gone through
+module _ (h : History) (c : ℕ) (below : c < count h) (P : ℕ → Type 0) (items : List (List ℕ × ℕ)) (value : items ≡ (entry_at h c).reads) where
+  pub found_item : (k : ℕ) → k < length items → (r : List ℕ × ℕ) → ◌≡◌ {A = List ℕ × ℕ} r (get_or items k r) → r.1 < count h → P r.1
+      → (d : ℕ) × ReadsFrom h d c × P d
+  found_item k l r is from holds =
+      let there : Contains items r = (k, l, sym is) in
+      (r.1, (r.0, listed_pair h r.1 c r.0 from below (subst (λ (xs : List (List ℕ × ℕ)). Contains xs r) value there)), holds)
+
+  pub no_item : (n : ℕ) → length items ≤ n → ((k : ℕ) → k < n → P (get_or items k ([], 0)).1 → ⊥) → (d : ℕ) × ReadsFrom h d c × P d → ⊥
+  no_item n past never =
+      no_read h c below P
+      (subst (λ (xs : List (List ℕ × ℕ)). (k : ℕ) → k < length xs → P (get_or xs k ([], 0)).1 → ⊥) value (λ k l. never k (omega (arith, l, past))))
+
+  pub item_more : (n : ℕ) → n < length items → (r : List ℕ × ℕ) → ◌≡◌ {A = List ℕ × ℕ} r (get_or items n r)
+      → ((k : ℕ) → k < n → P (get_or items k ([], 0)).1 → ⊥) → (P r.1 → ⊥) → (k : ℕ) → k < n + 1 → P (get_or items k ([], 0)).1 → ⊥
+  item_more n inside r is before never k l holds = go (cases_eq k n)
+    where
+      here : ◌≡◌ {A = List ℕ × ℕ} (get_or items n ([], 0)) r
+      here = get_or_default items n ([], 0) r inside ∙ sym is
+
+      go : (k ≡ n) ⊎ (k ≢ n) → ⊥
+      go (inl same) = never (subst (λ (p : List ℕ × ℕ). P p.1) here (subst (λ (z : ℕ). P (get_or items z ([], 0)).1) same holds))
+      go (inr other) = before k (omega (arith, l, other)) holds
+
+-- ---- the session of a reader
+pub start_of : (h : History) → IsBySession h.entries → (c start : ℕ) → 0 < start → start ≤ c → c < count h
+    → ((e : ℕ) → start ≤ e → e ≤ c → IsUpTo h e c) → ((start ≡ 1) ⊎ (IsSessionPair h (start - 1) c → ⊥)) → IsStart h c start
+start_of h numbered c start some upto below inside outside e = (λ w. there w, λ w. inside e w.0 w.1)
+  where
+    high : IsUpTo h e c → e ≤ c
+    high (more, inl same) = omega (arith, same)
+    high (more, inr pair) = go (cases_lt c e)
+      where
+        parts : PairParts h e c
+        parts = pair_parts h e c pair
+
+        go : (c < e) ⊎ (e ≤ c) → e ≤ c
+        go (inl less) = absurd (omega (arith, parts.lower more, (numbered c e less parts.from).1 (sym (parts.same more))))
+        go (inr low) = low
+
+    low : IsUpTo h e c → (e < start) ⊎ (start ≤ e) → start ≤ e
+    low w (inr more) = more
+    low w (inl less) = absurd (by outside (w.1))
+      where
+        by : (start ≡ 1) ⊎ (IsSessionPair h (start - 1) c → ⊥) → (e ≡ c) ⊎ IsSessionPair h e c → ⊥
+        by (inl one) kind = omega (arith, less, one, w.0)
+        by (inr never) (inl same) = omega (arith, less, upto, same)
+        by (inr never) (inr pair) = never (in_session h numbered (start - 1) c (omega (arith, less, w.0)) (omega (arith, less, upto)) below same)
+          where
+            parts : PairParts h e c
+            parts = pair_parts h e c pair
+
+            rises : (e ≡ start - 1) ⊎ (e ≢ start - 1) → owner h e ≤ owner h (start - 1)
+            rises (inl at) = subst (λ (z : ℕ). owner h e ≤ owner h z) at (omega arith)
+            rises (inr other) = (numbered e (start - 1) (omega (arith, less, other)) (omega (arith, less, upto, below))).0
+
+            same : owner h (start - 1) ≡ owner h c
+            same =
+                omega (
+                  arith,
+                  rises (cases_eq e (start - 1)),
+                  (numbered (start - 1) c (omega (arith, less, upto)) below).0,
+                  parts.same w.0,
+                )
+
+    there : IsUpTo h e c → (start ≤ e) × (e ≤ c)
+    there w = (low w (cases_lt e start), high w)
+
+-- ---- the names
+module _ (h : History) (c : ℕ) (x : List ℕ) (b : ℕ) where
+  pub called_own : IsSessionPair h b c → IsUsualName h c x b name.ReadYourWrites
+  called_own fits = record { fits = fits; first = λ other less w. absurd (omega arith) }
+
+  module _ (no_own : IsSessionPair h b c → ⊥) where
+    pub called_fractured : causal_pair h b c ≡ true → IsUsualName h c x b name.FracturedRead
+    called_fractured pair = record { fits = go (pair_kinds h b c pair); first = first }
+      where
+        go : IsSessionPair h b c ⊎ ((y : List ℕ) × IsReadsPair h b c y) → ReadsFrom h b c
+        go (inl p) = absurd (no_own p)
+        go (inr w) = w
+
+        first : (other : UsualName) → rank other < 1 → Fits h c x b other → ⊥
+        first name.ReadYourWrites less w = no_own w
+        first name.FracturedRead less w = omega arith
+        first name.MonotonicReads less w = omega arith
+        first name.MonotonicWrites less w = omega arith
+        first name.WritesFollowReads less w = omega arith
+        first name.CausalChain less w = omega arith
+
+    module _ (below : b < count h) (no_pair : causal_pair h b c ≡ false) where
+      no_fractured : ReadsFrom h b c → ⊥
+      no_fractured (y, p) = false≢true (sym no_pair ∙ pair_from_reads h b c y p)
+
+      pub called_reads : (e : ℕ) × Contains (readers h b x) e × IsSessionPair h e c → IsUsualName h c x b name.MonotonicReads
+      called_reads (e, there, p) = record { fits = (e, reader_reads h b x e below there, p); first = first }
+        where
+          first : (other : UsualName) → rank other < 2 → Fits h c x b other → ⊥
+          first name.ReadYourWrites less w = no_own w
+          first name.FracturedRead less w = no_fractured w
+          first name.MonotonicReads less w = omega arith
+          first name.MonotonicWrites less w = omega arith
+          first name.WritesFollowReads less w = omega arith
+          first name.CausalChain less w = omega arith
+
+      module _ (no_reads : (e : ℕ) × Contains (readers h b x) e × IsSessionPair h e c → ⊥) where
+        not_reads : (e : ℕ) × IsReadsPair h b e x × IsSessionPair h e c → ⊥
+        not_reads (e, pair, p) = no_reads (e, reads_reader h b x e pair, p)
+
+        pub called_writes : (e : ℕ) × IsUpTo h e c × ReadsLater h b e → IsUsualName h c x b name.MonotonicWrites
+        called_writes (e, upto, (d, reads, p)) = record { fits = (e, d, upto, reads, p); first = first }
+          where
+            first : (other : UsualName) → rank other < 3 → Fits h c x b other → ⊥
+            first name.ReadYourWrites less w = no_own w
+            first name.FracturedRead less w = no_fractured w
+            first name.MonotonicReads less w = not_reads w
+            first name.MonotonicWrites less w = omega arith
+            first name.WritesFollowReads less w = omega arith
+            first name.CausalChain less w = omega arith
+
+        module _ (no_writes : (e : ℕ) × IsUpTo h e c × ReadsLater h b e → ⊥) where
+          not_writes : Fits h c x b name.MonotonicWrites → ⊥
+          not_writes (e, d, upto, reads, p) = no_writes (e, upto, (d, reads, p))
+
+          pub called_follow : (e : ℕ) × IsUpTo h e c × ReadsAfter h (readers h b x) e → IsUsualName h c x b name.WritesFollowReads
+          called_follow (e, upto, (d, reads, (f, there, way))) =
+              record { fits = (e, d, upto, reads, (f, reader_reads h b x f below there, way)); first = first }
+            where
+              first : (other : UsualName) → rank other < 4 → Fits h c x b other → ⊥
+              first name.ReadYourWrites less w = no_own w
+              first name.FracturedRead less w = no_fractured w
+              first name.MonotonicReads less w = not_reads w
+              first name.MonotonicWrites less w = not_writes w
+              first name.WritesFollowReads less w = omega arith
+              first name.CausalChain less w = omega arith
+
+          pub called_chain : ((e : ℕ) × IsUpTo h e c × ReadsAfter h (readers h b x) e → ⊥) → IsUsualName h c x b name.CausalChain
+          called_chain no_follow = record { fits = tt; first = first }
+            where
+              first : (other : UsualName) → rank other < 5 → Fits h c x b other → ⊥
+              first name.ReadYourWrites less w = no_own w
+              first name.FracturedRead less w = no_fractured w
+              first name.MonotonicReads less w = not_reads w
+              first name.MonotonicWrites less w = not_writes w
+              first name.WritesFollowReads less (e, d, upto, reads, (f, pair, way)) = no_follow (e, upto, (d, reads, (f, reads_reader h b x f pair, way)))
+              first name.CausalChain less w = omega arith
