@@ -12,3 +12,4 @@ pub mod SingleLemmas
 pub mod Ordered
 pub mod Linked
 pub mod Cycled
+pub mod Certified
