@@ -1,9 +1,9 @@
 //! Worked histories, with their first commit orders worked out by hand.
-use crate::tests::histories::{LONG_WALK, STALE_READ, graph_of};
+use crate::tests::histories::{LONG_WALK, MUTUAL, STALE_READ, TWO_WRITERS, graph_of};
 use std::alloc::Global;
 use std::process::Abort;
 use tcc_graph::Level;
-use tcc_order::order;
+use tcc_order::{Placement, order, order_of_pairs, place};
 
 /// The first commit order of these records at a level has to be this, or there has to be none.
 fn assert_order(
@@ -77,4 +77,51 @@ fn first_orders(rt: HostRuntime) {
         assert_order(&rt, alloc, records, Level::Causal, causal);
         assert_order(&rt, alloc, records, Level::Atomic, atomic);
     }
+}
+
+/// Where there is no order of these records at a level, these links have to be kept, and these transactions placed.
+fn assert_stuck(
+    rt: &impl Abort,
+    alloc: Global,
+    records: &str,
+    level: Level,
+    kept: &[&[u32]],
+    placed: u64,
+) {
+    let graph = graph_of(rt, alloc, records);
+    let Ok(Placement::Stuck(stuck)) = place(alloc, graph.large(), level) else {
+        panic!(rt; "there is an order of {records}");
+    };
+    assert!(rt; stuck.kept.len() == kept.len(), "of {records}");
+    for (row, wanted) in stuck.kept.iter().zip(kept.iter()) {
+        assert!(rt; row.as_slice() == *wanted, "of {records}");
+    }
+    assert!(rt; stuck.placed.as_slice() == [placed].as_slice(), "of {records}");
+}
+
+/// Two writers have to stand before one another, by a reader of both: each is kept of the other, and nothing but `init` is
+/// placed. A writer that has to stand before `init` leaves nothing to be placed at all. Where two read from one another no link
+/// is needed.
+#[test]
+fn what_is_left(rt: HostRuntime) {
+    let alloc = rt.alloc();
+    for level in [Level::Causal, Level::Atomic] {
+        assert_stuck(&rt, alloc, TWO_WRITERS, level, &[&[], &[2], &[1], &[]], 1);
+        assert_stuck(&rt, alloc, STALE_READ, level, &[&[1], &[], &[]], 0);
+        assert_stuck(&rt, alloc, MUTUAL, level, &[&[], &[], &[]], 1);
+    }
+}
+
+/// Pairs alone leave an order where links lead back, and none where two transactions read from one another.
+#[test]
+fn orders_of_pairs(rt: HostRuntime) {
+    let alloc = rt.alloc();
+    let graph = graph_of(&rt, alloc, STALE_READ);
+    let Ok(Some(order)) = order_of_pairs(alloc, graph.large()) else {
+        panic!(&rt; "pairs stand in a circle");
+    };
+    assert!(rt; order.as_slice() == [0, 1, 2].as_slice());
+    let graph = graph_of(&rt, alloc, MUTUAL);
+    let none = matches!(order_of_pairs(alloc, graph.large()), Ok(None));
+    assert!(rt; none);
 }
