@@ -4,6 +4,8 @@ use Rattle.tcc_reads.specs.History.{History, count}
 use Rattle.tcc_graph.specs.Levels.{Judged, judged}
 use Rattle.tcc_cert.specs.Tables.{IsFirstAt}
 use Rattle.tcc_cert.specs.Rules.{HoldsEverywhere}
+use Rattle.tcc_cert.specs.declared.large.LargeCertificate.{LargeCertificate}
+use Rattle.tcc_cert.specs.declared.large.LargeCertificate.TheVariants as certificate
 use Rattle.tcc_cert.specs.declared.large.RunsClaim.{RunsClaim}
 use Rattle.tcc_cert.specs.declared.large.LinksClaim.{LinksClaim}
 use Rattle.tcc_judge.specs.Cycles.{HasLinksSizes, IsRightCycle, IsCycleFault, BreaksRound, BreaksReturn}
@@ -89,3 +91,8 @@ cycle_rules h k =
     as_whole Sizes (HasLinksSizes h k)
     ∷ record { rule = Links; holds = IsRightCycle h k; broken = IsCycleFault h k }
     ∷ least_rules_of h k.cost k.least
+
+-- the rules for a claim about a history of any size, in turn
+abbrev pub rules_of : History → LargeCertificate → List Asked
+rules_of h (certificate.Order k) = order_rules h k
+rules_of h (certificate.Cycle k) = cycle_rules h k

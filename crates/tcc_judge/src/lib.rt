@@ -4,6 +4,7 @@
 
 mod behind;
 mod cycles;
+mod judging;
 pub mod laws;
 mod least;
 mod links;
@@ -16,6 +17,7 @@ mod turned;
 mod verdict;
 
 pub use cycles::judge_cycle;
+pub use judging::judge;
 pub use links::judge_links;
 pub use ordering::judge_order;
 pub use verdict::{Rule, Verdict};
