@@ -5,7 +5,8 @@
 
 Values of one key that hash alike, and names of keys and sessions that do, may take no more than some times the processor
 time of as many others, and have the same answers; long records, and many faults, no more than some times their bytes of
-memory. The values and names are made by `alike.c`, which needs a C compiler on the path (`cc` or `clang`); where there is
+memory; and histories that have many of what some loop goes through (`histories.py`) no more than ten times the processor
+time of an ordinary one of as many bytes. The values and names are made by `alike.c`, which needs a C compiler on the path (`cc` or `clang`); where there is
 none it says so and has failed. Each difference is one line; the last line is `N passed, M failed`.
 """
 import itertools
@@ -21,12 +22,15 @@ TOP = HERE.parent.parent
 sys.path.insert(0, str(TOP / "tests"))
 from arguments import status_on_tcc  # noqa: E402
 from compared import first_difference, shown  # noqa: E402
+from histories import hard, ordinary  # noqa: E402
 
 WRITERS, WRITES = 400, 250
 KEYS, SESSIONS = 1024, 64
 # So many times the processor time of other values, and so many seconds beside it, may those that hash alike take.
 TIMES, BESIDE = 3, 0.5
 MEGABYTE, LONG = 1 << 20, 16
+# So many times the processor time of an ordinary history, and so many seconds beside it, may a hard one take.
+TIMES_ORDINARY, BESIDE_ORDINARY = 10, 1.5
 # So much memory may there be beside what goes by the bytes of the records.
 SPARE = 24 << 20
 
@@ -114,10 +118,22 @@ def larger(tcc, words, records, status, begins, each):
     return "%d bytes of memory for %d bytes" % (most, size) if most > SPARE + each * size else None
 
 
+def harder(tcc, one):
+    """What is wrong with the answer for a hard history, or with its time beside that of an ordinary one; None if nothing is."""
+    _, _, usual, _ = run(tcc, one.words, [ordinary(len(one.records)).encode()])
+    got, said, took, _ = run(tcc, one.words, [one.records.encode()])
+    if got != 0 or not said.startswith(one.begins.encode()):
+        return "status %d, standard output %s" % (got, shown(said[:200]))
+    most = TIMES_ORDINARY * usual + BESIDE_ORDINARY
+    return "%.2f seconds, and %.2f for an ordinary one" % (took, usual) if took > most else None
+
+
 def outcomes(tcc):
     """Each test, with what is wrong, or None."""
     for name, *large in LARGE:
         yield name, larger(tcc, *large)
+    for one in hard():
+        yield one.name, harder(tcc, one)
     compiler = shutil.which("cc") or shutil.which("clang")
     if compiler is None:
         yield "alike", "no C compiler on the path"

@@ -1,0 +1,128 @@
+"""Histories that have many of what some loop of a decision goes through, each with its words, its records and how its answer
+begins. None of them may take more than some times the processor time of an ordinary history with as many bytes of records.
+
+A history is named by what there is much of. `N` and the like are counts; sessions, keys and values are made of them.
+"""
+from typing import Iterable, Iterator, List, NamedTuple, Tuple
+
+
+class Hard(NamedTuple):
+    """A history: what there is much of, the words of the run, its records, and how the answer begins."""
+
+    name: str
+    words: List[str]
+    records: str
+    begins: str
+
+
+Transactions = Iterable[Tuple[str, Iterable[str]]]
+READS_A_TRANSACTION = 256
+
+
+def records_of(transactions: Transactions) -> str:
+    """The records of transactions that commit, each a session and its operations."""
+    lines = []
+    for session, operations in transactions:
+        lines.append("%s,begin" % session)
+        lines.extend("%s,%s" % (session, one) for one in operations)
+        lines.append("%s,commit" % session)
+    return "\n".join(lines) + "\n"
+
+
+def read_all(session: str, keys: List[str]) -> Transactions:
+    """Transactions that read 1 at each of these keys, as many at a time as one may have."""
+    for first in range(0, len(keys), READS_A_TRANSACTION):
+        yield session, ["r,%s,1" % key for key in keys[first:first + READS_A_TRANSACTION]]
+
+
+def waiting(late: int, early: int) -> Transactions:
+    """Each of `late` writes of x has to stand behind each of `early` others: who read one of the first knew of all of these. So
+    each waits for many, and is looked at again as each of them is placed."""
+    for n in range(late):
+        yield "late%d" % n, ["w,x,%d" % (n + 1)]
+    for n in range(early):
+        yield "early%d" % n, ["w,x,%d" % (late + n + 1), "w,seen%d,1" % n]
+    yield from read_all("c", ["seen%d" % n for n in range(early)])
+    yield "c", ["w,go,1"]
+    for n in range(late):
+        yield "late%d" % n, ["r,go,1", "r,x,%d" % (n + 1)]
+
+
+def overwritten(writers: int, readers: int) -> Transactions:
+    """Session a writes x many times, and many others read its first value; z reads the second and then the first."""
+    for n in range(writers):
+        yield "a", ["w,x,%d" % (n + 1)]
+    for _ in range(readers):
+        yield "b", ["r,x,1"]
+    yield "z", ["r,x,2"]
+    yield "z", ["r,x,1"]
+
+
+def never_written(writers: int, readers: int) -> Transactions:
+    """Session a writes x many times, and many others read the initial value of x; z reads a value and then the initial one."""
+    for n in range(writers):
+        yield "a", ["w,x,%d" % (n + 1)]
+    for _ in range(readers):
+        yield "b", ["r,x,0"]
+    yield "z", ["r,x,2"]
+    yield "z", ["r,x,0"]
+
+
+def crossed(sources: int, readers: int) -> Transactions:
+    """Source n writes the keys from n on, and readers read key n from source n: each reader has many sources with many keys."""
+    for source in range(sources):
+        yield "s", ["w,k%d,%d" % (key, source + 1) for key in range(source, sources)]
+    for n in range(readers):
+        yield "r%d" % (n % 32), ["r,k%d,%d" % (key, key + 1) for key in range(sources)]
+
+
+def written_by_many(sessions: int, reads: int, keys: str = "abcdefgh") -> Transactions:
+    """Many sessions write each of a few keys three times, and c, who knows of all of them, reads older values of one session."""
+    for n in range(sessions):
+        for time in range(3):
+            yield "s%d" % n, ["w,%s,%d" % (key, 3 * n + time + 2) for key in keys]
+        yield "s%d" % n, ["w,seen%d,1" % n]
+    yield "t", ["w,%s,1" % key for key in keys]
+    yield from read_all("c", ["seen%d" % n for n in range(sessions)])
+    for _ in range(reads):
+        yield "c", ["r,%s,1" % key for key in keys]
+
+
+def gathered(sessions: int, writes: int) -> Transactions:
+    """Many sessions write x once each, c knows of all of them, and then reads one write of x by session a after the other."""
+    for n in range(sessions):
+        yield "b%d" % n, ["w,x,%d" % (n + 1), "w,seen%d,1" % n]
+    yield from read_all("c", ["seen%d" % n for n in range(sessions)])
+    for n in range(writes):
+        yield "a", ["w,x,%d" % (sessions + n + 1)]
+    for n in range(writes):
+        yield "c", ["r,x,%d" % (sessions + n + 1)]
+
+
+def ordinary(size: int) -> str:
+    """A history with so many bytes at least: 32 sessions, of whose transactions each writes a key and reads the last value of
+    another one."""
+    last = {}
+    written = 0
+    transactions = []
+    bytes_so_far = 0
+    while bytes_so_far < size:
+        session, key, other = "s%d" % (written % 32), "k%d" % (written * 7 % 500), "k%d" % (written * 11 % 500)
+        written += 1
+        operations = ["r,%s,%d" % (other, last.get(other, 0)), "w,%s,%d" % (key, written)]
+        last[key] = written
+        transactions.append((session, operations))
+        bytes_so_far += sum(len(one) + len(session) + 2 for one in operations) + 2 * len(session) + 15
+    return records_of(transactions)
+
+
+def hard() -> Iterator[Hard]:
+    """The histories, each consistent, at sizes of a second and less. At `atomic` who reads an old value by one pair alone isn't
+    contradicted by what it knows by two."""
+    large, atomic = ["explain", "--large"], ["explain", "--large", "--level", "atomic"]
+    yield Hard("waiting", large, records_of(waiting(1365, 2729)), "consistent: 5471 transactions, 4095 sessions\n")
+    yield Hard("overwritten", atomic, records_of(overwritten(30000, 30000)), "consistent: 60002 transactions, 3 sessions\n")
+    yield Hard("never written", atomic, records_of(never_written(30000, 30000)), "consistent: 60002 transactions, 3 sessions\n")
+    yield Hard("crossed", atomic, records_of(crossed(250, 400)), "consistent: 650 transactions, 33 sessions\n")
+    yield Hard("written by many", large, records_of(written_by_many(1000, 4000)), "consistent: 8005 transactions, 1002 sessions\n")
+    yield Hard("gathered", large, records_of(gathered(2000, 8000)), "consistent: 18008 transactions, 2002 sessions\n")
