@@ -96,7 +96,10 @@ fn assert_stuck(
     for (row, wanted) in stuck.kept.iter().zip(kept.iter()) {
         assert!(rt; row.as_slice() == *wanted, "of {records}");
     }
-    assert!(rt; stuck.placed.as_slice() == [placed].as_slice(), "of {records}");
+    assert!(rt;
+        stuck.placed.as_slice() == [placed].as_slice(),
+        "of {records}"
+    );
 }
 
 /// Two writers have to stand before one another, by a reader of both: each is kept of the other, and nothing but `init` is
