@@ -1,5 +1,5 @@
 -- The verdict on the whole text.
-use Rattle.std.proofs.Common.{◌≡◌, ◌↔◌, ℕ, Bool, true, false, List, [], ◌∷◌, ◌++◌, Option, None, Some, Result, Ok, Err, inl, length, refl, sym, ap, subst, ◌∙◌}
+use Rattle.std.proofs.Common.{◌≡◌, ◌↔◌, ℕ, Bool, true, false, List, [], ◌∷◌, ◌++◌, Option, None, Some, Result, Ok, Err, inl, refl, sym, ap, subst, ◌∙◌}
 use Rattle.std.specs.Prelude.{IsTrue, MatchOption, map}
 use Rattle.std.proofs.lemmas.Bool.{false≢true}
 use Rattle.tcc_reads.specs.History.{History}
@@ -14,6 +14,7 @@ use Rattle.tcc_cert.specs.declared.part.Part.{Part}
 use Rattle.tcc_cert.specs.declared.part.Part.TheVariants as part
 use Rattle.tcc_cert.proofs.CollectFacts.{ends-read}
 use Rattle.tcc_cert.proofs.PartFacts.{read-whole}
+use Rattle.tcc_check.specs.declared.judgement.Claim.{Claim}
 use Rattle.tcc_check.specs.declared.judgement.Claim.TheVariants as claim
 use Rattle.tcc_check.specs.declared.judgement.Judgement.{Judgement}
 use Rattle.tcc_check.specs.declared.stream_fault.StreamFault.{StreamFault}
@@ -22,7 +23,7 @@ use Rattle.tcc_check.specs.declared.verdict.Rule.TheVariants.{Sizes}
 use Rattle.tcc_check.specs.declared.verdict.Verdict.{Verdict}
 use Rattle.tcc_check.specs.private.Coming.{FailsAs, Finishes, sized}
 use Rattle.tcc_check.specs.private.Judged.{IsClaimJudged, IsCycleJudged, IsOrderJudged, claim_rules}
-use Rattle.tcc_check.specs.Streams.{IsJudged, IsStreamFault, claim_of}
+use Rattle.tcc_check.specs.Streams.{IsClaimed, IsJudged, IsStreamFault, claim_of}
 use Rattle.tcc_check.specs.Verdicts.{IsVerdict, as_whole, cycle_rules, order_rules}
 use Rattle.tcc_check.specs.private.Searches.{IsAnswer}
 use Rattle.tcc_check.proofs.Asked.{answer_later}
@@ -95,3 +96,27 @@ order-behind h bytes head rest o is = judged-behind h bytes (part.Order head) re
 pub cycle-behind : (h : History) (bytes : List ℕ) (head : CycleHead) (rest : Parts) (o : Result Judgement StreamFault)
     → parts_read bytes ≡ after_part (part.Cycle head) rest → Finishes rest (IsCycleJudged h head rest) o → IsJudged h bytes o
 cycle-behind h bytes head rest o is = judged-behind h bytes (part.Cycle head) rest (IsCycleJudged h head rest) o is (λ k. cycle-judged h k head rest)
+
+-- the claim of the first part is that of the certificate
+claimed-behind : (bytes : List ℕ) (given : Part) (rest : Parts) (said : Claim) (o : Result Claim StreamFault) → parts_read bytes ≡ after_part given rest
+    → ((c : Certificate) → given ∷ rest.parts ≡ parts_of c → said ≡ claim_of c) → Finishes rest (λ x. x ≡ said) o → IsClaimed bytes o
+claimed-behind bytes given rest said (Ok x) is on done =
+    let whole = read-whole bytes (ap (λ p. p.fault) is ∙ done.0) in
+    (whole.0, whole.1, done.1 ∙ on whole.0 (sym (ap (λ p. p.parts) is) ∙ whole.2))
+claimed-behind bytes given rest said (Err fault) is on fails = fault-behind bytes given rest fault is fails
+
+order-claimed : (c : Certificate) (head : OrderHead) (rest : Parts) → part.Order head ∷ rest.parts ≡ parts_of c → claim.Order ≡ claim_of c
+order-claimed (certificate.Order k) head rest is = refl
+order-claimed (certificate.Cycle k) head rest is = absurd cc
+
+cycle-claimed : (c : Certificate) (head : CycleHead) (rest : Parts) → part.Cycle head ∷ rest.parts ≡ parts_of c → claim.Cycle head.least ≡ claim_of c
+cycle-claimed (certificate.Order k) head rest is = absurd cc
+cycle-claimed (certificate.Cycle k) head rest is = let same : head ≡ cycle_head k = cc in ap (λ (o : CycleHead). claim.Cycle o.least) same
+
+pub order-told : (bytes : List ℕ) (head : OrderHead) (rest : Parts) (o : Result Claim StreamFault) → parts_read bytes ≡ after_part (part.Order head) rest
+    → Finishes rest (λ x. x ≡ claim.Order) o → IsClaimed bytes o
+order-told bytes head rest o is = claimed-behind bytes (part.Order head) rest claim.Order o is (λ c. order-claimed c head rest)
+
+pub cycle-told : (bytes : List ℕ) (head : CycleHead) (rest : Parts) (o : Result Claim StreamFault) → parts_read bytes ≡ after_part (part.Cycle head) rest
+    → Finishes rest (λ x. x ≡ claim.Cycle head.least) o → IsClaimed bytes o
+cycle-told bytes head rest o is = claimed-behind bytes (part.Cycle head) rest (claim.Cycle head.least) o is (λ c. cycle-claimed c head rest)

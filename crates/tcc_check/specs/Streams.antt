@@ -30,6 +30,11 @@ IsJudged h bytes (Ok judgement) =
     (c : Certificate) × (certificate_read bytes ≡ Ok c) × (judgement.claim ≡ claim_of c) × IsVerdict h c judgement.verdict
 IsJudged h bytes (Err fault) = IsStreamFault bytes fault
 
+-- the claim alone
+abbrev pub IsClaimed : List ℕ → Result Claim StreamFault → Type 0
+IsClaimed bytes (Ok said) = (c : Certificate) × (certificate_read bytes ≡ Ok c) × (said ≡ claim_of c)
+IsClaimed bytes (Err fault) = IsStreamFault bytes fault
+
 -- the verdict alone
 abbrev pub IsStreamed : History → List ℕ → Result Verdict StreamFault → Type 0
 IsStreamed h bytes (Ok verdict) = (c : Certificate) × (certificate_read bytes ≡ Ok c) × IsVerdict h c verdict

@@ -28,5 +28,5 @@ mod verdict;
 pub use judgement::{Claim, Judgement};
 pub use judging::check;
 pub use stream_fault::StreamFault;
-pub use streaming::{check_stream, judge_stream};
+pub use streaming::{check_stream, claim_in, judge_parts, judge_stream};
 pub use verdict::{Rule, Verdict};

@@ -2,7 +2,6 @@
 ghost use Rattle.std.specs.Prelude.{◌≡◌, ◌+◌, ◌<◌, ◌++◌, ◌↔◌, ℕ, All, IfOk, IsTrue, List, MatchOption, Some, get_or, length, map};
 ghost use Rattle.tcc_reads.specs.History.{History, count};
 ghost use Rattle.tcc_graph.specs.Levels.{Judged, judged};
-ghost use Rattle.tcc_graph.specs.Links.{link_from, link_to, link_cost};
 ghost use Rattle.tcc_graph.specs.declared.link.Link.{Link};
 ghost use Rattle.tcc_cert.specs.Ahead.{IsAhead};
 ghost use Rattle.tcc_cert.specs.CycleRules.{IsLinkBelow, IsLinkRight};
@@ -36,40 +35,11 @@ pub(crate) struct LinksSeen {
     left: Option<usize>,
 }
 
-/// Where a link begins.
-fn link_from(link: &Link) -> u32
-    ensures { result ≡ link_from link.now }
-{
-    match link {
-        Link::Session { from, .. } | Link::Reads { from, .. } | Link::Derived { from, .. } => *from,
-    }
-}
-
-/// Where a link ends.
-fn link_to(link: &Link) -> u32
-    ensures { result ≡ link_to link.now }
-{
-    match link {
-        Link::Session { to, .. } | Link::Reads { to, .. } | Link::Derived { to, .. } => *to,
-    }
-}
-
-/// The number of steps of a link.
-fn link_cost(link: &Link) -> usize
-    ensures { result ≡ link_cost link.now }
-{
-    match link {
-        Link::Session { .. } => 1,
-        Link::Reads { .. } => 1,
-        Link::Derived { walk, .. } => walk.as_slice().len() + 1,
-    }
-}
-
 /// Whether the link begins there and is one of the history.
 fn is_link_right(graph: &Graph, level: Level, at: u32, link: &Link) -> bool
     ensures { IsTrue result ↔ IsLinkRight (judged graph.now level) at link.now }
 {
-    link_from(link) == at && graph.is_link(level, link)
+    link.from() == at && graph.is_link(level, link)
 }
 
 /// Where the first link begins and the last ends; where there is none yet, a link that comes is to begin where it does.
@@ -119,12 +89,12 @@ fn with_link(seen: LinksSeen, graph: &Graph, level: Level, number: usize, link: 
         → AreSeenTo (judged graph.now level) least links i seen
         → AreSeenTo (judged graph.now level) least links (i + 1) result }
 {
-    let (begin, at) = ends_or(seen.ends, link_from(link));
+    let (begin, at) = ends_or(seen.ends, link.from());
     let is_right = is_link_right(graph, level, at, link);
     LinksSeen {
-        ends: Some((begin, link_to(link))),
+        ends: Some((begin, link.to())),
         wrong: first_wrong(seen.wrong, is_right, number),
-        left: left_behind(seen.left, link_cost(link)),
+        left: left_behind(seen.left, link.cost()),
     }
 }
 

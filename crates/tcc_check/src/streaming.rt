@@ -7,7 +7,7 @@ ghost use Rattle.tcc_cert.specs.declared.part.Part.TheVariants as part;
 ghost use Rattle.tcc_graph.specs.declared.link.Link.{Link};
 ghost use Rattle.tcc_check.specs.private.Coming.{Finishes, Leaves, sized};
 ghost use Rattle.tcc_check.specs.private.Judged.{IsClaimJudged, IsCycleJudged, IsOrderJudged};
-ghost use Rattle.tcc_check.specs.Streams.{IsJudged, IsStreamed};
+ghost use Rattle.tcc_check.specs.Streams.{IsClaimed, IsJudged, IsStreamed};
 
 use crate::coming::{clock_rows, ends, next_part};
 use crate::far_rows::judge_far;
@@ -99,8 +99,8 @@ fn judge_order<R: Read>(
     Ok(Judgement { claim, verdict })
 }
 
-/// Judges what is still to come of a new reader.
-fn judge_parts<R: Read>(
+/// Judges the certificate whose parts a new reader gives, as `judge_stream` does that of a text.
+pub fn judge_parts<R: Read>(
     alloc: Global,
     graph: &Graph,
     parts: &mut CertReader<R>,
@@ -111,6 +111,33 @@ fn judge_parts<R: Read>(
     match next_part(alloc, parts)? {
         Part::Order(head) => judge_order(alloc, graph, parts, head),
         Part::Cycle(head) => judge_cycle(alloc, graph, parts, head),
+        Part::Link(_) | Part::Clocks(_) | Part::Near(_) | Part::Far(_) | Part::End => {
+            unreachable!()
+        }
+    }
+}
+
+/// Reads on to the end behind a claim.
+fn ended<R: Read>(
+    alloc: Global,
+    parts: &mut CertReader<R>,
+    claim: Claim,
+) -> Result<Claim, StreamFault>
+    ensures { (ahead : Parts) → IsAhead R.remaining parts.old ahead → Finishes ahead (λ said. said ≡ claim) result }
+{
+    ends(alloc, parts)?;
+    Ok(claim)
+}
+
+/// What the certificate claims whose parts a new reader gives, or the fault of the text, which is read to its end. Nothing is
+/// judged: it is for those who know that the claim is not about their history.
+pub fn claim_in<R: Read>(alloc: Global, parts: &mut CertReader<R>) -> Result<Claim, StreamFault>
+    requires { is_new parts.old ≡ true }
+    ensures { (bytes : List ℕ) → IsAhead R.remaining parts.old (parts_read bytes) → IsClaimed bytes result }
+{
+    match next_part(alloc, parts)? {
+        Part::Order(_head) => ended(alloc, parts, Claim::Order),
+        Part::Cycle(head) => ended(alloc, parts, Claim::Cycle { least: head.least }),
         Part::Link(_) | Part::Clocks(_) | Part::Near(_) | Part::Far(_) | Part::End => {
             unreachable!()
         }

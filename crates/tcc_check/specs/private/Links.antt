@@ -1,5 +1,5 @@
 -- What is asked of the links of a cycle, one after the other.
-use Rattle.std.specs.Prelude.{ℕ, Bool, true, false, ◌<◌, ◌≤◌, ◌+◌, ◌-◌, ◌≡◌, nat_lt, if◌then◌else◌, List, [], ◌∷◌, ◌++◌, length, take, Option, None, Some}
+use Rattle.std.specs.Prelude.{ℕ, Bool, true, false, ◌<◌, ◌≤◌, ◌+◌, ◌-◌, ◌≡◌, nat_lt, if◌then◌else◌, List, [], ◌∷◌, take, Option, None, Some}
 use Rattle.std.specs.Prelude.{MatchOption}
 use Rattle.tcc_reads.specs.History.{History}
 use Rattle.tcc_graph.specs.Levels.{Judged}

@@ -13,6 +13,6 @@ returns c least i links number inside is so_far =
     let j : Judged = judged c.args.graph.now c.args.level in
     let l = c.args.link.now in
     let shows : IsTrue c.is_link_right-is_right.result ↔ IsLinkRight j (ends_or c.args.seen.ends (link_from l)).1 l =
-    rw (c.ends_or-begin.ensures, c.link_from.ensures) at c.is_link_right-is_right.ensures in
-    rw (c.first_wrong.ensures, c.left_behind.ensures, c.link_to.ensures, c.link_cost.ensures, c.ends_or-begin.ensures, c.link_from.ensures, number)
+    rw (c.ends_or-begin.ensures, c.from.ensures) at c.is_link_right-is_right.ensures in
+    rw (c.first_wrong.ensures, c.left_behind.ensures, c.to.ensures, c.cost.ensures, c.ends_or-begin.ensures, c.from.ensures, number)
     (seen_next j links i l inside is least c.args.seen c.is_link_right-is_right.result so_far shows)

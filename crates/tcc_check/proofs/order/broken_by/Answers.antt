@@ -1,5 +1,5 @@
 -- By the gaps and the weights of a row.
-use Rattle.std.proofs.Common.{◌≡◌, length, rules, ap, arith, ◌∙◌}
+use Rattle.std.proofs.Common.{◌≡◌, length, rules, ap, ◌∙◌}
 use Rattle.tcc_check.proofs.Ordered.{axiom_asked}
 use Rattle.tcc_check.proofs.order.broken_by.Goals as goal
 

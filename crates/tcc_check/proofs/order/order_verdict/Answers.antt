@@ -1,4 +1,4 @@
-use Rattle.std.proofs.Common.{inl, inr, refl, rules, arith}
+use Rattle.std.proofs.Common.{inl, inr, refl, arith}
 use Rattle.tcc_check.specs.private.Positions.{ArePositions}
 use Rattle.tcc_check.proofs.Ordered.{sessions_kept, axiom_kept, positions_apart}
 use Rattle.tcc_check.proofs.order.order_verdict.Goals as goal
