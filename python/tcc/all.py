@@ -1,9 +1,9 @@
 """Lists the anomalies of a history, each with its usual name and the read at which it shows.
 
-First come all contradicted reads: those that one other write contradicts, of which the reader knew. `tcc survey` lists them
-where the program has it, and else this script does, with vector clocks. They are struck from the records, and then `tcc explain`
-is asked again and again for an anomaly of what is left: the reads that its derived links contradict are struck together (of
-a cycle without one, all reads of it), until what is left is consistent, or so many were found as --most says. So no two of these
+First `tcc survey` lists all contradicted reads: those that one other write contradicts, of which the reader knew. (Where a circle of
+reads keeps it from that, this script lists them, with vector clocks.) They are struck from the records, and then `tcc explain` is
+asked again and again for an anomaly of what is left: the reads that its derived links contradict are struck together (of a cycle
+without one, all reads of it), until what is left is consistent, or so many were found as --most says. So no two of these
 anomalies have such a read in common. A struck read only takes rules away: what is found later is an anomaly of the whole
 history too. What struck reads alone would have shown stays unseen; see docs/RECORDING.md.
 
@@ -35,7 +35,7 @@ from dataclasses import dataclass, field
 from typing import Counter as Count, Dict, Iterable, Iterator, List, NamedTuple, Set, TextIO, Tuple
 
 from tcc.answers import Link, cycle_of, usual_name
-from tcc.contradicted import Contradicted, surveyed
+from tcc.contradicted import Contradicted, Fault, Survey, surveyed
 from tcc.notes import NoNotes, Note, read_notes
 from tcc.program import NoAnswer, Program
 from tcc.progress import INTERRUPTED, Doing
@@ -124,16 +124,11 @@ def strike(records: Records, read: Link) -> Struck:
     return Struck(read.target, read.source, read.key, value, rows)
 
 
-def faulty_rows(records: Records, faults: List[Json]) -> Set[int]:
+def faulty_rows(records: Records, faults: List[Fault]) -> Set[int]:
     """The rows of the reads at fault; of a value that was written twice, of its later writes and all its reads."""
-    rows, twice = set(), set()
-    for fault in faults:
-        one = records.left("%s/%d" % (fault["session"], fault["place"]))[fault["op"] - 1]
-        rows.add(one.row)
-        if fault["kind"] == "Duplicate":
-            twice.add((one.key, one.value))
-    return rows | {one.row for every in records.transactions.values() for one in every.operations
-                   if one.does == "r" and (one.key, one.value) in twice}
+    twice = {(fault.operation.key, fault.operation.value) for fault in faults if fault.kind == "Duplicate"}
+    return {fault.operation.row for fault in faults} | {
+        one.row for every in records.transactions.values() for one in every.operations if one.does == "r" and (one.key, one.value) in twice}
 
 
 def together(found: Iterable[Contradicted]) -> List[List[Contradicted]]:
@@ -158,7 +153,6 @@ class Search:
     found: int = 0
     struck: int = 0
     last: str = ""
-    is_surveyed: bool = False
 
     def named(self, label: str) -> str:
         """A label as the whole history has it."""
@@ -170,37 +164,38 @@ class Search:
             self.named(one.reader), one.key, one.value, self.named(one.source), "s" if len(one.rows) > 1 else "",
             ", ".join(map(str, one.rows)), " (%s)" % note if note else "")
 
-    def settled(self) -> Json:
-        """The answer for what is left, once reads at fault are struck where that is asked for."""
+    def answer(self) -> Json:
+        """The answer for what is left."""
         self.doing.now("asks for an answer behind %d anomalies" % self.found)
         answer = self.tcc.answer(self.records.text())
-        while answer["answer"] == "unresolved" and self.strikes_faults:
-            self.records.struck |= faulty_rows(self.records, answer["faults"])
-            answer = self.tcc.answer(self.records.text())
         self.last = answer["answer"]
         return answer
 
+    def surveyed(self) -> Survey:
+        """The contradicted reads of what is left, and what of it can't be judged."""
+        return surveyed(self.tcc, self.records.history(), self.records.text, self.doing.now)
+
     def lines(self, most: int) -> Iterator[str]:
-        """A line for each anomaly, up to so many, and then what is left."""
-        answer = self.settled()
-        if self.records.struck:
+        """A line for each contradicted read, up to so many, then for each anomaly of what is left, and in the end for that."""
+        found = self.surveyed()
+        if found.faults and self.strikes_faults:
+            self.records.struck |= faulty_rows(self.records, found.faults)
             yield "left out: %d operations at fault" % len(self.records.struck)
-        while answer["answer"] != "consistent" and not (self.is_surveyed and self.found >= most):
-            if not self.is_surveyed:
-                yield from self.contradicted(most)
-            elif answer["answer"] == "anomaly":
-                yield self.anomaly(answer)
-            else:
-                break
-            answer = self.settled()
+            found = self.surveyed()
+        yield from self.contradicted(found, most)
+        answer = self.answer()
+        while answer["answer"] == "anomaly" and self.found < most:
+            cycle = cycle_of(answer)
+            yield self.anomaly(answer, cycle)
+            if usual_name(cycle) == "circular reads":  # what was behind the circle wasn't looked at
+                yield from self.contradicted(self.surveyed(), most)
+            answer = self.answer()
         yield from self.end(answer)
 
-    def contradicted(self, most: int) -> Iterator[str]:
+    def contradicted(self, found: Survey, most: int) -> Iterator[str]:
         """A line for each contradicted read, up to so many; all are struck."""
-        groups = together(surveyed(self.tcc, self.records.history(), self.records.text, self.doing.now))
-        self.is_surveyed = True
         more = 0
-        for group in groups:
+        for group in together(found.contradicted):
             one, rows = group[0], [each.operation.row for each in group]
             self.records.struck.update(rows)
             self.struck += len(rows)
@@ -214,13 +209,10 @@ class Search:
         if more:
             yield "and %d contradicted reads more; --most N shows N" % more
 
-    def anomaly(self, answer: Json) -> str:
+    def anomaly(self, answer: Json, cycle: List[Link]) -> str:
         """The line of an anomaly, all whose reads are struck."""
-        cycle = cycle_of(answer)
         reads = sorted((strike(self.records, read) for read in reads_of(cycle)), key=lambda one: one.rows)
         name = usual_name(cycle)
-        if name == "circular reads":
-            self.is_surveyed = False  # what was behind a circle wasn't looked at
         self.found += 1
         self.struck += sum(len(one.rows) for one in reads)
         self.names[name or "no usual name"] += 1

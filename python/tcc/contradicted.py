@@ -2,14 +2,14 @@
 
 A read of a key by C from A is contradicted where C knew of another write of the key, by B, and A is the initial state or B knew of
 A: then A can't be the last one before C. Each is an anomaly by itself; a history without any can have one of several derived links.
-A read that can't be traced to a write is left out, and of a value that was written twice each later write and all reads: that
-takes rules away, and adds none.
+A read that can't be traced to a write is left out, and so is each of a value that was written twice: that takes rules away, and
+adds none.
 
 The transactions are sorted by their pairs (Kahn), else by rows. Of the writes of the key that stand between A and C in that order
 each is looked at: whether C knew of it, and it of A, by a search back where few transactions stand between, and else by the clocks of
 their sessions, 64 at a time, along the order. N transactions, S sessions: N*S/64 rows at most.
 """
-import re
+import json
 import subprocess
 from bisect import bisect_right
 from collections import deque
@@ -18,15 +18,13 @@ from heapq import heapify, heappop, heappush
 from typing import Callable, Dict, Iterator, List, NamedTuple, Optional, Set, Tuple
 
 from tcc.answers import Link
-from tcc.program import Program
+from tcc.program import Program, no_answer
 from tcc.rows import History, Operation, Transaction
 
 BLOCK = 64
 SEARCHED = 2  # times the transactions: so many may be searched through before clocks are worked out
 INIT = -1
-# A line of `tcc survey`, and its last one.
-CONTRADICTED = re.compile(r"contradicted (\S+) op ([1-9][0-9]*) (\S+) ([0-9]+): knew of (\S+), ([a-z ]+), row [1-9][0-9]*")
-TOTAL = re.compile(r"([0-9]+) contradicted reads of ([0-9]+), [0-9]+ faults")
+SURVEYED = (0, 1, 2)  # how `tcc survey` ends where it has judged: with nothing found, something, or reads at fault alone
 
 
 class Read(NamedTuple):
@@ -48,7 +46,7 @@ class Contradicted:
 
 
 class Fault(NamedTuple):
-    """An operation that can't be judged."""
+    """An operation that can't be judged, and who wrote the value first, where that was looked for."""
 
     kind: str
     label: str
@@ -92,10 +90,9 @@ class Graph:
         for number, one in enumerate(self.transactions):
             last = {key: value for _, _, does, key, value in one.operations if does == "w"}
             for pair in last.items():
-                if pair not in twice or first[pair] is one:
-                    self.writers.setdefault(pair[0], []).append(number)
-                    if pair not in twice:
-                        visible[pair] = number
+                self.writers.setdefault(pair[0], []).append(number)
+                if pair not in twice:
+                    visible[pair] = number
         for number, one in enumerate(self.transactions):
             own: Dict[str, str] = {}
             reads: List[Read] = []
@@ -112,17 +109,17 @@ class Graph:
                     source = visible.get((key, value), number)
                     if source != number:
                         reads.append(Read(each, source))
-                    elif (key, value) not in twice:
+                    else:
                         self._untraced(one, each, first.get((key, value)))
             self.reads.append(reads)
 
     def _untraced(self, one: Transaction, each: Operation, writer: Optional[Transaction]) -> None:
-        """Notes why a read can't be traced."""
+        """Notes why a read can't be traced to the first write of its value, unless that was only written twice."""
         if writer is None:
             self.faults.append(Fault("ThinAir", one.label, each, ""))
-            return
-        kind = "Aborted" if not writer.committed else "Future" if writer is one else "Intermediate"
-        self.faults.append(Fault(kind, one.label, each, writer.label))
+        elif not writer.committed or writer is one or is_overwritten(writer, each):
+            kind = "Aborted" if not writer.committed else "Future" if writer is one else "Intermediate"
+            self.faults.append(Fault(kind, one.label, each, writer.label))
 
     def before(self, number: int) -> Optional[int]:
         """The one before it in its session."""
@@ -181,6 +178,12 @@ class Graph:
                 row[lane] = number
             rows[number] = row
         return rows
+
+
+def is_overwritten(writer: Transaction, read: Operation) -> bool:
+    """Whether a transaction wrote over what was read of it."""
+    values = [one.value for one in writer.operations if (one.does, one.key) == ("w", read.key)]
+    return values.index(read.value) < len(values) - 1
 
 
 class _Candidate(NamedTuple):
@@ -276,16 +279,14 @@ def _behind_by_clocks(graph: Graph, order: List[int], found: List[_Candidate]) -
     return [_Candidate(each.reader, each.read, writers) for each, writers in zip(found, kept) if writers]
 
 
-def _atomic(graph: Graph, order: List[int]) -> Iterator[_Candidate]:
-    """The contradicted reads where a transaction knows of its session and of those that it reads from, and of nothing else."""
+def _known_at_once(graph: Graph, found: List[_Candidate]) -> List[_Candidate]:
+    """The same where a reader knows of its session and of those that it reads from, and of nothing else."""
     def knows(one: int, other: int) -> bool:
         return graph.sessions[other] == graph.sessions[one] and other < one or any(
             read.source == other for read in graph.reads[one])
 
-    for reader, read, writers in _between(graph, order, _positions(graph, order)):
-        known = [one for one in writers if knows(reader, one) and (read.source == INIT or knows(one, read.source))]
-        if known:
-            yield _Candidate(reader, read, known)
+    told = (_Candidate(each.reader, each.read, [one for one in each.writers if knows(each.reader, one)]) for each in found)
+    return [each for each in told if each.writers]
 
 
 class Survey(NamedTuple):
@@ -306,11 +307,10 @@ def survey(history: History, level: str, doing: Callable[[str], None]) -> Tuple[
     placed = set(order)
     circular = [one.label for number, one in enumerate(graph.transactions) if number not in placed]
     doing("looks for contradicted reads")
-    if level == "atomic":
-        found = list(_atomic(graph, order))
-    else:
-        position = _positions(graph, order)
-        found = _behind(graph, order, position, _known(graph, order, position, list(_between(graph, order, position))))
+    position = _positions(graph, order)
+    between = list(_between(graph, order, position))
+    known = _known_at_once(graph, between) if level == "atomic" else _known(graph, order, position, between)
+    found = _behind(graph, order, position, known)
     found.sort(key=lambda one: (one.reader, one.read.operation.row))
     names = Names(graph, found)
     told = [Contradicted(graph.transactions[one.reader].label, one.read.operation,
@@ -405,30 +405,32 @@ def cycle_of_read(graph: Graph, one: Contradicted) -> Optional[List[Link]]:
     return [*onward, Link("derived", one.writer, one.source, one.operation.key, one.reader, tuple(knew))]
 
 
-def surveyed(tcc: Program, history: History, records: Callable[[], bytes], doing: Callable[[str], None]) -> List[Contradicted]:
-    """The contradicted reads of a history, whose records these are, by the program where it has a survey."""
+def surveyed(tcc: Program, history: History, records: Callable[[], bytes], doing: Callable[[str], None]) -> Survey:
+    """A survey of a history, whose records these are, by the program where it has one and no pairs are on a circle."""
     if tcc.has_survey():
         doing("runs tcc survey")
         ended = subprocess.run(tcc.survey("-"), input=records(), capture_output=True, check=False)
+        if ended.returncode not in SURVEYED:
+            raise no_answer(ended)
         found = told_by_program(ended.stdout.decode(errors="replace"), history)
         if found is not None:
-            return found.contradicted
-    return survey(history, tcc.level, doing)[0].contradicted
+            return found
+    return survey(history, tcc.level, doing)[0]
 
 
 def told_by_program(text: str, history: History) -> Optional[Survey]:
-    """What `tcc survey` printed of a history; none where that isn't a whole list, as of pairs on a circle."""
-    lines = text.splitlines()
-    total = TOTAL.fullmatch(lines[-1]) if lines else None
-    if total is None:
+    """What `tcc survey --json` printed of a history; none where that isn't a whole list, as of pairs on a circle."""
+    *lines, last = [json.loads(line) for line in text.splitlines()] or [{}]
+    if last.get("answer") != "survey":
         return None
-    told = [found for found in map(CONTRADICTED.fullmatch, lines) if found]
-    operations = [history.find(found.group(1)).operations[int(found.group(2)) - 1] for found in told]
-    if len(told) != int(total.group(1)) or any(
-            (one.does, one.key, one.value) != ("r", found.group(3), found.group(4)) for one, found in zip(operations, told)):
-        return None
+    told = [one for one in lines if "contradicted" in one]
+    operations = [history.find(one["contradicted"]).operations[one["op"] - 1] for one in told]
     writes = history.writes_of({(one.key, one.value) for one in operations})
     sources = ["init" if one.value == "0" else writes[one.key, one.value][0][0] for one in operations]
-    contradicted = [Contradicted(found.group(1), one, source, found.group(5), found.group(6))
-                    for found, one, source in zip(told, operations, sources)]
-    return Survey(contradicted, [], int(total.group(2)), [])
+    contradicted = [Contradicted(one["contradicted"], operation, source, one["writer"], one["name"])
+                    for one, operation, source in zip(told, operations, sources)]
+    faults = []
+    for one in (one["fault"] for one in lines if "fault" in one):
+        label = "%s/%d" % (one["session"], one["place"])
+        faults.append(Fault(one["kind"], label, history.find(label).operations[one["op"] - 1], ""))
+    return Survey(contradicted, faults, last["reads"], [])

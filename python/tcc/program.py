@@ -38,7 +38,7 @@ class Program:
 
     def survey(self, *more: str) -> List[str]:
         """The words of `tcc survey`."""
-        return [self.path, "survey", "--level", self.level, *(["--large"] if self.is_large else []), *more]
+        return [self.path, "survey", "--level", self.level, *(["--large"] if self.is_large else []), "--json", *more]
 
     def answer(self, records: bytes) -> Json:
         """The last answer for these records."""
@@ -54,6 +54,11 @@ def last_answer(ended: "subprocess.CompletedProcess[bytes]") -> Json:
     except ValueError:
         told = {}
     if told.get("answer") not in ANSWERS:
-        why = (ended.stdout + ended.stderr).decode(errors="replace").strip()
-        raise NoAnswer(ended.returncode if ended.returncode > 0 else 1, "tcc ended with %d: %s" % (ended.returncode, why))
+        raise no_answer(ended)
     return told
+
+
+def no_answer(ended: "subprocess.CompletedProcess[bytes]") -> NoAnswer:
+    """Why a run gave no answer, by what it printed."""
+    why = (ended.stdout + ended.stderr).decode(errors="replace").strip()
+    return NoAnswer(ended.returncode if ended.returncode > 0 else 1, "tcc ended with %d: %s" % (ended.returncode, why))

@@ -205,7 +205,7 @@ def list_contradicted(told: Findings, work: Work) -> None:
     """Lists every contradicted read, by `tcc survey` where the program has it, and else by clocks of this script."""
     found = None
     if told.tcc.has_survey():
-        found = told_by_program(work.run(told.tcc.survey("records.csv"), "survey.txt").stdout.decode(errors="replace"), told.history)
+        found = told_by_program(work.run(told.tcc.survey("records.csv"), "survey.json").stdout.decode(errors="replace"), told.history)
     begun = time.monotonic()
     if found is not None:
         told.found, told.graph, told.is_proved = found, Graph(told.history), True

@@ -116,23 +116,25 @@ def random_records(seed: int) -> str:
 
 
 def contradicted_by_definition(history, level: str) -> List[Tuple[str, int, str, str]]:
-    """The reads by C from A, each with its row, that a write by B contradicts: C is reached from B, and B from A, or A is `init`."""
+    """The reads by C from A, each with its row, that a write by B contradicts: C is reached from B, at `atomic` by one pair, and B
+    from A, or A is `init`."""
     from tcc.contradicted import Graph
     graph = Graph(history)
     count = len(graph.transactions)
-    edge = [[one != other and graph.sessions[one] == graph.sessions[other] and one < other
+    pair = [[one != other and graph.sessions[one] == graph.sessions[other] and one < other
              or any(read.source == one for read in graph.reads[other]) for other in range(count)] for one in range(count)]
-    if level == "causal":
-        for middle in range(count):
-            for one in range(count):
-                for other in range(count):
-                    edge[one][other] = edge[one][other] or edge[one][middle] and edge[middle][other]
+    reached = [list(row) for row in pair]
+    for middle in range(count):
+        for one in range(count):
+            for other in range(count):
+                reached[one][other] = reached[one][other] or reached[one][middle] and reached[middle][other]
+    known = reached if level == "causal" else pair
     label = [one.label for one in graph.transactions]
     found = []
     for reader in range(count):
         for read in graph.reads[reader]:
-            by = [one for one in graph.writers.get(read.operation.key, []) if one not in (reader, read.source) and edge[one][reader]
-                  and (read.source < 0 or edge[read.source][one])]
+            by = [one for one in graph.writers.get(read.operation.key, []) if one not in (reader, read.source) and known[one][reader]
+                  and (read.source < 0 or reached[read.source][one])]
             if by:
                 found.append((label[reader], read.operation.row, "init" if read.source < 0 else label[read.source], label[min(by)]))
     return found
@@ -189,15 +191,12 @@ def interruptions(tcc: List[str]) -> Iterator[Outcome]:
     yield "picture.py interrupted", interrupted(script("picture.py"), b"{", b"picture.py: interrupted", 1.0)
     with tempfile.TemporaryDirectory() as folder:
         slow, records = pathlib.Path(folder, "tcc"), pathlib.Path(folder, "records.csv")
-        slow.write_text("#!/bin/sh\ntest \"$1\" = survey && exit 64\ntest -e %s/once && sleep 20\ntouch %s/once\nexec %s \"$@\"\n" % (
-            folder, folder, os.path.abspath(tcc[-1])))
+        slow.write_text("#!/bin/sh\ntest \"$1\" = explain && sleep 20\nexec %s \"$@\"\n" % os.path.abspath(tcc[-1]))
         slow.chmod(0o755)
         records.write_text((TOP / "examples/stale-read.csv").read_text())
         page = os.path.join(folder, "page.html")
-        pathlib.Path(folder, "once").touch()
         said = interrupted(script("report.py", "--tcc", str(slow), "-o", page, str(records)), b"", b"no page was written", 2.5)
         yield "report.py interrupted", said or ("there is a page" if os.path.exists(page) else None)
-        pathlib.Path(folder, "once").unlink()
         yield "all.py interrupted", interrupted(script("all.py", "--tcc", str(slow), str(records)), b"",
                                                 b"interrupted behind 1 anomalies\nread your writes: 1\n", 2.5)
 
@@ -223,9 +222,10 @@ def by_survey(tcc: List[str]) -> Iterator[Outcome]:
     """Where the program has `tcc survey`, the contradicted reads and their names are those that it prints."""
     with tempfile.TemporaryDirectory() as folder:
         program, page = pathlib.Path(folder, "tcc"), pathlib.Path(folder, "page.html")
-        program.write_text("#!/bin/sh\ncase \"$*\" in\n'survey --help') ;;\nsurvey*) cat > /dev/null < /dev/null; echo 'contradicted a/2 op 1 x 0: knew "
-                           "of a/1, causal chain, row 5'; echo 'causal chain: 1'; echo '1 contradicted reads of 1, 0 faults'; exit 1 ;;\n"
-                           "*) exec %s \"$@\" ;;\nesac\n" % os.path.abspath(tcc[-1]))
+        found = {"contradicted": "a/2", "key": "x", "name": "causal chain", "op": 1, "value": 0, "writer": "a/1"}
+        last = {"answer": "survey", "contradicted": 1, "faults": 0, "names": {"causal chain": 1}, "reads": 1}
+        program.write_text("#!/bin/sh\ncase \"$*\" in\n'survey --help') ;;\nsurvey*) cat > /dev/null < /dev/null; echo '%s'; echo '%s'; "
+                           "exit 1 ;;\n*) exec %s \"$@\" ;;\nesac\n" % (json.dumps(found), json.dumps(last), os.path.abspath(tcc[-1])))
         program.chmod(0o755)
         records = str(TOP / "examples/stale-read.csv")
         done = subprocess.run([sys.executable, str(RECIPES / "all.py"), "--tcc", str(program), records], capture_output=True,
