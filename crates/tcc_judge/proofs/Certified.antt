@@ -1,13 +1,12 @@
 -- What the rules on a claim of a cycle mean.
-use Rattle.std.proofs.Common.{◌≡◌, ◌<◌, ◌≤◌, ◌+◌, ◌∷◌, ◌++◌, [], ℕ, Option, None, Some, List, length, append_assoc, refl, sym, subst, ◌∙◌, arith}
+use Rattle.std.proofs.Common.{◌≡◌, ◌+◌, ◌∷◌, ◌++◌, [], ℕ, List, length, append_assoc, refl, sym, subst, ◌∙◌, arith}
 use Rattle.tcc_reads.specs.History.{History}
 use Rattle.tcc_graph.specs.Levels.{judged}
-use Rattle.tcc_graph.specs.Links.{cost, link_to}
+use Rattle.tcc_graph.specs.Links.{link_to}
 use Rattle.tcc_graph.specs.Routes.{IsCycle, IsLeastCycle, LinksLead}
 use Rattle.tcc_graph.specs.declared.link.Link.{Link}
 use Rattle.tcc_cert.specs.CycleRules.{IsLinkRight, ends_at}
 use Rattle.tcc_cert.specs.declared.large.LinksClaim.{LinksClaim}
-use Rattle.tcc_cert.specs.declared.large.Run.{Run}
 use Rattle.tcc_cert.proofs.Ends.{ends_at-push, ends_at_some}
 use Rattle.tcc_check.proofs.Decisions.{link_right, true_at_last}
 use Rattle.tcc_least.specs.Shapes.{NoneBelow}

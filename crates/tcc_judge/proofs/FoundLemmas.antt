@@ -1,8 +1,7 @@
 -- The first of some pairs, as more of them are looked at.
-use Rattle.std.proofs.Common.{◌≡◌, ◌≢◌, ◌<◌, ◌≤◌, ◌==◌, ◌&&◌, ◌||◌, ◌⊎◌, inl, inr, ℕ, true, false, nat_lt, Option, None, Some, sym, ◌∙◌, arith}
+use Rattle.std.proofs.Common.{◌≡◌, ◌≢◌, ◌<◌, ◌≤◌, ◌==◌, ◌&&◌, ◌⊎◌, inl, inr, ℕ, true, false, nat_lt, Option, None, Some, sym, ◌∙◌, arith}
 use Rattle.std.proofs.lemmas.Bool.{cases_Bool, cases_eq, cases_lt, cases_order, eq-eqb, ne_eqb, eqb-true, or_cases, or_left, or_right, and_parts, and_from, ltb-true, lt-ltb, false≢true}
 use Rattle.tcc_cert.specs.Tables.{IsFirstAt, IsEarlier}
-use Rattle.tcc_cert.specs.Rules.{HoldsEverywhere}
 use Rattle.tcc_judge.specs.declared.least.TheConstants.{NONE}
 use Rattle.tcc_judge.specs.private.Least.{IsLeastOf, IsFoundFirst}
 use Rattle.tcc_judge.specs.private.Behind.{is_earlier, earlier_of, first_with}

@@ -1,11 +1,9 @@
 -- The least of some numbers, as more of them are looked at; and the first of some pairs.
-use Rattle.std.proofs.Common.{◌≡◌, ◌≢◌, ◌<◌, ◌≤◌, ◌⊎◌, inl, inr, ℕ, Option, None, Some, arith, refl, sym, subst}
+use Rattle.std.proofs.Common.{◌≡◌, ◌<◌, ◌≤◌, ◌⊎◌, inl, inr, ℕ, arith, refl, sym, subst}
 use Rattle.std.specs.Prelude.{min}
 use Rattle.std.proofs.lemmas.Bool.{cases_lt}
-use Rattle.tcc_cert.specs.Tables.{IsFirstAt, IsEarlier}
-use Rattle.tcc_cert.specs.Rules.{HoldsEverywhere}
 use Rattle.tcc_judge.specs.declared.least.TheConstants.{NONE}
-use Rattle.tcc_judge.specs.private.Least.{IsLeastOf, IsFoundFirst}
+use Rattle.tcc_judge.specs.private.Least.{IsLeastOf}
 
 -- nobody is meant
 pub least_none : (Is : ℕ → Type 0) → ((n : ℕ) → Is n → ⊥) → IsLeastOf Is NONE

@@ -13,3 +13,5 @@ pub mod Ordered
 pub mod Linked
 pub mod Cycled
 pub mod Certified
+pub mod Followed
+pub mod Own

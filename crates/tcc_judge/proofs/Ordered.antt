@@ -1,16 +1,14 @@
 -- What the rules on an order say.
-use Rattle.std.proofs.Common.{◌≡◌, ◌≢◌, ◌<◌, ◌≤◌, ◌⊎◌, ◌↔◌, inl, inr, ℕ, Option, None, Some, List, length, get_or, refl, sym, ◌∙◌, arith}
+use Rattle.std.proofs.Common.{◌≡◌, ◌≢◌, ◌<◌, ◌≤◌, ◌⊎◌, ◌↔◌, inl, inr, ℕ, Option, None, List, length, get_or, sym, ◌∙◌, arith}
 use Rattle.std.proofs.lemmas.Bool.{cases_eq, cases_lt}
 use Rattle.tcc_reads.specs.History.{History, IsBySession, count, owner}
-use Rattle.tcc_graph.specs.Levels.{Judged, judged}
+use Rattle.tcc_graph.specs.Levels.{judged}
 use Rattle.tcc_graph.specs.Orders.{Before, IsCommitOrder, IsNumbering}
 use Rattle.tcc_graph.specs.Relations.{IsReadsPair, IsSessionPair, IsCausalPair}
 use Rattle.tcc_graph.proofs.Numberings.{order_of_two}
 use Rattle.tcc_clocks.specs.Clocks.{LeadsOnward}
-use Rattle.tcc_cert.specs.Tables.{IsFirstAt}
-use Rattle.tcc_cert.specs.Rules.{HoldsEverywhere}
 use Rattle.tcc_cert.specs.declared.large.RunsClaim.{RunsClaim}
-use Rattle.tcc_judge.specs.Orders.{BreaksPair, BreaksAxiom}
+use Rattle.tcc_judge.specs.Orders.{BreaksPair}
 use Rattle.tcc_judge.specs.Runs.{order_of}
 use Rattle.tcc_judge.specs.Verdicts.{AllHold, HasOrderSizes, IsVerdictOf, order_rules, pair_rules}
 use Rattle.tcc_judge.specs.declared.verdict.Verdict.{Verdict}

@@ -1,5 +1,6 @@
 pub mod Runs
 pub mod Orders
 pub mod Cycles
+pub mod Claims
 pub mod Verdicts
 pub mod private

@@ -1,15 +1,22 @@
-//! The law that what is accepted is true.
-ghost use Rattle.std.specs.Prelude.{◌≡◌, ◌↔◌, ℕ};
+//! The laws that what is accepted is true, and that one's own claims are accepted.
+ghost use Rattle.std.specs.Prelude.{◌≡◌, ◌≤◌, ◌↔◌, ℕ, List};
 ghost use Rattle.tcc_reads.specs.History.{History};
+ghost use Rattle.tcc_graph.specs.declared.level.Level.{Level};
+ghost use Rattle.tcc_graph.specs.declared.link.Link.{Link};
 ghost use Rattle.tcc_graph.specs.Levels.{judged};
 ghost use Rattle.tcc_graph.specs.Orders.{IsCommitOrder};
 ghost use Rattle.tcc_graph.specs.Links.{cost};
 ghost use Rattle.tcc_graph.specs.Routes.{IsCycle, IsLeastCycle};
+ghost use Rattle.tcc_cert.specs.RunsTold.{order_claim_of};
+ghost use Rattle.tcc_cert.specs.declared.large.LargeCertificate.{LargeCertificate};
 ghost use Rattle.tcc_cert.specs.declared.large.LinksClaim.{LinksClaim};
 ghost use Rattle.tcc_cert.specs.declared.large.RunsClaim.{RunsClaim};
 ghost use Rattle.tcc_judge.specs.Runs.{order_of};
-ghost use Rattle.tcc_judge.specs.Verdicts.{AllHold, HasOrderSizes, least_rules, order_rules};
+ghost use Rattle.tcc_judge.specs.Claims.{cycle_claim_of, short_claim_of};
 ghost use Rattle.tcc_judge.specs.Cycles.{IsRightCycle};
+ghost use Rattle.tcc_judge.specs.Verdicts.{AllHold, HasOrderSizes, IsVerdictOf, cycle_rules, least_rules, order_rules, rules_of};
+ghost use Rattle.tcc_judge.specs.declared.verdict.Verdict.{Verdict};
+ghost use Rattle.tcc_judge.specs.declared.verdict.Verdict.TheVariants as verdict;
 
 use tcc_graph::LargeGraph;
 
@@ -33,4 +40,31 @@ pub fn accepted_cycle()
 pub fn accepted_least()
     ensures { (h : History) (k : LinksClaim) → IsRightCycle h k → AllHold (least_rules h k.cost)
         → (s : ℕ) × IsLeastCycle (judged h k.level) s k.links }
+{}
+
+/// Of a history whose reads are resolved, each commit order keeps the rules, told by its runs.
+pub fn own_order(graph: &LargeGraph)
+    ensures { (level : Level) (order : List ℕ) → IsCommitOrder (judged graph.now level) order
+        → AllHold (order_rules graph.now (order_claim_of level graph.now order)) }
+{
+    graph.sessions();
+    graph.count();
+}
+
+/// Each cycle keeps the rules, where no more is claimed of it.
+pub fn own_cycle()
+    ensures { (h : History) (level : Level) (s : ℕ) (links : List Link) → IsCycle (judged h level) s links
+        → AllHold (cycle_rules h (cycle_claim_of level h links)) }
+{}
+
+/// Each least cycle that costs four steps at most keeps the rules on that no cycle costs less, without runs.
+pub fn own_short()
+    ensures { (h : History) (level : Level) (s : ℕ) (links : List Link) → IsLeastCycle (judged h level) s links → cost links ≤ 4
+        → AllHold (cycle_rules h (short_claim_of level h links)) }
+{}
+
+/// What keeps the rules is accepted: no other verdict is that of the rules.
+pub fn kept()
+    ensures { (h : History) (claim : LargeCertificate) → AllHold (rules_of h claim) → (said : Verdict) → IsVerdictOf (rules_of h claim) said
+        → said ≡ verdict.Accepted }
 {}

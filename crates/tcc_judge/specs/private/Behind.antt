@@ -1,6 +1,6 @@
 -- What stands behind a transaction and has to stand before it: by a block of sessions, and from some place of the order on.
 use Rattle.std.specs.Prelude.{ℕ, ◌<◌, ◌≤◌, ◌≡◌, ◌+◌, ◌==◌, ◌&&◌, ◌||◌, nat_lt, Bool, List, Option, None, Some, if◌then◌else◌, length, slice_index}
-use Rattle.tcc_reads.specs.History.{History, count, owner}
+use Rattle.tcc_reads.specs.History.{History, owner}
 use Rattle.tcc_graph.specs.Keys.{key_at}
 use Rattle.tcc_graph.specs.Levels.{causally}
 use Rattle.tcc_graph.specs.Relations.{IsReadsPair}
