@@ -17,6 +17,7 @@ pub mod InputFacts
 pub mod WordFacts
 pub mod OnwardFacts
 pub mod StepFacts
+pub mod PartsTold
 pub mod PartFacts
 pub mod StageFacts
 pub mod CollectFacts
@@ -25,6 +26,8 @@ pub mod OneClaim
 pub mod Ends
 mod LargeOnward
 mod LargeReads
+pub mod LargePartFacts
+mod LargeStageFacts
 mod LargeBack
 mod LargeOne
 mod WorkedLarge

@@ -29,59 +29,18 @@ use Rattle.tcc_cert.specs.Parts.{rows_then, whole_parts, with_clocks, with_table
 use Rattle.tcc_cert.specs.Reading.{◌>>=◌, Position, Reads, behind_header, certificate_at, certificate_read, claim_at, clocks_at, cycle_at}
 use Rattle.tcc_cert.specs.Reading.{ended, header_line, link_at, next, numbered, numbers_line, order_at, repeated, sizes_line, start_of}
 use Rattle.tcc_cert.specs.Reading.{word_line, words}
-
--- the fault of what stands behind the end
-abbrev fault_behind : Position → Option CertFaultKind
-fault_behind at = cond (eqb (length at.bytes) 0) None (Some Trailing)
-
--- the certificate that was read has these parts behind others, and the text ends as they do
-abbrev pub IsTold : List Part → Reads Certificate → Parts → Type 0
-IsTold front (Ok read) told = (parts_of read.0 ≡ front ++ told.parts) × (told.line ≡ read.1.line) × (told.fault ≡ fault_behind read.1)
-IsTold front (Err fault) told = (told.line ≡ fault.line) × (told.fault ≡ Some fault.kind)
-
-bind-assoc : {A B C : Type 0} (read : Reads A) (f : A × Position → Reads B) (g : B × Position → Reads C) → ((read >>= f) >>= g) ≡ (read >>= λ x. f x >>= g)
-bind-assoc (Ok x) f g = refl
-bind-assoc (Err fault) f g = refl
-
-told-behind : {X : Type 0} (front : List Part) (read : Reads X) (go : X × Position → Reads Certificate) (behind : X × Position → Parts)
-    → ((x : X × Position) → IsTold front (go x) (behind x))
-    → IsTold front (read >>= go) (read >>> behind)
-told-behind front (Ok x) go behind later = later x
-told-behind front (Err fault) go behind later = (refl, refl)
-
-told-part : (front : List Part) (first : Part) (read : Reads Certificate) (told : Parts) → IsTold (front ++ first ∷ []) read told
-    → IsTold front read (after_part first told)
-told-part front first (Ok x) told is = (is.0 ∙ append_assoc front (first ∷ []) told.parts, is.1, is.2)
-told-part front first (Err fault) told is = is
-
-told-rows : {X : Type 0} (form : X → Part) (read : ℕ → Position → Reads X) (behind : Position → Parts) (n from : ℕ) (at : Position) (front : List Part)
-    (go : List X × Position → Reads Certificate)
-    → ((rows : List X) (after : Position) → length rows ≡ n → IsTold (front ++ map form rows) (go (rows, after)) (behind after))
-    → IsTold front (numbered read from n at >>= go) (rows_then form read behind from n at)
-told-rows form read behind zero from at front go later = subst (λ l. IsTold l (go ([], at)) (behind at)) (append-nil front) (later [] at refl)
-told-rows {X} form read behind (suc n) from at front go later =
-    let others : (first : X × Position) → List X × Position → Reads (List X) = λ first rest. Ok (first.0 ∷ rest.0, rest.1) in
-    subst (λ r. IsTold front r (rows_then form read behind from (suc n) at))
-    (sym (bind-assoc (read from at) (λ first. numbered read (from + 1) n first.1 >>= others first) go))
-    (told-behind front (read from at) (λ first. (numbered read (from + 1) n first.1 >>= others first) >>= go)
-    (λ row. after_part (form row.0) (rows_then form read behind (from + 1) n row.1))
-    (λ first. told-part front (form first.0) ((numbered read (from + 1) n first.1 >>= others first) >>= go) (rows_then form read behind (from + 1) n first.1)
-    (subst (λ r. IsTold (front ++ form first.0 ∷ []) r (rows_then form read behind (from + 1) n first.1))
-    (sym (bind-assoc (numbered read (from + 1) n first.1) (others first) go))
-    (told-rows form read behind n (from + 1) first.1 (front ++ form first.0 ∷ []) (λ rest. go (first.0 ∷ rest.0, rest.1))
-    (λ rows after long. subst (λ l. IsTold l (go (first.0 ∷ rows, after)) (behind after)) (sym (append_assoc front (form first.0 ∷ []) (map form rows)))
-    (later (first.0 ∷ rows) after (ap suc long)))))))
+use Rattle.tcc_cert.proofs.PartsTold.{IsAllTold, IsTold, all-told, bind-assoc, fault-of, reached-of, told-behind, told-ended, told-part, told-rows, whole-of}
 
 told-end : (front : List Part) (version : Version) (c : Certificate) (at : Position) → parts_of c ≡ front
-    → IsTold front (words (Small version) (word_line (codes "end")) at >>= λ end. Ok (c, end.1)) (end_parts version at)
-told-end front version c at is = told-behind front (words (Small version) (word_line (codes "end")) at) _ _ (λ end. (is ∙ sym (append-nil front), refl, refl))
+    → IsTold parts_of front (words (Small version) (word_line (codes "end")) at >>= λ end. Ok (c, end.1)) (end_parts version at)
+told-end front version c at is = told-behind parts_of front (words (Small version) (word_line (codes "end")) at) _ _ (λ end. told-ended parts_of front c end.1 is)
 
 -- what stands before the clocks
 abbrev head_of : Version → Level → ℕ → List ℕ → OrderHead
 head_of version level s order = record { version = version; level = level; order = order; sessions = s }
 
 told-clocks : (version : Version) (level : Level) (n s : ℕ) (order : List ℕ) (at : Position)
-    → IsTold (part.Order (head_of version level s order) ∷ [])
+    → IsTold parts_of (part.Order (head_of version level s order) ∷ [])
     (clocks_at version level n s at >>= λ clocks. words (Small version) (word_line (codes "end")) clocks.1 >>= λ end. Ok
     (claim.Order (with_clocks (head_of version level s order) clocks.0), end.1)) (order_rest version level n s at)
 told-clocks version Causal n s order at =
@@ -90,28 +49,28 @@ told-clocks version Causal n s order at =
     let row : ℕ → Position → Reads (List ℕ) = λ t. words (Small version) (numbers_line s (ranges_of version).number) in
     let end : List (List ℕ) × Position → Reads Certificate =
     λ clocks. words (Small version) (word_line (codes "end")) clocks.1 >>= λ end. Ok (claim.Order (with_clocks head clocks.0), end.1) in
-    subst (λ r. IsTold front r (order_rest version Causal n s at))
+    subst (λ r. IsTold parts_of front r (order_rest version Causal n s at))
     (sym (bind-assoc (words (Small version) (word_line (codes "clocks")) at) (λ mark. numbered row 0 n mark.1) end))
-    (told-behind front (words (Small version) (word_line (codes "clocks")) at) (λ mark. numbered row 0 n mark.1 >>= end)
+    (told-behind parts_of front (words (Small version) (word_line (codes "clocks")) at) (λ mark. numbered row 0 n mark.1 >>= end)
     (λ mark. rows_then part.Clocks row (end_parts version) 0 n mark.1)
-    (λ mark. told-rows part.Clocks row (end_parts version) n 0 mark.1 front end
+    (λ mark. told-rows parts_of part.Clocks row (end_parts version) n 0 mark.1 front end
     (λ rows after long. told-end (front ++ map part.Clocks rows) version (claim.Order (with_clocks head rows)) after refl)))
 told-clocks version Atomic n s order at =
     let head = head_of version Atomic s order in
     told-end (part.Order head ∷ []) version (claim.Order (with_clocks head [])) at refl
 
-told-order : (version : Version) (level : Level) (n s : ℕ) (at : Position) → IsTold [] (order_at version level n s at) (order_parts version level n s at)
+told-order : (version : Version) (level : Level) (n s : ℕ) (at : Position) → IsTold parts_of [] (order_at version level n s at) (order_parts version level n s at)
 told-order version level n s at =
     let go : List ℕ × Position → Reads Certificate =
     λ order. clocks_at version level n s order.1 >>= λ clocks. words (Small version) (word_line (codes "end")) clocks.1 >>= λ end. Ok
     (claim.Order (with_clocks (head_of version level s order.0) clocks.0), end.1) in
-    told-behind [] (words (Small version) (numbers_line n (ranges_of version).number) at) go
+    told-behind parts_of [] (words (Small version) (numbers_line n (ranges_of version).number) at) go
     (λ order. after_part (part.Order (head_of version level s order.0)) (order_rest version level n s order.1))
-    (λ order. told-part [] (part.Order (head_of version level s order.0)) (go order) (order_rest version level n s order.1)
+    (λ order. told-part parts_of [] (part.Order (head_of version level s order.0)) (go order) (order_rest version level n s order.1)
     (told-clocks version level n s order.0 order.1))
 
 told-cycle : (version : Version) (level : Level) (n count least : ℕ) (at : Position)
-    → IsTold [] (cycle_at version level n count least at) (cycle_parts version level n count least at)
+    → IsTold parts_of [] (cycle_at version level n count least at) (cycle_parts version level n count least at)
 told-cycle version level n count least at =
     let head : CycleHead = record { version = version; level = level; count = n; links = count; least = least } in
     let near_row : ℕ → Position → Reads (List ℕ) = λ a. words (Small version) (numbers_line n (ranges_of version).cost) in
@@ -123,92 +82,60 @@ told-cycle version level n count least at =
     let behind_links : List Link × Position → Reads Certificate =
     λ links. words (Small version) (word_line (codes "near")) links.1 >>= λ mark. numbered near_row 0 n mark.1 >>= far links.0 in
     let claim_part = part.Cycle head in
-    told-part [] claim_part (repeated (link_at (Small version)) count at >>= behind_links) (link_rows version n 0 count at)
-    (told-rows part.Link (λ i. link_at (Small version)) (near_parts version n) count 0 at (claim_part ∷ []) behind_links
+    told-part parts_of [] claim_part (repeated (link_at (Small version)) count at >>= behind_links) (link_rows version n 0 count at)
+    (told-rows parts_of part.Link (λ i. link_at (Small version)) (near_parts version n) count 0 at (claim_part ∷ []) behind_links
     (λ links behind many.
     let first = (claim_part ∷ []) ++ map part.Link links in
-    told-behind first (words (Small version) (word_line (codes "near")) behind) (λ mark. numbered near_row 0 n mark.1 >>= far links)
+    told-behind parts_of first (words (Small version) (word_line (codes "near")) behind) (λ mark. numbered near_row 0 n mark.1 >>= far links)
     (λ mark. rows_then part.Near near_row (far_parts version n) 0 n mark.1)
-    (λ mark. told-rows part.Near near_row (far_parts version n) n 0 mark.1 first (far links)
+    (λ mark. told-rows parts_of part.Near near_row (far_parts version n) n 0 mark.1 first (far links)
     (λ near after long.
     let front = first ++ map part.Near near in
-    told-behind front (words (Small version) (word_line (codes "far")) after) (λ mark. numbered far_row 0 n mark.1 >>= end links near)
+    told-behind parts_of front (words (Small version) (word_line (codes "far")) after) (λ mark. numbered far_row 0 n mark.1 >>= end links near)
     (λ mark. rows_then part.Far far_row (end_parts version) 0 n mark.1)
-    (λ mark. told-rows part.Far far_row (end_parts version) n 0 mark.1 front (end links near)
+    (λ mark. told-rows parts_of part.Far far_row (end_parts version) n 0 mark.1 front (end links near)
     (λ far last wide. told-end (front ++ map part.Far far) version (claim.Cycle (with_tables head links near far)) last
     (ap (λ m. part.Cycle (record head { count = m; links = length links }) ∷ map part.Link links ++ (map part.Near near ++ map part.Far far)) long
     ∙ ap (λ m. part.Cycle (record head { links = m }) ∷ map part.Link links ++ (map part.Near near ++ map part.Far far)) many
     ∙ ap (λ t. claim_part ∷ t) (sym (append_assoc (map part.Link links) (map part.Near near) (map part.Far far))))))))))
 
-told-claim : (version : Version) (level : Level) (sizes : Sizes) (at : Position) → IsTold [] (claim_at version level sizes at) (claim_parts version level sizes at)
+told-claim : (version : Version) (level : Level) (sizes : Sizes) (at : Position) → IsTold parts_of [] (claim_at version level sizes at) (claim_parts version level sizes at)
 told-claim version level (Order n s) at = told-order version level n s at
 told-claim version level (Cycle n count least) at = told-cycle version level n count least at
 
-pub told-whole : (at : Position) → IsTold [] (certificate_at at) (whole_parts at)
+pub told-whole : (at : Position) → IsTold parts_of [] (certificate_at at) (whole_parts at)
 told-whole at =
-    told-behind [] (next MAX_HEADER_BYTES header_line at) behind_header parts_behind
-    (λ header. told-behind [] (words (Small header.0.0) (sizes_line (Small header.0.0)) header.1) (λ sizes. claim_at header.0.0 header.0.1 sizes.0 sizes.1)
+    told-behind parts_of [] (next MAX_HEADER_BYTES header_line at) behind_header parts_behind
+    (λ header. told-behind parts_of [] (words (Small header.0.0) (sizes_line (Small header.0.0)) header.1) (λ sizes. claim_at header.0.0 header.0.1 sizes.0 sizes.1)
     (λ sizes. claim_parts header.0.0 header.0.1 sizes.0 sizes.1)
     (λ sizes. told-claim header.0.0 header.0.1 sizes.0 sizes.1))
 
 -- ---- the whole text
 
--- the parts of the certificate and the end, or the fault
-abbrev IsAllTold : Result Certificate CertFault → Parts → Type 0
-IsAllTold (Ok c) told = (told.parts ≡ parts_of c) × (told.fault ≡ None)
-IsAllTold (Err fault) told = (told.fault ≡ Some fault.kind) × (told.line ≡ fault.line)
-
-all-told : (read : Reads Certificate) (told : Parts) → IsTold [] read told → IsAllTold (read >>= λ c. ended c.0 c.1) told
-all-told (Err fault) told is = (is.1, is.0)
-all-told (Ok x) told is = by (eqb (length x.1.bytes) 0) is.2
-  where
-    by : (none : Bool) → told.fault ≡ cond none None (Some Trailing) → IsAllTold (cond none (Ok x.0) (Err (record { line = x.1.line; kind = Trailing }))) told
-    by true fault = (sym is.0, fault)
-    by false fault = (fault, is.1)
-
-told-read : (bytes : List ℕ) → IsAllTold (certificate_read bytes) (parts_read bytes)
-told-read bytes = all-told (certificate_at (start_of bytes)) (parts_read bytes) (told-whole (start_of bytes))
+told-read : (bytes : List ℕ) → IsAllTold parts_of (certificate_read bytes) (parts_read bytes)
+told-read bytes = all-told parts_of (certificate_at (start_of bytes)) (parts_read bytes) (told-whole (start_of bytes))
 
 pub parts-read : (bytes : List ℕ) (c : Certificate) → certificate_read bytes ≡ Ok c
     → ((parts_read bytes).parts ≡ parts_of c) × ((parts_read bytes).fault ≡ None)
-parts-read bytes c is = subst (λ r. IsAllTold r (parts_read bytes)) is (told-read bytes)
+parts-read bytes c is = subst (λ r. IsAllTold parts_of r (parts_read bytes)) is (told-read bytes)
 
 pub parts-fault : (bytes : List ℕ) (fault : CertFault) → certificate_read bytes ≡ Err fault
     → ((parts_read bytes).fault ≡ Some fault.kind) × ((parts_read bytes).line ≡ fault.line)
-parts-fault bytes fault is = subst (λ r. IsAllTold r (parts_read bytes)) is (told-read bytes)
+parts-fault bytes fault is = subst (λ r. IsAllTold parts_of r (parts_read bytes)) is (told-read bytes)
 
 -- parts that end without a fault are those of a certificate
 pub read-whole : (bytes : List ℕ) → (parts_read bytes).fault ≡ None
     → (c : Certificate) × (certificate_read bytes ≡ Ok c) × ((parts_read bytes).parts ≡ parts_of c)
-read-whole bytes none = by (certificate_read bytes) refl (told-read bytes)
-  where
-    by : (r : Result Certificate CertFault) → certificate_read bytes ≡ r → IsAllTold r (parts_read bytes)
-        → (c : Certificate) × (certificate_read bytes ≡ Ok c) × ((parts_read bytes).parts ≡ parts_of c)
-    by (Ok c) is told = (c, is, told.0)
-    by (Err fault) is told =
-        let bad : None ≡ Some fault.kind = sym none ∙ told.0 in
-        absurd cc
+read-whole bytes none = whole-of parts_of (certificate_read bytes) (parts_read bytes) (told-read bytes) none
 
 -- parts that end in a fault are those before the fault of the text
 pub read-fault : (bytes : List ℕ) (fault : CertFault) → (parts_read bytes).fault ≡ Some fault.kind → (parts_read bytes).line ≡ fault.line
     → certificate_read bytes ≡ Err fault
-read-fault bytes fault kind line = by (certificate_read bytes) refl (told-read bytes)
-  where
-    by : (r : Result Certificate CertFault) → certificate_read bytes ≡ r → IsAllTold r (parts_read bytes) → certificate_read bytes ≡ Err fault
-    by (Ok c) is told =
-        let bad : None ≡ Some fault.kind = sym told.1 ∙ kind in
-        absurd cc
-    by (Err other) is told =
-        let same : other.kind ≡ fault.kind = cc in
-        is ∙ ap (λ l. Err (record { line = l; kind = other.kind })) (sym told.1 ∙ line) ∙ ap (λ k. Err (record { line = fault.line; kind = k })) same
+read-fault bytes fault kind line = fault-of parts_of (certificate_read bytes) (parts_read bytes) fault (told-read bytes) kind line
 
 -- the parts end at the line at which the reading does
 pub line-reached : (bytes : List ℕ) → (parts_read bytes).line ≡ reached (certificate_at (start_of bytes))
-line-reached bytes = by (certificate_at (start_of bytes)) (told-whole (start_of bytes))
-  where
-    by : (read : Reads Certificate) → IsTold [] read (parts_read bytes) → (parts_read bytes).line ≡ reached read
-    by (Ok x) is = is.1
-    by (Err fault) is = is.0
+line-reached bytes = reached-of parts_of (certificate_at (start_of bytes)) (parts_read bytes) (told-whole (start_of bytes))
 
 -- whatever is answered, no line before it has a fault
 pub first-fault : (bytes : List ℕ) (answered first : CertFault) → IsReading bytes (Err answered) → certificate_read bytes ≡ Err first

@@ -23,7 +23,7 @@ use Rattle.tcc_cert.specs.Ranges.{ranges_of}
 use Rattle.tcc_cert.specs.private.Inputs.{Ends}
 use Rattle.tcc_cert.specs.InputBytes.{HasFailed}
 use Rattle.tcc_cert.specs.private.Showing.{Faults}
-use Rattle.tcc_cert.specs.Parts.{◌>>>◌, FaultsIn, IsFirst, Parts, after_part, claim_parts, end_parts}
+use Rattle.tcc_cert.specs.Parts.{◌>>>◌, FaultsIn, IsFirst, Parts, PartsOf, after_part, claim_parts, end_parts, ended_parts}
 use Rattle.tcc_cert.specs.Parts.{ending, far_parts, far_rows, link_rows, near_parts, order_rest, parts_behind, rows_then}
 use Rattle.tcc_cert.specs.Parts.{whole_parts}
 use Rattle.tcc_cert.specs.Shapes.{behind_table, columns_in, height, most_in, part_of, table_parts, table_rows, word_before}
@@ -35,12 +35,12 @@ use Rattle.tcc_cert.proofs.StepFacts.{onward-at, some-left}
 
 -- ---- parts go on from line to line, and never back
 
-onward-then : {X : Type 0} (at : Position) (read : Reads X) (behind : X × Position → Parts) → IsOnward at read → ((x : X × Position) → x.1.line ≤ (behind x).line)
+pub onward-then : {X P : Type 0} (at : Position) (read : Reads X) (behind : X × Position → PartsOf P) → IsOnward at read → ((x : X × Position) → x.1.line ≤ (behind x).line)
     → at.line ≤ (read >>> behind).line
 onward-then at (Ok x) behind on later = omega (arith, on.onward, later x)
 onward-then at (Err fault) behind on later = on.onward
 
-pub onward-rows : {X : Type 0} (form : X → Part) (read : ℕ → Position → Reads X) (behind : Position → Parts) (from n : ℕ)
+pub onward-rows : {X P : Type 0} (form : X → P) (read : ℕ → Position → Reads X) (behind : Position → PartsOf P) (from n : ℕ)
     → ((i : ℕ) (p : Position) → IsOnward p (read i p)) → ((p : Position) → p.line ≤ (behind p).line)
     → (at : Position) → at.line ≤ (rows_then form read behind from n at).line
 onward-rows form read behind from zero on later at = later at
@@ -108,7 +108,7 @@ onward-coming (coming.Rows left) at ahead is = rw is.2 (onward-table left.versio
 -- ---- what comes of a part
 
 -- it had a fault
-pub part-faults : {A F : Type 0} {at : Position} (read : Reads A) (behind : A × Position → Parts) (fault : CertFault)
+pub part-faults : {A F P : Type 0} {at : Position} (read : Reads A) (behind : A × Position → PartsOf P) (fault : CertFault)
     → ((x : A × Position) → x.1.line ≤ (behind x).line) → Faults F at read fault
     → FaultsIn F at.line (read >>> behind) fault
 part-faults read behind fault later (inl is) = inl (rw is refl)
@@ -116,7 +116,7 @@ part-faults (Ok x) behind fault later (inr cut) = inr (record { failure = cut.fa
 part-faults (Err e) behind fault later (inr cut) = inr (record { failure = cut.failure; first = cut.first; last = cut.last })
 
 -- the line that was wanted is no later
-wanted-earlier : {F : Type 0} (wanted earlier : ℕ) (ahead : Parts) (fault : CertFault) → earlier ≤ wanted → FaultsIn F wanted ahead fault
+pub wanted-earlier : {F P : Type 0} (wanted earlier : ℕ) (ahead : PartsOf P) (fault : CertFault) → earlier ≤ wanted → FaultsIn F wanted ahead fault
     → FaultsIn F earlier ahead fault
 wanted-earlier wanted earlier ahead fault le (inl is) = inl is
 wanted-earlier wanted earlier ahead fault le (inr cut) = inr (record { failure = cut.failure; first = omega (arith, le, cut.first); last = cut.last })
@@ -188,11 +188,15 @@ pub link-faults : {F : Type 0} (version : Version) (n from left m : ℕ) (at : P
 link-faults version n from left m at fault more faults =
     rw more (part-faults (link_at (Small version) at) _ fault (λ one. onward-links version n (from + 1) left one.1) faults)
 
--- the line `end` was read, and something stands behind it, or the reader failed
+-- something stands behind the last line, or the reader failed
+pub ended-faults : {R P : Type 0} (at : Position) (fault : CertFault) (new : Input R) → Ends at (Err fault) new
+    → FaultsIn {P = P} (HasFailed new) at.line (ended_parts at) fault
+ended-faults at fault new (line, inl more) = inl (rw (some-left at.bytes more.1, line, more.0) refl)
+ended-faults at fault new (line, inr failed) = inr (record { failure = inl failed; first = omega (arith, line); last = omega (arith, line) })
+
+-- the line `end` was read before
 pub end-faults : {R : Type 0} (version : Version) (at after : Position) (done : Unit {0}) (fault : CertFault) (new : Input R)
     → words (Small version) (word_line (codes "end")) at ≡ Ok (done, after) → at.line ≤ after.line
     → Ends after (Err fault) new → FaultsIn (HasFailed new) at.line (end_parts version at) fault
-end-faults version at after done fault new is on (line, inl more) = inl (rw (is, some-left after.bytes more.1, line, more.0) refl)
-end-faults version at after done fault new is on (line, inr failed) =
-    let last = ap (λ r. (r >>> λ end. ending end.1.line (cond (eqb (length end.1.bytes) 0) None (Some Trailing))).line) is in
-    inr (record { failure = inl failed; first = omega (arith, line, on); last = omega (arith, line, last) })
+end-faults version at after done fault new is on ends =
+    rw is (wanted-earlier after.line at.line (ended_parts after) fault on (ended-faults after fault new ends))

@@ -9,6 +9,9 @@ use Rattle.tcc_cert.specs.declared.fault.CertFaultKind.TheVariants.{Header, Word
 use Rattle.tcc_cert.specs.declared.large.LargeCertificate.{LargeCertificate}
 use Rattle.tcc_cert.specs.declared.large.LargeCertificate.TheVariants as claim
 use Rattle.tcc_cert.specs.declared.large.Run.{Run}
+use Rattle.tcc_cert.specs.declared.large_part.LargePart.{LargePart}
+use Rattle.tcc_cert.specs.declared.large_part.LargePart.TheVariants as part
+use Rattle.tcc_cert.specs.LargeParts.{large_parts_read}
 use Rattle.tcc_cert.specs.LargeTexts.{large_certificate_text}
 use Rattle.tcc_cert.specs.LargeReading.{is_large, large_certificate_read}
 
@@ -107,3 +110,39 @@ faulty_texts = (refl, (refl, (refl, (refl, (refl, (refl, (refl, (refl, (refl, (r
 -- the version is that of the first line
 told_by_the_first_line : (is_large fork_text ≡ true) × (is_large (codes "tcc-certificate 2 causal\n") ≡ false)
 told_by_the_first_line = (refl, refl)
+
+-- ---- parts
+
+fork_parts : large_parts_read fork_text ≡ record {
+  parts = part.Order (record { level = Causal; transactions = 5; sessions = 4; runs = 4 })
+      ∷ part.Run (run 0 1) ∷ part.Run (run 1 1) ∷ part.Run (run 2 1) ∷ part.Run (run 3 1) ∷ [];
+  line = 8;
+  fault = None;
+}
+fork_parts = refl
+
+-- the cycle of five steps, and its links
+abbrev five_links : List LargePart
+five_links =
+    part.Cycle (record { level = Causal; transactions = 5; links = 2; cost = 5 })
+    ∷ part.Link (link.Session 0 1)
+    ∷ part.Link (link.Derived 1 0 (codes "x") 4 (step.Reads 1 2 (codes "x") ∷ step.Reads 2 3 (codes "y") ∷ step.Session 3 4 ∷ []))
+    ∷ []
+
+least_told : large_parts_read (five_steps_text (codes "least 3\n0 1\n1 1\n2 2\nend\n")) ≡ record {
+  parts = five_links ++ (part.Least 3 ∷ part.Run (run 0 1) ∷ part.Run (run 1 1) ∷ part.Run (run 2 2) ∷ []);
+  line = 13;
+  fault = None;
+}
+least_told = refl
+
+no_claim_told : large_parts_read (five_steps_text (codes "end\n")) ≡ record { parts = five_links; line = 9; fault = None }
+no_claim_told = refl
+
+-- the parts before a fault
+faulty_run_told : large_parts_read (five_steps_text (codes "least 3\n0 1\n1 0\n2 2\nend\n"))
+    ≡ record { parts = five_links ++ (part.Least 3 ∷ part.Run (run 0 1) ∷ []); line = 10; fault = Some Number }
+faulty_run_told = refl
+
+trailing_told : large_parts_read (five_steps_text (codes "end\n\n")) ≡ record { parts = five_links; line = 9; fault = Some Trailing }
+trailing_told = refl

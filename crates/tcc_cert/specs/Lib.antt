@@ -13,6 +13,8 @@ pub mod LargeReading
 pub mod Outcomes
 pub mod Parts
 pub mod Ahead
+pub mod LargeParts
+pub mod LargeAhead
 pub mod WindowBytes
 pub mod InputBytes
 pub mod Versions

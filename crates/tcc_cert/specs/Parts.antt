@@ -45,36 +45,43 @@ parts_of (claim.Order k) = part.Order (order_head k) ∷ map part.Clocks k.clock
 parts_of (claim.Cycle k) = part.Cycle (cycle_head k) ∷ map part.Link k.links ++ (map part.Near k.near ++ map part.Far k.far)
 
 -- some parts, and then, at this line, the fault of this kind, or the end
-pub record Parts : Type 0 where
-  pub parts : List Part
+pub record PartsOf (P : Type 0) : Type 0 where
+  pub parts : List P
   pub line : ℕ
   pub fault : Option CertFaultKind
 
+abbrev pub Parts : Type 0
+Parts = PartsOf Part
+
 -- no part is left
-abbrev pub ending : ℕ → Option CertFaultKind → Parts
+abbrev pub ending : {P : Type 0} → ℕ → Option CertFaultKind → PartsOf P
 ending line fault = record { parts = []; line = line; fault = fault }
 
-abbrev pub stopped : CertFault → Parts
+abbrev pub stopped : {P : Type 0} → CertFault → PartsOf P
 stopped fault = ending fault.line (Some fault.kind)
 
-abbrev pub after_part : Part → Parts → Parts
+abbrev pub after_part : {P : Type 0} → P → PartsOf P → PartsOf P
 after_part first rest = record { parts = first ∷ rest.parts; line = rest.line; fault = rest.fault }
 
 -- what comes behind something that was read, or its fault
 infixl 10 ◌>>>◌
-abbrev pub ◌>>>◌ : {X : Type 0} → Reads X → (X × Position → Parts) → Parts
+abbrev pub ◌>>>◌ : {X P : Type 0} → Reads X → (X × Position → PartsOf P) → PartsOf P
 (Ok read) >>> behind = behind read
 (Err fault) >>> behind = stopped fault
 
 -- so many rows, or links, each of which goes by its number, the first of them by this one, and what comes behind them
-abbrev pub rows_then : {X : Type 0} → (X → Part) → (ℕ → Position → Reads X) → (Position → Parts) → ℕ → ℕ → Position → Parts
+abbrev pub rows_then : {X P : Type 0} → (X → P) → (ℕ → Position → Reads X) → (Position → PartsOf P) → ℕ → ℕ → Position → PartsOf P
 rows_then form read behind from zero at = behind at
 rows_then form read behind from (suc n) at = read from at >>> λ row. after_part (form row.0) (rows_then form read behind (from + 1) n row.1)
+
+-- nothing stands from the position on
+abbrev pub ended_parts : {P : Type 0} → Position → PartsOf P
+ended_parts at = ending at.line (if length at.bytes == 0 then None else Some Trailing)
 
 -- the line `end`, and nothing behind it
 abbrev pub end_parts : Version → Position → Parts
 end_parts version at =
-    words (Small version) (word_line (codes "end")) at >>> λ end. ending end.1.line (if length end.1.bytes == 0 then None else Some Trailing)
+    words (Small version) (word_line (codes "end")) at >>> λ end. ended_parts end.1
 
 -- the clocks from a row on, so many are left
 abbrev pub clock_rows : Version → ℕ → ℕ → ℕ → Position → Parts
@@ -151,11 +158,11 @@ IsFirst (part.Near row) ahead rest = ahead ≡ after_part (part.Near row) rest
 IsFirst (part.Far row) ahead rest = ahead ≡ after_part (part.Far row) rest
 
 -- the reader failed or memory was refused, no earlier than the line that was wanted, and no later than the line at which the reading would have ended
-pub record IsCutShortIn (failed : Type 0) (wanted : ℕ) (ahead : Parts) (fault : CertFault) : Type 0 where
+pub record IsCutShortIn {P : Type 0} (failed : Type 0) (wanted : ℕ) (ahead : PartsOf P) (fault : CertFault) : Type 0 where
   pub failure : IsFailure failed fault.kind
   pub first : wanted ≤ fault.line
   pub last : fault.line ≤ ahead.line
 
 -- no part is left but the fault, unless the reader failed or memory was refused
-abbrev pub FaultsIn : Type 0 → ℕ → Parts → CertFault → Type 0
+abbrev pub FaultsIn : {P : Type 0} → Type 0 → ℕ → PartsOf P → CertFault → Type 0
 FaultsIn failed wanted ahead fault = (ahead ≡ stopped fault) ⊎ IsCutShortIn failed wanted ahead fault

@@ -6,6 +6,7 @@ ghost use Rattle.tcc_cert.specs.RunsTold.{order_claim_of};
 ghost use Rattle.tcc_cert.specs.declared.version_3.TheConstants.{V3_MAX_COUNT, V3_MAX_SESSIONS};
 ghost use Rattle.tcc_graph.specs.declared.level.Level.{Level};
 ghost use Rattle.tcc_reads.specs.History.{History, count, owner};
+ghost use Rattle.tcc_cert.specs.LargeParts.{large_parts_of, large_parts_read};
 ghost use Rattle.tcc_cert.specs.LargeReading.{large_certificate_read};
 ghost use Rattle.tcc_cert.specs.Outcomes.{IsLargeReading, IsReading};
 ghost use Rattle.tcc_cert.specs.Versions.{HasNoFirstLine};
@@ -50,6 +51,18 @@ pub fn large_text_is_read()
 /// What is read of version 3 has a text, and was read from that text and nothing else.
 pub fn large_read_text_is_one()
     ensures { (bytes : List ℕ) (c : LargeCertificate) → large_certificate_read bytes ≡ Ok c → HasLargeText c × (bytes ≡ large_certificate_text c) }
+{}
+
+/// The parts that a text of version 3 gives are those of its certificate, and then it ends.
+pub fn large_parts_of_what_is_read()
+    ensures { (bytes : List ℕ) (c : LargeCertificate) → large_certificate_read bytes ≡ Ok c
+        → ((large_parts_read bytes).parts ≡ large_parts_of c) × ((large_parts_read bytes).fault ≡ None) }
+{}
+
+/// The parts of any other text end in its first fault.
+pub fn large_parts_before_the_fault()
+    ensures { (bytes : List ℕ) (f : CertFault) → large_certificate_read bytes ≡ Err f
+        → ((large_parts_read bytes).fault ≡ Some f.kind) × ((large_parts_read bytes).line ≡ f.line) }
 {}
 
 /// A text without a first line has that fault whatever its version.

@@ -1,5 +1,6 @@
 //! Certificates of worked histories, writers that fail, altered texts, and readers that fail.
 mod large;
+mod large_parts;
 mod parts;
 mod rows;
 mod streams;

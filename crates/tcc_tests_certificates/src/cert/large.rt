@@ -8,17 +8,17 @@ use std::process::Abort;
 use std::test::Fail;
 use tcc_cert::{CertFaultKind, VersionReader, read_large, reader_of, write_large};
 
-const NO_RUNS: &str = "tcc-certificate 3 causal\norder 1 0 0\nend\n";
+pub const NO_RUNS: &str = "tcc-certificate 3 causal\norder 1 0 0\nend\n";
 
-const RUNS: &str = "tcc-certificate 3 causal\norder 11 2 3\n0 4\n1 5\n0 1\nend\n";
+pub const RUNS: &str = "tcc-certificate 3 causal\norder 11 2 3\n0 4\n1 5\n0 1\nend\n";
 
-const LEAST_STALE_READ: &str =
+pub const LEAST_STALE_READ: &str =
     "tcc-certificate 3 causal\ncycle 3 2 3\nS 0 1\nD 1 0 x 2 1\nS 1 2\nleast 0\nend\n";
 
-const NO_LEAST: &str =
+pub const NO_LEAST: &str =
     "tcc-certificate 3 atomic\ncycle 4 2 4\nD 1 2 x 3 1\nR 1 3 x\nD 2 1 x 3 1\nR 2 3 x\nend\n";
 
-const FIVE_STEPS: &str = "tcc-certificate 3 causal\ncycle 5 2 5\nS 0 1\nD 1 0 x 4 3\nR 1 2 x\n\
+pub const FIVE_STEPS: &str = "tcc-certificate 3 causal\ncycle 5 2 5\nS 0 1\nD 1 0 x 4 3\nR 1 2 x\n\
     R 2 3 y\nS 3 4\nleast 3\n0 1\n1 1\n2 2\nend\n";
 
 /// The greatest numbers that a text may have.
