@@ -22,7 +22,7 @@ use Rattle.tcc_graph.proofs.Linking.{link_route}
 use Rattle.tcc_graph.proofs.WriterLemmas.{writer_in, read_is_key}
 use Rattle.tcc_clocks.specs.Parents.{parents, previous, previous_one, sources}
 use Rattle.tcc_order.specs.private.Held.{holds}
-use Rattle.tcc_order.specs.private.Keeping.{IsCovered, AreDerived, AreEnough, AreLinks, Derives, Overwrites, HasNone}
+use Rattle.tcc_order.specs.private.Keeping.{IsCovered, IsKeptUpTo, AreDerived, AreEnough, AreLinks, Derives, Overwrites, HasNone}
 use Rattle.tcc_clocks.specs.Clocks.{LeadsOnward}
 use Rattle.tcc_order.specs.private.Numbering.{IsOrderOf, IsFirstOf, Joins, HasCircle}
 use Rattle.tcc_order.proofs.Fronts.{holds_there, holds_parts}
@@ -101,11 +101,18 @@ module _ (h : History) (numbered : IsBySession h.entries) (kept : List (List ℕ
   reached_first a b ([], w) = absurd (omega (arith, w.0))
   reached_first a b (s ∷ steps, w) = walk_first a b s steps w.1
 
-  covered_first : (a b : ℕ) → a < count h → ((d : ℕ) → Contains (row_of kept a) d → d < count h) → IsCovered h kept a b → Before order b a
+  covered_first : (a b : ℕ) → a < count h → ((e d : ℕ) → Contains (row_of kept e) d → d < count h) → IsCovered h kept a b → Before order b a
   covered_first a b low inside (d, way, rest) = by way
     where
-      last : Contains (row_of kept a) d ⊎ IsReached h d a → Before order d a
-      last (inl there) = is.ordered d a (holds_there h kept d a (inside d there) low (Contains-append_right (parents h a) (row_of kept a) d there))
+      into : (e : ℕ) → e < count h → Contains (row_of kept e) d → Before order d e
+      into e under there = is.ordered d e (holds_there h kept d e (inside e d there) under (Contains-append_right (parents h e) (row_of kept e) d there))
+
+      up : (e : ℕ) → Contains (row_of kept e) d → (e ≡ a) ⊎ IsSessionPair h e a → Before order d a
+      up e there (inl same) = subst (λ (z : ℕ). Before order d z) same (into e (omega (arith, low, same)) there)
+      up e there (inr pair) = before_join (count h) order d e a is.numbering (into e (session_ends h e a pair).0 there) (pairs_first e a (inl pair))
+
+      last : IsKeptUpTo h kept a d ⊎ IsReached h d a → Before order d a
+      last (inl (e, there, up_to)) = up e there up_to
       last (inr reached) = reached_first d a reached
 
       by : (b ≡ d) ⊎ IsSessionPair h b d → Before order b a
@@ -128,7 +135,7 @@ module _ (j : Judged) (numbered : IsBySession j.history.entries) (kept : List (L
           let some : 0 < a = omega (arith, init, w.2.4) in
           pairs_first j.history numbered kept order is b a (inl (rw init (session_init j.history a some w.0)))
       go b a w (inr other) =
-          covered_first j.history numbered kept order is a b w.0 (λ d there. (links.derived a d there).1) (links.enough a b w (omega arith) tt)
+          covered_first j.history numbered kept order is a b w.0 (λ e d there. (links.derived e d there).1) (links.enough a b w (omega arith) tt)
 
   order_of : (order : List ℕ) → IsCommitOrder j order → IsOrderOf (holds j.history kept) (count j.history) order
   order_of order is = record {

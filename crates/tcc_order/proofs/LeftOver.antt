@@ -1,5 +1,5 @@
 -- Where no transaction can be placed next: what is left, and the cycle that there is then.
-use Rattle.std.proofs.Common.{◌≡◌, ◌<◌, ◌∙◌, ◌⊎◌, inl, inr, ℕ, Bool, true, List, [], ◌∷◌, length, sym}
+use Rattle.std.proofs.Common.{◌≡◌, ◌<◌, ◌∙◌, ◌⊎◌, inl, inr, ℕ, Bool, true, false, List, [], ◌∷◌, length, sym}
 use Rattle.std.specs.List.{Contains}
 use Rattle.std.proofs.lemmas.List.Elements.{Contains-append_left, Contains-append_right, Contains-append_cases}
 use Rattle.tcc_reads.specs.History.{History, IsBySession, count}
@@ -8,11 +8,13 @@ use Rattle.tcc_graph.specs.Relations.{IsCausalPair}
 use Rattle.tcc_graph.specs.Routes.{HasCycle}
 use Rattle.tcc_graph.specs.Tables.{row_of}
 use Rattle.tcc_graph.specs.Walks.{IsReached}
+use Rattle.tcc_bits.specs.Bits.{is_marked}
+use Rattle.tcc_bits.proofs.Lists.{nothing_in}
 use Rattle.tcc_graph.proofs.Walking.{pair_walk, reached_append}
 use Rattle.tcc_graph.proofs.WriterLemmas.{writer_writes, writer_in, read_is_key}
 use Rattle.tcc_clocks.specs.Parents.{parents, previous_one, sources}
 use Rattle.tcc_clocks.proofs.Reaching.{parent_before, parent_one, source_reads}
-use Rattle.tcc_order.specs.Placements.{IsDerivedPair, IsLeft, HoldsBack, IsStuck}
+use Rattle.tcc_order.specs.Placements.{IsDerivedPair, IsLeft, HoldsBack, IsStuck, ArePairsStuck}
 use Rattle.tcc_order.specs.private.Held.{befores, holds, IsFreeBy}
 use Rattle.tcc_order.specs.private.Keeping.{AreDerived, Derives, HasNone}
 use Rattle.tcc_order.specs.private.Numbering.{Joins, HasCircle}
@@ -91,3 +93,29 @@ module _ (h : History) (numbered : IsBySession h.entries) (kept : List (List ℕ
     where
       go : HasCircle (holds h kept) → (a : ℕ) × IsReached h a a
       go (a, between, p) = (a, joined a a between p)
+
+-- right before each that is left stands one that is left
+pub pairs_left : (h : History) (kept : List (List ℕ)) → HasNone kept → (placed : List ℕ) → IsStuckBy (holds h kept) (count h) placed → ArePairsStuck h placed
+pairs_left h kept none placed is = record { some = (is.some.0, is.some.1.0, is.some.1.1); held = λ x low left. held x (is.held x (low, left)) }
+  where
+    parent : (b x : ℕ) → Contains (parents h x) b ⊎ Contains (row_of kept x) b → Contains (parents h x) b
+    parent b x (inl one) = one
+    parent b x (inr one) = absurd (none x b one)
+
+    held : (x : ℕ) → (b : ℕ) × IsLeftOut (count h) placed b × (holds h kept b x ≡ true)
+        → (b : ℕ) × (b < count h) × (is_marked placed b ≡ false) × Contains (parents h x) b
+    held x (b, left, p) = (b, left.0, left.1, parent b x (Contains-append_cases (parents h x) (row_of kept x) b (holds_parts h kept b x p).2))
+
+-- and so one reaches itself
+pub pairs_circle : (h : History) → IsBySession h.entries → (placed : List ℕ) → ArePairsStuck h placed → (a : ℕ) × IsReached h a a
+pairs_circle h numbered placed is = stuck_pairs h numbered [] nothing placed record {
+  some = (is.some.0, (is.some.1, is.some.2));
+  held = λ x left. held x left.0 (is.held x left.0 left.1);
+}
+  where
+    nothing : HasNone []
+    nothing x b there = nothing_in b there
+
+    held : (x : ℕ) → x < count h → (b : ℕ) × (b < count h) × (is_marked placed b ≡ false) × Contains (parents h x) b
+        → (b : ℕ) × IsLeftOut (count h) placed b × (holds h [] b x ≡ true)
+    held x low (b, small, left, one) = (b, (small, left), holds_there h [] b x small low (Contains-append_left (parents h x) [] b one))

@@ -14,6 +14,7 @@ mod WorkedClocks
 pub mod Readings
 pub mod KeptRows
 pub mod Needing
+pub mod ByKey
 pub mod Finding
 pub mod LeftOver
 pub mod Stepped

@@ -30,7 +30,7 @@ mapped_from f (r ∷ rs) (q ∷ ps) c x (zero, l, e) = (q, (0, omega arith, ap (
 mapped_from f (r ∷ rs) (q ∷ ps) c x (suc k, l, e) = let w = mapped_from f rs ps c x (k, omega arith, e) in (w.0, (suc w.1.0, omega (arith, w.1.1), w.1.2), w.2)
 
 -- what is read stands at some place among the keys
-key_place : (h : History) (a c : ℕ) (x : List ℕ) → IsReadsPair h a c x → (p : ℕ) × (p < length (keys h)) × (key_at h p ≡ x)
+pub key_place : (h : History) (a c : ℕ) (x : List ℕ) → IsReadsPair h a c x → (p : ℕ) × (p < length (keys h)) × (key_at h p ≡ x)
 key_place h a c x pair =
     let there = has_name-contains (keys h) x (has_name-keys h x ∙ read_is_key h a c x pair) in
     (there.0, there.1, get_or_default (keys h) there.0 [] x there.1 ∙ there.2)

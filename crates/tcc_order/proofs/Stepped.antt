@@ -195,7 +195,7 @@ atomic_links h kept n whole are = record {
     enough a b (small, below, (c, x, pair, writer, apart, way)) some =
         let w : StepsOver h c x a b = record { some = some; writer = writer; apart = apart; pair = walk_pair h b c way.0 way.1.0 way.1.1 } in
         let v = (are.1 a (omega (arith, small, whole))).enough c x b pair tt w in
-        (v.0, v.1, inl v.2)
+        (v.0, v.1, inl (a, v.2, inl refl))
 
 -- ---- numbers kept one by one
 abbrev pub Adds : List ℕ → ℕ → List ℕ → List ℕ → List ℕ → Type 0

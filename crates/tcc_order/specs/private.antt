@@ -5,5 +5,6 @@ pub mod Held
 pub mod Placed
 pub mod Queued
 pub mod Keeping
+pub mod ByKey
 pub mod Found
 pub mod Stepping

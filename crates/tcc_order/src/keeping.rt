@@ -1,6 +1,8 @@
 //! The links at `Causal` that are kept: of each transaction and each session the last one that has to stand before it, where
-//! it doesn't reach it.
-ghost use Rattle.std.specs.Prelude.{◌≡◌, ◌≢◌, ◌<◌, ◌≤◌, ◌+◌, ◌⊎◌, ◌↔◌, ℕ, length, slice_index, All, Contains, IfOk, OnOk};
+//! it doesn't reach it. One that an earlier transaction of the same session has too is kept there alone. For N transactions of S
+//! sessions, R reads, P pairs of a source and a key that is read from it, and W writers of a key that takes
+//! O(S (N + R + P log W)).
+ghost use Rattle.std.specs.Prelude.{◌≡◌, ◌≢◌, ◌<◌, ◌≤◌, ◌+◌, ◌-◌, ◌⊎◌, ◌↔◌, ℕ, length, slice_index, All, Contains, IfOk, OnOk};
 ghost use Rattle.tcc_reads.specs.History.{IsBySession, count, owner};
 ghost use Rattle.tcc_graph.specs.Relations.{IsReadsPair};
 ghost use Rattle.tcc_clocks.specs.Clocks.{AreOwners, AreClocks, LeadsOnward};
@@ -10,16 +12,19 @@ ghost use Rattle.tcc_graph.specs.Keys.{keys};
 ghost use Rattle.tcc_graph.specs.Tables.{row_of};
 ghost use Rattle.tcc_graph.specs.Orders.{IsNumbering};
 ghost use Rattle.tcc_clocks.specs.Parents.{ArePrevious};
-ghost use Rattle.tcc_order.specs.private.Keeping.{AreOrdered, CanLift, IsLastUpTo, IsLastBut, AreLatestPast, TellsNothing};
+ghost use Rattle.tcc_order.specs.private.Keeping.{AreOrdered, CanLift, IsLastUpTo, IsLastBut, AreLatestPast, TellsNothing, KeepsNews, IsBegun};
+ghost use Rattle.tcc_order.specs.private.ByKey.{AreReadingsFrom, AreReadingRows, IsTop, key_index_in, reader_in};
 ghost use Rattle.tcc_clocks.specs.Spans.{AreSpans, AreBounds};
 ghost use Rattle.tcc_clocks.specs.declared.latest.TheConstants.{WIDE};
 ghost use Rattle.std.specs.List.Sorted.{IsNonDecreasing, IsPartitionPoint};
 ghost use Rattle.std.specs.Prelude.{nat_le, true, false, ◌∷◌, []};
 
+use crate::by_key::readings_by_key;
 use std::alloc::Global;
 use tcc_bits::Row;
 use tcc_clocks::{
-    SharedRows, WIDE, between, block_bounds, find_clocks, find_spans, owners, steps_along,
+    Clock, SharedRows, WIDE, between, block_bounds, find_clocks, find_spans, owners, raise_each,
+    steps_along,
 };
 use tcc_graph::LargeGraph;
 use tcc_txn::NoMemory;
@@ -146,8 +151,46 @@ fn lift_writers(need: &mut [u32], owners: &[u32], from: u32, clock: &[u32], writ
     }
 }
 
+/// Where the readings of one key end that begin at `start`.
+fn end_of_key(readings: &[(u32, u32)], start: usize) -> usize
+    requires { start < length readings.now }
+    ensures past { start < result }
+    ensures within { result ≤ length readings.now }
+    ensures same { (k : ℕ) → start ≤ k → k < result → key_index_in readings.now k ≡ key_index_in readings.now start }
+{
+    let key_index = readings[start].1;
+    for index in start + 1..readings.len() {
+        if readings[index].1 != key_index {
+            return index;
+        }
+    }
+    readings.len()
+}
+
+/// Of each session of the block the greatest number that reaches one of the readers from `start` to below `end`. One with the
+/// clock of `a` is passed over.
+fn top_of(table: &SharedRows, readings: &[(u32, u32)], start: usize, end: usize, a: u32) -> Clock
+    requires upto { start ≤ end }
+    requires within { end ≤ length readings.now }
+    requires readers { (k : ℕ) → k < length readings.now → reader_in readings.now k < length table.now }
+    requires wide { (c : ℕ) → c < length table.now → length (row_of table.now c) ≡ WIDE }
+    requires below { a < length table.now }
+    ensures wide { length result ≡ WIDE }
+    ensures tops { (k : ℕ) → k < WIDE → IsTop table.now readings.now start end (row_of table.now a) k (slice_index result k) }
+{
+    let mut top = [0; WIDE];
+    for index in start..end {
+        let reader = readings[index].0;
+        if !table.are_same(reader, a) {
+            raise_each(&mut top, table.get(reader));
+        }
+    }
+    top
+}
+
 /// Of each session of the block the last transaction past those that reach `a` that has to stand before `a`: that overwrote
-/// a value of `a`, and reaches who read it. What reaches a reader with the clock of `a` reaches `a`.
+/// a value of `a`, and reaches who read it. What reaches a reader with the clock of `a` reaches `a`. The readers of one key are
+/// taken together, so that its writers are gone through once.
 fn needed(
     need: &mut [u32],
     graph: &LargeGraph,
@@ -156,6 +199,7 @@ fn needed(
     bounds: (usize, usize),
     spans: &[(usize, usize)],
     table: &SharedRows,
+    readings: &[(u32, u32)],
     a: u32,
 )
     requires wide { length need.old ≡ WIDE }
@@ -164,17 +208,19 @@ fn needed(
     requires bounds { AreBounds owners.now from bounds.0 bounds.1 }
     requires clocks { AreClocks graph.now from table.now }
     requires spans { AreSpans graph.now bounds.0 bounds.1 spans.now (length (keys graph.now)) }
+    requires readings { AreReadingsFrom graph.now a readings.now }
     requires below { a < count graph.now }
     ensures { AreLatestPast graph.now (IsOverwritten graph.now (IsReadsPair graph.now a) a) from (row_of table.now a) need.new }
 {
     need.fill(0);
-    let (readers, key_indices) = graph.readings_at(a);
-    for (index, reader) in readers.iter().enumerate() {
-        if !table.are_same(*reader, a) {
-            let key_index = key_indices[index];
-            let writers = between(graph.writers_at(key_index), spans[key_index as usize]);
-            lift_writers(need, owners, from, table.get(*reader), writers, a);
-        }
+    let mut start = 0;
+    while start < readings.len() {
+        let end = end_of_key(readings, start);
+        let top = top_of(table, readings, start, end, a);
+        let key_index = readings[start].1;
+        let writers = between(graph.writers_at(key_index), spans[key_index as usize]);
+        lift_writers(need, owners, from, &top, writers, a);
+        start = end;
     }
 }
 
@@ -193,15 +239,44 @@ fn has_news(graph: &LargeGraph, table: &SharedRows, a: u32) -> bool
     false
 }
 
-/// Keeps the numbers that are greater than those of the clock.
-fn keep(kept: &mut Row<u32>, need: &[u32], clock: &[u32]) -> Result<(), NoMemory>
-    requires { length need.now ≡ length clock.now }
-    ensures { OnOk result ((b : ℕ) → Contains kept.new b
-        ↔ (Contains kept.old b ⊎ ((k : ℕ) × (k < length need.now) × (slice_index need.now k ≡ b) × (slice_index clock.now k < b)))) }
+/// The number before `c`, if it is of the same session, or else 0.
+pub(crate) fn before_in_session(owners: &[u32], c: u32) -> u32
+    requires { c < length owners.now }
+    ensures own { (result ≡ 0) ⊎ ((result ≡ c - 1) × (slice_index owners.now result ≡ slice_index owners.now c)) }
+    ensures first { result ≡ 0 → (c ≡ 0) ⊎ ((c ≡ 1) ⊎ (slice_index owners.now (c - 1) ≢ slice_index owners.now c)) }
+{
+    if c > 0 && owners[(c - 1) as usize] == owners[c as usize] {
+        c - 1
+    } else {
+        0
+    }
+}
+
+/// Begins the run anew where `a` is the first transaction of its session.
+fn begin_session(run: &mut [u32], owners: &[u32], a: u32)
+    requires { a < length owners.now }
+    ensures same { length run.new ≡ length run.old }
+    ensures begun { IsBegun owners.now a run.old run.new }
+{
+    if before_in_session(owners, a) > 0 {
+        return;
+    }
+    run.fill(0);
+}
+
+/// Keeps the numbers that are greater than those of the clock and those of the run: what the run holds is kept already, into an
+/// earlier transaction of the session.
+fn keep(kept: &mut Row<u32>, need: &[u32], clock: &[u32], run: &mut [u32]) -> Result<(), NoMemory>
+    requires long { length need.now ≡ length clock.now }
+    requires runs { length run.old ≡ length need.now }
+    ensures same { length run.new ≡ length run.old }
+    ensures kept { OnOk result (KeepsNews need.now clock.now run.old run.new kept.old kept.new (length need.now)) }
 {
     for (session, number) in need.iter().enumerate() {
-        if *number > clock[session] {
+        let known = clock[session].max(run[session]);
+        if *number > known {
             kept.push(*number)?;
+            run[session] = *number;
         }
     }
     Ok(())
@@ -215,10 +290,12 @@ fn keep_block(
     owners: &[u32],
     from: u32,
     table: &SharedRows,
+    readings: &[Row<(u32, u32)>],
 ) -> Result<(), NoMemory>
     requires numbered { IsBySession graph.now.entries }
     requires owners { AreOwners graph.now owners.now }
     requires clocks { AreClocks graph.now from table.now }
+    requires readings { AreReadingRows graph.now readings.now }
     requires long { length kept.old ≡ count graph.now }
     requires derived { AreDerived (Overwrites graph.now) kept.old }
     requires enough { AreEnough graph.now (Overwrites graph.now) (λ a b. owner graph.now b < from) kept.old }
@@ -226,14 +303,19 @@ fn keep_block(
     ensures derived { OnOk result (AreDerived (Overwrites graph.now) kept.new) }
     ensures enough { OnOk result (AreEnough graph.now (Overwrites graph.now) (λ a b. owner graph.now b < from + WIDE) kept.new) }
 {
-    let mut need = vec![in alloc; 0; WIDE]?;
+    let mut need = [0; WIDE];
+    let mut run = [0; WIDE];
     let bounds = block_bounds(owners, from);
     let mut spans = Vec::new(alloc);
     find_spans(&mut spans, graph, bounds)?;
     for a in 0..graph.count() {
+        begin_session(&mut run, owners, a);
         if has_news(graph, table, a) {
-            needed(&mut need, graph, owners, from, bounds, &spans, table, a);
-            keep(&mut kept[a as usize], &need, table.get(a))?;
+            let from_a = readings[a as usize].as_slice();
+            needed(
+                &mut need, graph, owners, from, bounds, &spans, table, from_a, a,
+            );
+            keep(&mut kept[a as usize], &need, table.get(a), &mut run)?;
         }
     }
     Ok(())
@@ -266,12 +348,13 @@ pub(crate) fn causal_links(
     let owners = owners(alloc, graph)?;
     let mut kept = no_links(alloc, graph.count())?;
     let mut table = SharedRows::new(alloc, graph.count())?;
+    let readings = readings_by_key(alloc, graph)?;
     let steps = steps_along(alloc, graph, parents, order)?;
     let sessions = graph.sessions().len();
     for block in 0..sessions.div_ceil(WIDE) {
         let from = (block * WIDE) as u32;
         find_clocks(&mut table, graph, &owners, from, order, &steps)?;
-        keep_block(alloc, &mut kept, graph, &owners, from, &table)?;
+        keep_block(alloc, &mut kept, graph, &owners, from, &table, &readings)?;
     }
     Ok(kept)
 }

@@ -2,6 +2,7 @@
 //! table of two transactions each; and the law that there is one exactly where there is no cycle.
 #![tactic(auto)]
 
+mod by_key;
 mod clocking;
 mod keeping;
 pub mod laws;
@@ -12,5 +13,5 @@ mod ready;
 mod stepping;
 
 pub use clocking::clocks;
-pub use ordering::{order, order_of_pairs, place};
-pub use placement::{Placement, Stuck};
+pub use ordering::{order, order_of_pairs, place, place_pairs};
+pub use placement::{PairPlacement, Placement, Stuck};

@@ -8,11 +8,11 @@ ghost use Rattle.tcc_graph.specs.Levels.{causally, judged};
 ghost use Rattle.tcc_graph.specs.declared.level.Level.{Level};
 ghost use Rattle.tcc_clocks.specs.Parents.{ArePrevious};
 ghost use Rattle.tcc_clocks.specs.Clocks.{LeadsOnward};
-ghost use Rattle.tcc_order.specs.Placements.{IsPlacement};
+ghost use Rattle.tcc_order.specs.Placements.{IsPlacement, IsPairPlacement};
 ghost use Rattle.tcc_order.specs.private.Found.{AreFound};
 
 use crate::keeping::{causal_links, no_links};
-use crate::placement::{Placement, Stuck};
+use crate::placement::{PairPlacement, Placement, Stuck};
 use crate::placing::{Placed, first_placing};
 use crate::stepping::atomic_links;
 use std::alloc::Global;
@@ -90,6 +90,21 @@ pub fn order(alloc: Global, graph: &LargeGraph, level: Level) -> Result<Option<V
     }
 }
 
+/// An order of all transactions in which causal pairs lead onward, or where it stops: transactions of which each is held back by
+/// another, by a causal pair.
+pub fn place_pairs(alloc: Global, graph: &LargeGraph) -> Result<PairPlacement, NoMemory>
+    ensures { IfOk result (IsPairPlacement graph.now) }
+{
+    // transactions stand by session and by place, as this call says
+    graph.sessions();
+    let parents = previous_of_each(alloc, graph)?;
+    let none = no_links(alloc, graph.count())?;
+    match first_placing(alloc, graph, &parents, &none)? {
+        Placed::Order(order) => Ok(PairPlacement::Order(order)),
+        Placed::Stuck(placed) => Ok(PairPlacement::Stuck(placed)),
+    }
+}
+
 /// An order of all transactions in which causal pairs lead onward; none exactly where a transaction reaches itself by them.
 pub fn order_of_pairs(alloc: Global, graph: &LargeGraph) -> Result<Option<Vec<u32>>, NoMemory>
     ensures { IfOk result (λ found. MatchOption found
@@ -98,10 +113,8 @@ pub fn order_of_pairs(alloc: Global, graph: &LargeGraph) -> Result<Option<Vec<u3
 {
     // transactions stand by session and by place, as this call says
     graph.sessions();
-    let parents = previous_of_each(alloc, graph)?;
-    let none = no_links(alloc, graph.count())?;
-    match first_placing(alloc, graph, &parents, &none)? {
-        Placed::Order(order) => Ok(Some(order)),
-        Placed::Stuck(_placed) => Ok(None),
+    match place_pairs(alloc, graph)? {
+        PairPlacement::Order(order) => Ok(Some(order)),
+        PairPlacement::Stuck(_placed) => Ok(None),
     }
 }

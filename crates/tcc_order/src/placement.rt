@@ -17,3 +17,13 @@ pub struct Stuck {
     pub kept: Vec<Row<u32>>,
     pub placed: Vec<u64>,
 }
+
+/// An order of the causal pairs alone, or where it stops.
+#[derive(Drop)]
+pub enum PairPlacement {
+    /// The numbers of all transactions, in an order in which causal pairs lead onward.
+    Order(Vec<u32>),
+    /// Marks of the transactions that were placed until none could be placed next. Each that is left stands right behind one that
+    /// is left, in its session or as it reads from it.
+    Stuck(Vec<u64>),
+}

@@ -12,25 +12,12 @@ ghost use Rattle.tcc_clocks.specs.Clocks.{AreOwners};
 ghost use Rattle.tcc_order.specs.private.Keeping.{IsLifted, AreLinks, AreOrdered};
 ghost use Rattle.tcc_order.specs.private.Stepping.{IsOther, IsReader, KeepsRead, KeepsInto};
 
-use crate::keeping::{last_up_to, lift_session};
+use crate::keeping::{before_in_session, last_up_to, lift_session};
 use std::alloc::{AllocError, Global};
 use tcc_bits::Row;
 use tcc_clocks::{find_parents, owners};
 use tcc_graph::LargeGraph;
 use tcc_txn::NoMemory;
-
-/// The number before `c`, if it is of the same session, or else 0.
-fn before_in_session(owners: &[u32], c: u32) -> u32
-    requires { c < length owners.now }
-    ensures own { (result ≡ 0) ⊎ ((result ≡ c - 1) × (slice_index owners.now result ≡ slice_index owners.now c)) }
-    ensures first { result ≡ 0 → (c ≡ 0) ⊎ ((c ≡ 1) ⊎ (slice_index owners.now (c - 1) ≢ slice_index owners.now c)) }
-{
-    if c > 0 && owners[(c - 1) as usize] == owners[c as usize] {
-        c - 1
-    } else {
-        0
-    }
-}
 
 /// The last writer other than `a` before `c` in its session, or 0 where there is none.
 fn last_writer(owners: &[u32], writers: &[u32], c: u32, a: u32) -> u32

@@ -1,7 +1,7 @@
 -- The links that are kept, by the greatest numbers of the sessions of a block.
-use Rattle.std.specs.Prelude.{ℕ, ◌<◌, ◌≤◌, ◌+◌, ◌≡◌, ◌≢◌, ◌⊎◌, ◌==◌, ◌&&◌, nat_lt, nat_le, not, if◌then◌else◌, max, List, length, slice_index, All, Contains}
+use Rattle.std.specs.Prelude.{ℕ, ◌<◌, ◌≤◌, ◌+◌, ◌-◌, ◌≡◌, ◌≢◌, ◌⊎◌, ◌==◌, ◌&&◌, nat_lt, nat_le, not, if◌then◌else◌, max, List, length, slice_index, All, Contains}
 use Rattle.std.specs.List.Sorted.{IsNonDecreasing}
-use Rattle.tcc_reads.specs.History.{History, count}
+use Rattle.tcc_reads.specs.History.{History, count, owner}
 use Rattle.tcc_graph.specs.Relations.{IsReadsPair, IsSessionPair}
 use Rattle.tcc_graph.specs.Keys.{writers}
 use Rattle.tcc_graph.specs.Tables.{row_of}
@@ -43,9 +43,38 @@ abbrev pub lifted_by : List ℕ → ℕ → List ℕ → ℕ → ℕ → ℕ →
 lifted_by owners from clock a b k latest =
     if (nat_lt 0 b && not (b == a)) && ((slice_index owners b == from + k) && nat_le b (slice_index clock k)) then max b latest else latest
 
--- b stands before a by what is kept: a later one of its session, or itself, is kept or reaches a
+-- a link from d is kept into a, or into an earlier transaction of its session
+abbrev pub IsKeptUpTo : History → List (List ℕ) → ℕ → ℕ → Type 0
+IsKeptUpTo h kept a d = (e : ℕ) × Contains (row_of kept e) d × ((e ≡ a) ⊎ IsSessionPair h e a)
+
+-- b stands before a by what is kept: a later one of its session, or itself, is kept so or reaches a
 abbrev pub IsCovered : History → List (List ℕ) → ℕ → ℕ → Type 0
-IsCovered h kept a b = (d : ℕ) × ((b ≡ d) ⊎ IsSessionPair h b d) × (Contains (row_of kept a) d ⊎ IsReached h d a)
+IsCovered h kept a b = (d : ℕ) × ((b ≡ d) ⊎ IsSessionPair h b d) × (IsKeptUpTo h kept a d ⊎ IsReached h d a)
+
+-- a link from d is kept into a transaction before a of the session at this index
+abbrev pub IsKeptEarlier : History → List (List ℕ) → ℕ → ℕ → ℕ → Type 0
+IsKeptEarlier h kept a session d = (e : ℕ) × (0 < e) × (e < a) × (owner h e ≡ session) × Contains (row_of kept e) d
+
+-- of each session of the block 0, or a transaction that is kept so
+abbrev pub AreRuns : History → List (List ℕ) → ℕ → ℕ → ℕ → List ℕ → Type 0
+AreRuns h kept from a session run =
+    (k : ℕ) → k < WIDE → (slice_index run k ≡ 0) ⊎ IsOneOf h (IsKeptEarlier h kept a session) (from + k) (slice_index run k)
+
+-- of the first n sessions: what is kept anew is more than the clock's number, each number that is more than this and than the
+-- run's is kept, and the run goes on with what is kept
+pub record KeepsNews (need : List ℕ) (clock : List ℕ) (before : List ℕ) (after : List ℕ) (old : List ℕ) (new : List ℕ) (n : ℕ) : Type 0 where
+  pub same : length after ≡ length before
+  pub later : (k : ℕ) → n ≤ k → slice_index after k ≡ slice_index before k
+  pub sound : (b : ℕ) → Contains new b → Contains old b ⊎ ((k : ℕ) × (k < n) × (slice_index need k ≡ b) × (slice_index clock k < b))
+  pub wider : (b : ℕ) → Contains old b → Contains new b
+  pub enough : (k : ℕ) → k < n → (slice_index need k ≤ max (slice_index clock k) (slice_index before k)) ⊎ Contains new (slice_index need k)
+  pub run : (k : ℕ) → k < n
+      → (slice_index after k ≡ slice_index before k) ⊎ ((slice_index after k ≡ slice_index need k) × Contains new (slice_index need k))
+
+-- a is the first of its session and nothing is left of the run, or the run goes on from the one before it
+abbrev pub IsBegun : List ℕ → ℕ → List ℕ → List ℕ → Type 0
+IsBegun owners a old new =
+    ((k : ℕ) → k < length new → slice_index new k ≡ 0) ⊎ ((1 < a) × (slice_index owners (a - 1) ≡ slice_index owners a) × (new ≡ old))
 
 -- each link that is kept is a derived pair
 abbrev pub AreDerived : (ℕ → ℕ → Type 0) → List (List ℕ) → Type 0

@@ -1,111 +1,102 @@
-use Rattle.std.proofs.Common.{rules, ◌≡◌, ◌<◌, ◌∙◌, ℕ, length, get_or, map, slice_index, sym, arith}
-use Rattle.std.specs.Prelude.{zip}
+use Rattle.std.proofs.Common.{rules, ◌≡◌, ◌<◌, ◌≤◌, ◌∙◌, ℕ, ap, length, get_or, slice_index, subst, sym, arith}
 use Rattle.tcc_reads.specs.History.{count}
 use Rattle.tcc_graph.specs.Keys.{key_at, writers}
 use Rattle.tcc_graph.specs.Tables.{row_of}
-use Rattle.tcc_order.specs.private.Keeping.{IsLifted}
+use Rattle.tcc_order.specs.private.Keeping.{AreLatestPast, IsOverwritten, IsLifted}
+use Rattle.tcc_order.specs.private.ByKey.{key_index_in}
 use Rattle.tcc_clocks.specs.private.Between.{IsBetween}
 use Rattle.tcc_clocks.specs.declared.latest.TheConstants.{WIDE}
-use Rattle.tcc_order.proofs.Needing.{past_none, overwritten_next, overwritten_same, overwritten_all}
-use Rattle.tcc_order.proofs.Rising.{owners_ordered, latest_clock}
-use Rattle.tcc_order.proofs.Readings.{reader_below}
+use Rattle.tcc_order.proofs.ByKey.{IsReadBefore, read_none, read_more, read_all, reading_below, reading_key, top_clock}
+use Rattle.tcc_order.proofs.Rising.{owners_ordered}
 use Rattle.tcc_order.proofs.Spans.{lifted_between}
 use Rattle.tcc_clocks.proofs.SpanLemmas.{all_between, between_span, writers_rise}
 use Rattle.tcc_order.proofs.Stepped.{writers_inside}
 use Rattle.tcc_order.proofs.keeping.needed.Goals as goal
-use Rattle.tcc_order.proofs.keeping.needed.Goals.{After-are_same, then-not-are_same, else-not-are_same}
 
-pub loop-index-init : goal.loop-index-init
-loop-index-init c =
-    let h = c.args.graph.now in
-    let a = c.args.a in
-    let pairs = zip c.readings_at.result.0.now (map (key_at h) c.readings_at.result.1.now) in
+pub loop-start-init : goal.loop-start-init
+loop-start-init c =
     let zeros : (k : ℕ) → k < length c.fill.new.self → get_or c.fill.new.self k 0 ≡ 0 = search rules in
     let wide : length c.fill.new.self ≡ WIDE = c.fill.ensures.len ∙ c.requires.wide in
-    past_none h c.requires.numbered c.args.owners.now c.requires.owners c.args.from a pairs c.fill.new.self (row_of c.args.table.now a) wide zeros
+    (omega arith, read_none c.args.graph.now c.args.from c.args.a c.args.readings.now c.fill.new.self (row_of c.args.table.now c.args.a) wide zeros)
 
--- the transaction that reads, and the writers of its key that are looked at
-reader : (c : After-are_same) → get_or c.readings_at.result.0.now c.loop-index.index 0 < count c.args.graph.now
-reader c =
-    let readings = c.readings_at.ensures in
-    reader_below c.args.graph.now c.args.a _ _ readings.long readings.each c.loop-index.index c.loop-index-test.true
+pub top_of-top-requires-clause-readers : goal.top_of-top-requires-clause-readers
+top_of-top-requires-clause-readers c = λ k l.
+    omega (arith, reading_below c.args.graph.now c.args.a c.args.readings.now c.requires.readings k l, c.requires.clocks.long)
 
-pub are_same-requires-clause-one : goal.are_same-requires-clause-one
-are_same-requires-clause-one c =
-    let readings = c.readings_at.ensures in
-    let below = reader_below c.args.graph.now c.args.a _ _ readings.long readings.each c.loop-index.index c.loop-index-test.true in
-    omega (arith, below, c.requires.clocks.long)
-
-pub get-requires : goal.get-requires
-get-requires c = omega (arith, reader (goal.at.get-requires c).After-are_same, c.requires.clocks.long)
+pub top_of-top-requires-clause-wide : goal.top_of-top-requires-clause-wide
+top_of-top-requires-clause-wide c = λ n l. let below : n < count c.args.graph.now = omega (arith, l, c.requires.clocks.long) in (c.requires.clocks.each n below below).wide
 
 pub lift_writers-requires : goal.lift_writers-requires
 lift_writers-requires c =
     let h = c.args.graph.now in
     let owners = c.args.owners.now in
+    let table = c.args.table.now in
+    let readings = c.args.readings.now in
+    let a = c.args.a in
     let low = c.args.bounds.0 in
     let high = c.args.bounds.1 in
-    let one : ℕ = get_or c.readings_at.result.0.now c.loop-index.index 0 in
-    let key : ℕ = get_or c.readings_at.result.1.now c.loop-index.index 0 in
-    let below = reader (goal.at.lift_writers-requires c).After-are_same in
-    let reaches = c.requires.clocks.each one below below in
+    let start = c.loop-start.start in
+    let end = c.end_of_key-end.result in
+    let top = c.top_of-top.result in
+    let key : ℕ = key_index_in readings start in
     let ws = writers h (key_at h key) in
-    let inside : c.loop-index.index < length c.readings_at.result.1.now = omega (arith, c.loop-index-test.true, c.readings_at.ensures.long) in
-    let span = c.requires.spans.each key (c.readings_at.ensures.within c.loop-index.index 0 inside) in
+    let span = c.requires.spans.each key (reading_key h a readings c.requires.readings start c.loop-start-test.true) in
     let part : IsBetween ws low high c.between-writers.result.now
     = rw (c.between-writers.ensures, c.writers_at.ensures) (between_span ws (writers_rise h (key_at h key)) low high _ _ span) in
-    rw c.get.ensures record {
-      same = c.loop-index.invariant.wide ∙ sym reaches.wide;
+    record {
+      same = c.loop-start.invariant.1.wide ∙ sym c.top_of-top.ensures.wide;
       ordered = owners_ordered h c.requires.numbered owners c.requires.owners;
-      owned = latest_clock h owners c.requires.owners one c.args.from (row_of c.args.table.now one) reaches;
+      owned = top_clock h c.requires.numbered owners c.requires.owners c.args.from a readings table c.requires.clocks
+          (reading_below h a readings c.requires.readings) start end c.end_of_key-end.ensures.within top (row_of table a) c.top_of-top.ensures.wide
+          c.top_of-top.ensures.tops;
       rising = part.rising;
       inside = all_between (λ b. b < length owners) ws low high c.between-writers.result.now part (writers_inside h owners c.requires.owners (key_at h key));
     }
 
-pub loop-index-preserved : goal.loop-index-preserved
-loop-index-preserved c =
+pub loop-start-preserved : goal.loop-start-preserved
+loop-start-preserved c =
     let h = c.args.graph.now in
-    let a = c.args.a in
-    let from = c.args.from in
     let owners = c.args.owners.now in
+    let from = c.args.from in
     let table = c.args.table.now in
-    let k = c.loop-index.index in
-    let rs = c.readings_at.result.0.now in
-    let ps = c.readings_at.result.1.now in
-    let readings = c.readings_at.ensures in
-    let reader : ℕ = get_or rs k 0 in
-    let key : ℕ = get_or ps k 0 in
-    let below = reader_below h a rs ps readings.long readings.each k c.loop-index-test.true in
-    let reaches = c.requires.clocks.each reader below below in
-    let old = c.loop-index.need in
-    let clock = row_of table reader in
-    let ws = writers h (key_at h key) in
+    let readings = c.args.readings.now in
+    let a = c.args.a in
     let low = c.args.bounds.0 in
     let high = c.args.bounds.1 in
-    elim c.if-not-are_same.branch [
-      | then-not-are_same w ↦ (
-          let new = w.lift_writers.new.need in
-          let inside : k < length ps = omega (arith, c.loop-index-test.true, readings.long) in
-          let part : IsBetween ws low high w.between-writers.result.now
-          = rw (w.between-writers.ensures, w.writers_at.ensures)
-          (between_span ws (writers_rise h (key_at h key)) low high _ _ (c.requires.spans.each key (readings.within k 0 inside))) in
-          let some : (s : ℕ) → s < length old → IsLifted owners from clock w.between-writers.result.now a s (slice_index old s) (slice_index new s)
-          = rw w.get.ensures at w.lift_writers.ensures.each in
-          let lift : (s : ℕ) → s < length old → IsLifted owners from clock ws a s (slice_index old s) (slice_index new s)
-          = λ s l.
-          lifted_between owners from low high clock ws w.between-writers.result.now a s (slice_index old s) (slice_index new s)
-          (omega (arith, l, c.loop-index.invariant.wide)) c.requires.bounds (writers_inside h owners c.requires.owners (key_at h key)) part (some s l) in
-          rw w.need-is
-          (overwritten_next h a rs ps readings.long readings.each c.requires.numbered owners c.requires.owners from k c.loop-index-test.true old
-          (row_of table a) clock c.loop-index.invariant reaches new w.lift_writers.ensures.same lift)
-          )
-      | else-not-are_same w ↦ rw w.need-is
-          (overwritten_same h a rs ps readings.long readings.each c.requires.numbered owners c.requires.owners from k c.loop-index-test.true old
-          (row_of table a) clock c.loop-index.invariant reaches (c.are_same.ensures w.if-not-are_same.false))
-    ]
+    let start = c.loop-start.start in
+    let end = c.end_of_key-end.result in
+    let top = c.top_of-top.result in
+    let old = c.loop-start.need in
+    let new = c.lift_writers.new.need in
+    let inv = c.loop-start.invariant in
+    let key : ℕ = key_index_in readings start in
+    let ws = writers h (key_at h key) in
+    let span = c.requires.spans.each key (reading_key h a readings c.requires.readings start c.loop-start-test.true) in
+    let part : IsBetween ws low high c.between-writers.result.now
+    = rw (c.between-writers.ensures, c.writers_at.ensures) (between_span ws (writers_rise h (key_at h key)) low high _ _ span) in
+    let some : (s : ℕ) → s < length old → IsLifted owners from top c.between-writers.result.now a s (slice_index old s) (slice_index new s)
+    = c.lift_writers.ensures.each in
+    let lift : (s : ℕ) → s < length old → IsLifted owners from top ws a s (slice_index old s) (slice_index new s)
+    = λ s l.
+    lifted_between owners from low high top ws c.between-writers.result.now a s (slice_index old s) (slice_index new s)
+    (omega (arith, l, inv.1.wide)) c.requires.bounds (writers_inside h owners c.requires.owners (key_at h key)) part (some s l) in
+    let upto : start ≤ end = omega (arith, c.end_of_key-end.ensures.past) in (
+      c.end_of_key-end.ensures.within,
+      read_more h c.requires.numbered owners c.requires.owners from a readings table c.requires.clocks (reading_below h a readings c.requires.readings) start end
+          c.end_of_key-end.ensures.within top (row_of table a) c.top_of-top.ensures.wide c.top_of-top.ensures.tops upto (key_at h key)
+          (λ j above less. ap (λ p. key_at h p) (c.end_of_key-end.ensures.same j above less)) old new inv.1 c.lift_writers.ensures.same lift,
+    )
+
+pub loop-start-smaller : goal.loop-start-smaller
+loop-start-smaller c = omega (arith, c.end_of_key-end.ensures.past, c.end_of_key-end.ensures.within)
 
 pub returns : goal.returns
 returns c =
-    let readings = c.readings_at.ensures in
-    overwritten_all c.args.graph.now c.args.a _ _ readings.long readings.each c.args.from (row_of c.args.table.now c.args.a) c.loop-index.need c.loop-index.index
-    (omega (arith, c.loop-index-test.false)) c.loop-index.invariant
+    let h = c.args.graph.now in
+    let a = c.args.a in
+    let readings = c.args.readings.now in
+    let known = row_of c.args.table.now a in
+    let need = c.loop-start.need in
+    let whole : c.loop-start.start ≡ length readings = omega (arith, c.loop-start-test.false, c.loop-start.invariant.0) in
+    read_all h a readings c.requires.readings c.args.from known need
+    (subst (λ (z : ℕ). AreLatestPast h (IsOverwritten h (IsReadBefore h readings z) a) c.args.from known need) whole c.loop-start.invariant.1)

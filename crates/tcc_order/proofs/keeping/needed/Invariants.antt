@@ -1,11 +1,13 @@
-use Rattle.std.proofs.Common.{map}
-use Rattle.std.specs.Prelude.{zip}
-use Rattle.tcc_graph.specs.Keys.{key_at}
+use Rattle.std.proofs.Common.{◌≤◌, ◌-◌, length}
 use Rattle.tcc_graph.specs.Tables.{row_of}
 use Rattle.tcc_order.specs.private.Keeping.{AreLatestPast, IsOverwritten}
-use Rattle.tcc_order.proofs.Readings.{IsTaken}
+use Rattle.tcc_order.proofs.ByKey.{IsReadBefore}
 use Rattle.tcc_order.proofs.keeping.needed.Given as goal
 
-abbrev pub invariant-loop-index : goal.invariant-loop-index
-invariant-loop-index l =
-    AreLatestPast l.graph (IsOverwritten l.graph (IsTaken (zip l.readers (map (key_at l.graph) l.key_indices)) l.index) l.a) l.from (row_of l.table l.a) l.need
+abbrev pub invariant-loop-start : goal.invariant-loop-start
+invariant-loop-start l =
+    (l.start ≤ length l.readings)
+    × AreLatestPast l.graph (IsOverwritten l.graph (IsReadBefore l.graph l.readings l.start) l.a) l.from (row_of l.table l.a) l.need
+
+abbrev pub decreases-loop-start : goal.decreases-loop-start
+decreases-loop-start l = length l.readings - l.start

@@ -1,26 +1,10 @@
-use Rattle.tcc_reads.specs.History.{count}
-use Rattle.tcc_order.specs.private.Held.{holds}
-use Rattle.tcc_order.specs.private.Numbering.{IsFirstOf}
-use Rattle.tcc_order.specs.private.Placed.{IsStuckBy}
-use Rattle.tcc_order.proofs.Finding.{pairs_first}
-use Rattle.tcc_order.proofs.LeftOver.{stuck_pairs}
+use Rattle.tcc_order.specs.Placements.{ArePairsStuck}
+use Rattle.tcc_order.proofs.LeftOver.{pairs_circle}
 use Rattle.tcc_order.proofs.ordering.order_of_pairs.Goals as goal
 
-pub first_placing-requires-clause-inside : goal.first_placing-requires-clause-inside
-first_placing-requires-clause-inside c = rw c.deref-2.ensures.value (λ x b there. absurd (c.in_ok-none.ensures.none x b there))
-
-pub returns-in-Order : goal.returns-in-Order
-returns-in-Order c =
+pub returns-in-Stuck : goal.returns-in-Stuck
+returns-in-Stuck c =
     let h = c.args.graph.now in
-    let none = c.in_ok-none.none.items in
-    let order = c.in-Order.order.items in
-    let first : IsFirstOf (holds h none) (count h) order = rw (c.deref-2.ensures.value, c.in-Order.is) at c.in_ok-order.ensures in
-    (first.is_order.numbering, pairs_first h c.sessions.ensures.numbered none order first.is_order)
-
-pub returns : goal.returns
-returns c =
-    let h = c.args.graph.now in
-    let none = c.in_ok-none.none.items in
-    let placed = c.in-Stuck._placed.items in
-    let stuck : IsStuckBy (holds h none) (count h) placed = rw (c.deref-2.ensures.value, c.in-Stuck.is) at c.in_ok-order.ensures in
-    stuck_pairs h c.sessions.ensures.numbered none c.in_ok-none.ensures.none placed stuck
+    let placed = c.in-Stuck._placed in
+    let is : ArePairsStuck h placed.items = rw c.in-Stuck.is at c.in_ok-order.ensures in
+    pairs_circle h c.sessions.ensures.numbered placed.items is
