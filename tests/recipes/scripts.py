@@ -223,7 +223,7 @@ def by_survey(tcc: List[str]) -> Iterator[Outcome]:
     with tempfile.TemporaryDirectory() as folder:
         program, page = pathlib.Path(folder, "tcc"), pathlib.Path(folder, "page.html")
         found = {"contradicted": "a/2", "key": "x", "name": "causal chain", "op": 1, "value": 0, "writer": "a/1"}
-        last = {"answer": "survey", "contradicted": 1, "faults": 0, "names": {"causal chain": 1}, "reads": 1}
+        last = {"answer": "survey", "contradicted": 1, "faults": 0, "reads": 1}
         program.write_text("#!/bin/sh\ncase \"$*\" in\n'survey --help') ;;\nsurvey*) cat > /dev/null < /dev/null; echo '%s'; echo '%s'; "
                            "exit 1 ;;\n*) exec %s \"$@\" ;;\nesac\n" % (json.dumps(found), json.dumps(last), os.path.abspath(tcc[-1])))
         program.chmod(0o755)
