@@ -9,6 +9,7 @@ The transactions are sorted by their pairs (Kahn), else by rows. Of the writes o
 each is looked at: whether C knew of it, and it of A, by a search back where few transactions stand between, and else by the clocks of
 their sessions, 64 at a time, along the order. N transactions, S sessions: N*S/64 rows at most.
 """
+import itertools
 import json
 import subprocess
 from bisect import bisect_right
@@ -424,13 +425,20 @@ def told_by_program(text: str, history: History) -> Optional[Survey]:
     if last.get("answer") != "survey":
         return None
     told = [one for one in lines if "contradicted" in one]
-    operations = [history.find(one["contradicted"]).operations[one["op"] - 1] for one in told]
-    writes = history.writes_of({(one.key, one.value) for one in operations})
-    sources = ["init" if one.value == "0" else writes[one.key, one.value][0][0] for one in operations]
+    reads = [same_reads(history.find(one["contradicted"]), one["op"]) for one in told]
+    writes = history.writes_of({(one.key, one.value) for one, *_ in reads})
+    sources = ["init" if one.value == "0" else writes[one.key, one.value][0][0] for one, *_ in reads]
     contradicted = [Contradicted(one["contradicted"], operation, source, one["writer"], one["name"])
-                    for one, operation, source in zip(told, operations, sources)]
+                    for one, every, source in zip(told, reads, sources) for operation in every]
     faults = []
-    for one in (one["fault"] for one in lines if "fault" in one):
+    for one in (one for line in lines for one in line.get("faults", ())):
         label = "%s/%d" % (one["session"], one["place"])
         faults.append(Fault(one["kind"], label, history.find(label).operations[one["op"] - 1], ""))
     return Survey(contradicted, faults, last["reads"], [])
+
+
+def same_reads(reader: Transaction, first: int) -> List[Operation]:
+    """The external reads of a transaction that read the same as its operation of this number, which is the first such."""
+    _, _, _, key, value = reader.operations[first - 1]
+    left = itertools.takewhile(lambda one: (one.does, one.key) != ("w", key), reader.operations[first - 1:])
+    return [one for one in left if (one.does, one.key, one.value) == ("r", key, value)]
