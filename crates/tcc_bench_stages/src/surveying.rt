@@ -10,7 +10,7 @@ use tcc_survey::{Contradicted, Surveyed, survey};
 pub fn contradicted(alloc: Global, graph: &LargeGraph, level: Level) -> Option<u32> {
     match survey(alloc, graph, level).ok()? {
         Surveyed::Listed(list) => u32::try_from(list.len()).ok(),
-        Surveyed::Circular => Some(0),
+        Surveyed::Circular(_) => Some(0),
     }
 }
 

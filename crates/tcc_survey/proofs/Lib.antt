@@ -1,3 +1,4 @@
+pub mod CircleLemmas
 pub mod FirstLemmas
 mod Worked
 pub mod ScanLemmas

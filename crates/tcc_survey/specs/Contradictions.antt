@@ -6,6 +6,7 @@ use Rattle.tcc_graph.specs.Levels.{Judged}
 use Rattle.tcc_graph.specs.Links.{IsReason}
 use Rattle.tcc_graph.specs.Walks.{IsReached}
 use Rattle.tcc_graph.specs.declared.step.Step.{Step}
+use Rattle.tcc_survey.specs.Circles.{IsCircle}
 use Rattle.tcc_survey.specs.declared.reading.Reading.{Reading}
 use Rattle.tcc_survey.specs.declared.contradicted.Contradicted.{Contradicted}
 use Rattle.tcc_survey.specs.declared.surveyed.Surveyed.{Surveyed}
@@ -50,7 +51,7 @@ pub record AreContradicted (j : Judged) (found : List Contradicted) : Type 0 whe
       → (k : ℕ) × (k < length found) × ((contradicted_at found k).reading.reader ≡ c) × ((contradicted_at found k).reading.index ≡ i)
   pub order : (k : ℕ) (l : ℕ) → k < l → l < length found → ComesBefore (contradicted_at found k).reading (contradicted_at found l).reading
 
--- what is answered: all contradicted reads; or, only where a transaction reaches itself by session order and reads, that it does
+-- what is answered: all contradicted reads; or, only where transactions stand in a circle by session order and reads, such a circle
 abbrev pub IsSurvey : Judged → Surveyed → Type 0
 IsSurvey j (answer.Listed found) = AreContradicted j found.items
-IsSurvey j answer.Circular = (t : ℕ) × IsReached j.history t t
+IsSurvey j (answer.Circular circle) = IsCircle j.history circle.items

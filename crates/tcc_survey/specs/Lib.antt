@@ -1,3 +1,4 @@
+pub mod Circles
 pub mod Contradictions
 pub mod Names
 pub mod private

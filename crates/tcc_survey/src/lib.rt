@@ -2,6 +2,7 @@
 //! reader and is reached from what was read.
 #![tactic(auto)]
 
+mod circle;
 mod contradicted;
 mod finding;
 mod naming;

@@ -3,6 +3,7 @@ ghost use Rattle.std.specs.Prelude.{IfOk};
 ghost use Rattle.tcc_graph.specs.Levels.{judged};
 ghost use Rattle.tcc_survey.specs.Contradictions.{IsSurvey};
 
+use crate::circle::circle_of;
 use crate::contradicted::contradicted_along;
 use crate::surveyed::Surveyed;
 use std::alloc::Global;
@@ -17,7 +18,7 @@ pub fn survey(alloc: Global, graph: &LargeGraph, level: Level) -> Result<Surveye
     ensures { IfOk result (IsSurvey (judged graph.now level)) }
 {
     let Some(order) = order_of_pairs(alloc, graph)? else {
-        return Ok(Surveyed::Circular);
+        return Ok(Surveyed::Circular(circle_of(alloc, graph)?));
     };
     let list = contradicted_along(alloc, graph, level, &order)?;
     Ok(Surveyed::Listed(list))
