@@ -28,7 +28,6 @@ import argparse
 import csv
 import gc
 import io
-import re
 import sys
 from collections import Counter
 from dataclasses import dataclass, field
@@ -40,6 +39,7 @@ from tcc.notes import NoNotes, Note, read_notes
 from tcc.program import NoAnswer, Program
 from tcc.progress import INTERRUPTED, Doing
 from tcc.rows import History, Json, Operation, Transaction, Unfit, history_of, read_places
+from tcc.words import count
 
 EXAMPLE = """example: session a doesn't see its own write, and b sees one write of a transaction and not the other
   $ cat records.csv
@@ -235,12 +235,6 @@ class Search:
 
     def status(self) -> int:
         return 1 if self.found else UNRESOLVED if self.last == "unresolved" else 0
-
-
-def count(word: str) -> int:
-    if not re.fullmatch("[1-9][0-9]{0,8}", word):
-        raise argparse.ArgumentTypeError("%s is no number from 1" % word)
-    return int(word)
 
 
 def arguments() -> argparse.Namespace:

@@ -11,10 +11,11 @@ import sys
 import threading
 import time
 from dataclasses import dataclass, field
-from typing import Any, Callable, Iterator, List, Optional, Sequence, Tuple, Type
+from typing import Any, Callable, Iterator, List, NamedTuple, Optional, Sequence, Tuple, Type
 
 from tcc.noted import Transaction, annotations, records, session_name, settle, summary, warnings
 from tcc.notes import write_notes
+from tcc.words import count_within
 
 MOST_TRANSACTIONS = 1048575
 MOST_KEYS = 1048576
@@ -31,27 +32,18 @@ class NoServer(Exception):
     """A server that can't be had."""
 
 
-def count(least: int, most: int) -> Callable[[str], int]:
-    """A number within these, for an argument of a command line."""
-    def number(word: str) -> int:
-        if not word.isdecimal() or not least <= int(word) <= most:
-            raise argparse.ArgumentTypeError("%s is no number from %d to %d" % (word, least, most))
-        return int(word)
-    return number
-
-
 def command_line(about: Optional[str], example: str) -> argparse.ArgumentParser:
     return argparse.ArgumentParser(description=about, epilog=example, formatter_class=argparse.RawDescriptionHelpFormatter)
 
 
 def arguments(ask: argparse.ArgumentParser) -> argparse.Namespace:
     """What is asked for, with how much clients do, which is no more than `tcc --large` takes."""
-    ask.add_argument("--clients", type=count(1, CLIENTS - 1), default=4, metavar="N", help="so many clients, by default 4")
-    ask.add_argument("--transactions", type=count(1, MOST_TRANSACTIONS), default=200, metavar="N",
+    ask.add_argument("--clients", type=count_within(1, CLIENTS - 1), default=4, metavar="N", help="so many clients, by default 4")
+    ask.add_argument("--transactions", type=count_within(1, MOST_TRANSACTIONS), default=200, metavar="N",
                      help="so many for each, by default 200")
-    ask.add_argument("--keys", type=count(1, MOST_KEYS), default=8, metavar="N",
+    ask.add_argument("--keys", type=count_within(1, MOST_KEYS), default=8, metavar="N",
                      help="so many keys, 1 to %d, by default 8" % MOST_KEYS)
-    ask.add_argument("--seconds", type=count(1, 86400), default=20, metavar="N", help="clients stop after so many, by default 20")
+    ask.add_argument("--seconds", type=count_within(1, 86400), default=20, metavar="N", help="clients stop after so many, by default 20")
     ask.add_argument("--seed", type=int, default=1, metavar="N", help="which keys are picked follows from it, by default 1")
     ask.add_argument("--keep-sessions", action="store_true",
                      help="behind a broken connection a client's session goes on, where all its outcomes are known; so writes that "
@@ -199,6 +191,26 @@ class Client:
             self.work(transactions, until)
         except Exception as error:
             self.failed = "client %d ended early, %s: %s" % (self.number, told(error), error)
+
+
+class Statements(NamedTuple):
+    """How a database reads a key, and how it writes a value there."""
+
+    read: str
+    write: str
+
+    def execute(self, client: Client, mine: Transaction, cursor: Any, reads: List[str], writes: List[str], pause: float) -> None:
+        """Reads and then writes in a transaction, noted as they go, with a pause behind each."""
+        for key in reads:
+            cursor.execute(self.read, (key,))
+            found = cursor.fetchone()
+            mine.read(key, found[0] if found else 0)
+            time.sleep(pause)
+        for key in writes:
+            value = client.new_value()
+            mine.write(key, value)
+            cursor.execute(self.write, (key, value))
+            time.sleep(pause)
 
 
 @dataclass

@@ -45,6 +45,7 @@ from tcc.notes import write_notes
 from tcc.operations import USUAL, Untold, is_number, operation, spelled
 from tcc.progress import INTERRUPTED, Doing
 from tcc.rows import Json
+from tcc.words import count
 
 EXAMPLE = """example: session p1 doesn't see its own write
   $ cat history.jsonl
@@ -235,12 +236,6 @@ def json_text(word: str) -> str:
         return spelled(json.loads(word, parse_constant=no_constant))
     except ValueError as error:
         raise argparse.ArgumentTypeError("%s is no JSON" % word) from error
-
-
-def count(word: str) -> int:
-    if not re.fullmatch("[1-9][0-9]{0,8}", word):
-        raise argparse.ArgumentTypeError("%s is no number from 1" % word)
-    return int(word)
 
 
 def arguments() -> argparse.Namespace:

@@ -28,7 +28,6 @@ import signal
 import sys
 import tempfile
 import threading
-import time
 from dataclasses import dataclass
 from typing import Any, Callable, Dict, Iterator, List, Sequence, Tuple
 
@@ -37,7 +36,8 @@ sys.path[:0] = [str(HERE), str(HERE.parents[1] / "python")]
 import cluster  # noqa: E402
 from cluster import NODES, Cluster  # noqa: E402
 from tcc import clients  # noqa: E402
-from tcc.clients import Client, Failures, NoServer, Recorded, Store, count, run_clients  # noqa: E402
+from tcc.clients import Client, Failures, Recorded, Statements, Store, run_clients  # noqa: E402
+from tcc.words import count_within  # noqa: E402
 
 EXAMPLE = """example: clients that read at another node than they wrote at, and the rows of what they saw
   $ record.py --place split --notes notes.csv > records.csv
@@ -46,8 +46,8 @@ EXAMPLE = """example: clients that read at another node than they wrote at, and 
 """
 LEVELS = {"read-committed": "READ-COMMITTED", "repeatable-read": "REPEATABLE-READ", "serializable": "SERIALIZABLE"}
 PLACES = ("home", "split", "any")
-READ = "SELECT value FROM tcc.registers WHERE name = %s"
-WRITE = "INSERT INTO tcc.registers VALUES (%s, %s) ON DUPLICATE KEY UPDATE value = VALUES(value)"
+REGISTERS = Statements("SELECT value FROM tcc.registers WHERE name = %s",
+                       "INSERT INTO tcc.registers VALUES (%s, %s) ON DUPLICATE KEY UPDATE value = VALUES(value)")
 # With these numbers a node says that nothing of the transaction happened: a row that changed, a wait that took too long, and a
 # deadlock, which it says too where the group refuses a COMMIT.
 REFUSED = (1020, 1205, 1213)
@@ -122,16 +122,7 @@ class Nodes(Store):
         """One transaction, noted as it goes, of reads and then writes; gives the keys of both."""
         try:
             with client.transaction("n%d" % number, (Refused,)) as mine, refusals(self.driver), server.cursor() as cursor:
-                for key in reads:
-                    cursor.execute(READ, (key,))
-                    found = cursor.fetchone()
-                    mine.read(key, found[0] if found else 0)
-                    time.sleep(PAUSE_SECONDS)
-                for key in writes:
-                    value = client.new_value()
-                    mine.write(key, value)
-                    cursor.execute(WRITE, (key, value))
-                    time.sleep(PAUSE_SECONDS)
+                REGISTERS.execute(client, mine, cursor, reads, writes, PAUSE_SECONDS)
                 mine.committing()
                 server.commit()
         except Refused:
@@ -239,13 +230,13 @@ def recorded(asked: argparse.Namespace) -> Recorded:
 def main() -> int:
     ask = clients.command_line(__doc__, EXAMPLE)
     ask.add_argument("--place", choices=PLACES, default="split", help="where clients work, by default split")
-    ask.add_argument("--sync-wait", type=count(0, 15), default=0, metavar="N", help="wsrep_sync_wait, 0 to 15, by default 0")
+    ask.add_argument("--sync-wait", type=count_within(0, 15), default=0, metavar="N", help="wsrep_sync_wait, 0 to 15, by default 0")
     ask.add_argument("--isolation", choices=tuple(LEVELS), default="repeatable-read", help="by default repeatable-read")
-    ask.add_argument("--lag", type=count(0, 10000), default=0, metavar="MS",
+    ask.add_argument("--lag", type=count_within(0, 10000), default=0, metavar="MS",
                      help="n2 applies nothing for so many milliseconds, again and again")
-    ask.add_argument("--stop", type=count(0, 100), default=0, metavar="N", help="stops a node N times")
-    ask.add_argument("--kill", type=count(0, 100), default=0, metavar="N", help="kills a node N times")
-    ask.add_argument("--crash", type=count(0, 100), default=0, metavar="N", help="kills all nodes N times")
+    ask.add_argument("--stop", type=count_within(0, 100), default=0, metavar="N", help="stops a node N times")
+    ask.add_argument("--kill", type=count_within(0, 100), default=0, metavar="N", help="kills a node N times")
+    ask.add_argument("--crash", type=count_within(0, 100), default=0, metavar="N", help="kills all nodes N times")
     ask.add_argument("--cluster", type=lambda word: pathlib.Path(word).resolve(), metavar="FOLDER",
                      help="the cluster that cluster.py started there, in place of an own one")
     ask.add_argument("--prefix", default="", metavar="TEXT", help="what the names of keys begin with, another for each round")

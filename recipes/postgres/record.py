@@ -30,13 +30,13 @@ import subprocess
 import sys
 import tempfile
 import threading
-import time
 from dataclasses import dataclass, field
 from typing import Dict, Iterator, List, Optional, Sequence, Tuple, Type
 
 sys.path.insert(0, str(pathlib.Path(__file__).resolve().parents[2] / "python"))
 from tcc import clients  # noqa: E402
-from tcc.clients import LOOPBACK, Client, NoServer, Recorded, Store, count, run_clients  # noqa: E402
+from tcc.clients import LOOPBACK, Client, NoServer, Recorded, Statements, Store, run_clients  # noqa: E402
+from tcc.words import count_within  # noqa: E402
 
 EXAMPLE = """example: reads of two states within one transaction, and the rows of what they saw
   $ record.py --isolation read-committed > records.csv
@@ -48,8 +48,8 @@ STOP_SECONDS = 20
 DELAY_MILLISECONDS = 500
 PAUSE_SECONDS = 0.002
 LEVELS = {"read-committed": "READ COMMITTED", "repeatable-read": "REPEATABLE READ", "serializable": "SERIALIZABLE"}
-READ = "SELECT value FROM registers WHERE key = %s"
-WRITE = "INSERT INTO registers VALUES (%s, %s) ON CONFLICT (key) DO UPDATE SET value = excluded.value"
+REGISTERS = Statements("SELECT value FROM registers WHERE key = %s",
+                       "INSERT INTO registers VALUES (%s, %s) ON CONFLICT (key) DO UPDATE SET value = excluded.value")
 KILL = "SELECT pg_terminate_backend(pid) FROM pg_stat_activity WHERE application_name = 'client' ORDER BY random() LIMIT 1"
 
 
@@ -165,16 +165,7 @@ class Servers(Store):
         refused = self.driver.extensions.TransactionRollbackError
         try:
             with client.transaction(node, (refused,)) as mine, server.cursor() as cursor:
-                for key in reads:
-                    cursor.execute(READ, (key,))
-                    found = cursor.fetchone()
-                    mine.read(key, found[0] if found else 0)
-                    time.sleep(PAUSE_SECONDS)
-                for key in writes:
-                    value = client.new_value()
-                    mine.write(key, value)
-                    cursor.execute(WRITE, (key, value))
-                    time.sleep(PAUSE_SECONDS)
+                REGISTERS.execute(client, mine, cursor, reads, writes, PAUSE_SECONDS)
                 mine.committing()
                 server.commit()
         except refused:
@@ -237,9 +228,9 @@ def main() -> int:
     ask = clients.command_line(__doc__, EXAMPLE)
     ask.add_argument("--isolation", choices=tuple(LEVELS), default="read-committed", help="by default read-committed")
     ask.add_argument("--read-at", choices=("primary", "replica"), default="primary", help="where is read; by default the primary")
-    ask.add_argument("--delay", type=count(0, 60000), default=DELAY_MILLISECONDS, metavar="MS",
+    ask.add_argument("--delay", type=count_within(0, 60000), default=DELAY_MILLISECONDS, metavar="MS",
                      help="how much later the replica applies what was done, in milliseconds, by default %d" % DELAY_MILLISECONDS)
-    ask.add_argument("--kill", type=count(0, 1000), default=0, metavar="N", help="ends the backend of a client N times")
+    ask.add_argument("--kill", type=count_within(0, 1000), default=0, metavar="N", help="ends the backend of a client N times")
     ask.add_argument("--user", default="postgres" if is_user("postgres") else "nobody", metavar="NAME",
                      help="as whom the servers run where the script runs as root; by default postgres, or else nobody")
     return clients.write_records(recorded, clients.arguments(ask), "psycopg2", "python3-psycopg2")

@@ -1,0 +1,20 @@
+"""Numbers among the words of a command line."""
+import argparse
+import re
+from typing import Callable
+
+
+def count(word: str) -> int:
+    """A number from 1."""
+    if not re.fullmatch("[1-9][0-9]{0,8}", word):
+        raise argparse.ArgumentTypeError("%s is no number from 1" % word)
+    return int(word)
+
+
+def count_within(least: int, most: int) -> Callable[[str], int]:
+    """A number within these."""
+    def number(word: str) -> int:
+        if not word.isdecimal() or not least <= int(word) <= most:
+            raise argparse.ArgumentTypeError("%s is no number from %d to %d" % (word, least, most))
+        return int(word)
+    return number
