@@ -138,15 +138,19 @@ module _ (all : List Stand) (table : List ℕ → ℕ → Option Writer) (agrees
         | false ↦ refl
       ]
 
+  -- the fault of an operation that is found is its fault
+  pub fault_agrees : (n : Numbered) (before : List Op) (op : Op) (after : List Op)
+      → let one : Site = record { stand = n.stand; before = before; op = op; after = after } in
+      fault_found table n one ≡ fault_at all one
+  unfolding report
+  fault_agrees n before op after =
+      let one : Site = record { stand = n.stand; before = before; op = op; after = after } in
+      fault_in-kind n.stand (at one) op (site_judgement table n one) ∙ ap (option_map (report n.stand (at one) op)) (kinds_agree n before op after)
+
   faults_agree_in : (n : Numbered) (before ops : List Op)
       → filter_map (fault_found table n) (sites_from n.stand before ops) ≡ filter_map (fault_at all) (sites_from n.stand before ops)
-  unfolding report
   faults_agree_in n before [] = refl
-  faults_agree_in n before (op ∷ after) =
-      let one : Site = record { stand = n.stand; before = before; op = op; after = after } in
-      λ i. cons_option
-      ((fault_in-kind n.stand (at one) op (site_judgement table n one) ∙ ap (option_map (report n.stand (at one) op)) (kinds_agree n before op after)) i)
-      (faults_agree_in n (before ++ op ∷ []) after i)
+  faults_agree_in n before (op ∷ after) = λ i. cons_option (fault_agrees n before op after i) (faults_agree_in n (before ++ op ∷ []) after i)
 
   -- the faults found are the faults
   pub faults_agree : (number : ℕ) (some : List Stand)

@@ -8,4 +8,8 @@ pub mod Sourcing
 pub mod Findings
 pub mod SortedOnce
 pub mod Rising
+pub mod Limits
+pub mod Rewrites
+pub mod Traces
+pub mod StoredEntries
 pub mod OneSource

@@ -5,8 +5,8 @@ use Rattle.std.specs.FinMap.{entries}
 use Rattle.tcc_txn.specs.Snapshots.{Sessions}
 use Rattle.tcc_txn.specs.Transactions.{Transaction}
 use Rattle.tcc_reads.specs.History.{Entry, IsBySession, initial}
-use Rattle.tcc_reads.specs.Sites.{Stand, is_committed, stands_in, stands_from, committed}
-use Rattle.tcc_reads.specs.Sources.{entry_of, history}
+use Rattle.tcc_reads.specs.Sites.{Stand, is_committed, stands, stands_in, stands_from, committed}
+use Rattle.tcc_reads.specs.Sources.{writes_of, reads_of, history}
 
 abbrev pub Each : {X : Type 0} → (X → Type 0) → List X → Type 0
 Each P [] = Unit {0}
@@ -139,26 +139,29 @@ from_rising session (e ∷ later) =
     (from_sessions (session + 1) later))
     (in_session session e.0 1 e.1))
 
-module _ (named : List (List ℕ × List Transaction)) where
+module _ (named : List (List ℕ × List Transaction)) (reads : Stand → List (List ℕ × ℕ)) where
+  abbrev entry : Stand → Entry
+  entry stand = record { owner = stand.session; place = stand.place; writes = writes_of stand; reads = reads stand }
+
   abbrev list : List Entry
-  list = map (entry_of (stands_from 0 named)) (committed (stands_from 0 named))
+  list = map entry (committed (stands_from 0 named))
 
   first : Each (λ (e : Entry). 1 ≤ e.place) list
   first =
-      each_map (λ (e : Entry). 1 ≤ e.place) (entry_of (stands_from 0 named)) (committed (stands_from 0 named))
+      each_map (λ (e : Entry). 1 ≤ e.place) entry (committed (stands_from 0 named))
       (each_filter (λ (x : Stand). 1 ≤ x.place) is_committed (stands_from 0 named) (from_placed 0 named))
 
   rising : Rises (λ (a b : Entry). a.owner ≤ b.owner) list
   rising =
-      rises_map (λ (a b : Entry). a.owner ≤ b.owner) (entry_of (stands_from 0 named)) (committed (stands_from 0 named))
+      rises_map (λ (a b : Entry). a.owner ≤ b.owner) entry (committed (stands_from 0 named))
       (rises_filter (λ x y. x.session ≤ y.session) is_committed (stands_from 0 named) (from_rising 0 named))
 
   placed : Rises (λ (a b : Entry). a.owner ≡ b.owner → a.place < b.place) list
   placed =
-      rises_map (λ (a b : Entry). a.owner ≡ b.owner → a.place < b.place) (entry_of (stands_from 0 named)) (committed (stands_from 0 named))
+      rises_map (λ (a b : Entry). a.owner ≡ b.owner → a.place < b.place) entry (committed (stands_from 0 named))
       (rises_filter IsLater is_committed (stands_from 0 named) (from_order 0 named))
 
-  -- the transactions of some sessions stand by session and by place
+  -- the transactions of some sessions stand by session and by place, whatever they read
   pub by_sessions : IsBySession (initial ∷ list)
   by_sessions m zero less below = absurd (omega arith)
   by_sessions zero (suc k) less below = (omega arith, λ same. each_at (λ (e : Entry). 1 ≤ e.place) list k initial (omega arith) first)
@@ -169,4 +172,4 @@ module _ (named : List (List ℕ × List Transaction)) where
 
 -- so those of a snapshot
 pub by_session : (s : Sessions) → IsBySession (history s).entries
-by_session s = by_sessions (entries s)
+by_session s = by_sessions (entries s) (reads_of (stands s))

@@ -153,7 +153,7 @@ sourced number (stand ∷ later) x v first m found is last =
             ∙ next
 
 -- what the source of an external read is
-abbrev with_source : List Stand → List ℕ × ℕ → List ℕ × ℕ
+abbrev pub with_source : List Stand → List ℕ × ℕ → List ℕ × ℕ
 with_source all r = (r.0, source all r.0 r.1)
 
 pub no_pair : {A : Type 0} (o : Option A) (xs : List A) → cons_option o xs ≡ [] → (o ≡ None) × (xs ≡ [])
@@ -219,7 +219,7 @@ module _ (all : List Stand) (table : List ℕ → ℕ → Option Writer)
   write_source n key value position (Some first) =
       elim (is_in n first && (first.op == position)) as (λ b. source_in (Put key value) (cond b Silent (Faulty Duplicate)) ≡ None) [ true ↦ refl | false ↦ refl ]
 
-  site_source : (n : Numbered) → n.stand.txn.committed ≡ true → (before : List Op) (op : Op) (after : List Op)
+  pub site_source : (n : Numbered) → n.stand.txn.committed ≡ true → (before : List Op) (op : Op) (after : List Op)
       → let one : Site = record { stand = n.stand; before = before; op = op; after = after } in
       fault_found table n one ≡ None → source_found table n one ≡ option_map (with_source all) (external_read one)
   site_source n ended before (Put key value) after none = write_source n key value (length before + 1) (table key value)

@@ -1,5 +1,5 @@
 -- Worked snapshots: the faults and histories that the definitions give them.
-use Rattle.std.proofs.Common.{◌≡◌, ℕ, true, false, List, [], ◌∷◌, refl}
+use Rattle.std.proofs.Common.{◌≡◌, ℕ, true, false, List, [], ◌∷◌, map, refl}
 use Rattle.std.specs.Prelude.{codes}
 use Rattle.tcc_txn.specs.Transactions.{Transaction}
 use Rattle.tcc_txn.specs.declared.op.Op.{Op}
@@ -7,10 +7,11 @@ use Rattle.tcc_txn.specs.declared.op.Op.TheVariants.{Get, Put}
 use Rattle.tcc_reads.specs.declared.fault.ReadFault.{ReadFault}
 use Rattle.tcc_reads.specs.declared.fault.ReadFaultKind.{ReadFaultKind}
 use Rattle.tcc_reads.specs.declared.fault.ReadFaultKind.TheVariants.{Duplicate, BrokenInternal, ThinAir, Aborted, Intermediate, Future}
-use Rattle.tcc_reads.specs.History.{Entry, initial}
-use Rattle.tcc_reads.specs.Sites.{stands_from}
+use Rattle.tcc_reads.specs.History.{Entry, History, initial}
+use Rattle.tcc_reads.specs.Sites.{stands_from, committed as committed_of}
 use Rattle.tcc_reads.specs.Sources.{history_of}
 use Rattle.tcc_reads.specs.Faults.{faults_of}
+use Rattle.tcc_reads.specs.Traced.{traced_entry}
 
 abbrev a : List ℕ
 a = codes "a"
@@ -98,3 +99,32 @@ pub numbers_and_sources : history_of (a ∷ b ∷ c ∷ []) (stands_from 0 (
           ∷ entry 2 2 [] [] ∷ [];
     }
 numbers_and_sources = refl
+
+abbrev traced : List (List ℕ) → List (List ℕ × List Transaction) → History
+traced names sessions = record {
+  sessions = names;
+  entries = initial ∷ map (traced_entry (stands_from 0 sessions)) (committed_of (stands_from 0 sessions));
+}
+
+-- of each kind of fault the read gives no pair, and the others of its transaction do
+pub faults_left_out : traced (a ∷ b ∷ c ∷ []) (
+    (a, committed (Put x 1 ∷ Put x 2 ∷ Put y 1 ∷ []) ∷ aborted (Put z 3 ∷ []) ∷ []) ∷
+    (b, committed (Get x 1 ∷ Get y 1 ∷ Get z 3 ∷ []) ∷ committed (Get x 2 ∷ Get y 9 ∷ Get z 4 ∷ Put z 4 ∷ Get z 5 ∷ []) ∷ []) ∷
+    (c, committed (Get x 0 ∷ Get z 4 ∷ []) ∷ []) ∷ [])
+    ≡ record {
+      sessions = a ∷ b ∷ c ∷ [];
+      entries = initial ∷ entry 0 1 (x ∷ y ∷ []) [] ∷ entry 1 1 [] ((y, 1) ∷ []) ∷ entry 1 2 (z ∷ []) ((x, 1) ∷ [])
+          ∷ entry 2 1 [] ((x, 0) ∷ (z, 3) ∷ []) ∷ [];
+    }
+faults_left_out = refl
+
+-- of a value that was written twice nobody knows who is read from; both writers stay writers
+pub written_twice_left_out : traced (a ∷ b ∷ c ∷ []) (
+    (a, committed (Put x 1 ∷ Put y 1 ∷ []) ∷ []) ∷
+    (b, committed (Put x 1 ∷ []) ∷ []) ∷
+    (c, committed (Get x 1 ∷ Get y 1 ∷ []) ∷ []) ∷ [])
+    ≡ record {
+      sessions = a ∷ b ∷ c ∷ [];
+      entries = initial ∷ entry 0 1 (x ∷ y ∷ []) [] ∷ entry 1 1 (x ∷ []) [] ∷ entry 2 1 [] ((y, 1) ∷ []) ∷ [];
+    }
+written_twice_left_out = refl

@@ -3,3 +3,4 @@ pub mod Numbers
 pub mod Verdicts
 pub mod Stored
 pub mod Sorting
+pub mod Tracings

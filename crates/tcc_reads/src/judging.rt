@@ -1,5 +1,5 @@
 //! What each operation of a transaction is: a fault, an external read with its source, or neither.
-ghost use Rattle.std.specs.Prelude.{◌≡◌, true, ◌∷◌, [], ◌++◌, List, IfOk, OnOk, option_to_list};
+ghost use Rattle.std.specs.Prelude.{◌≡◌, true, ◌∷◌, [], ◌++◌, List, IfOk, OnOk, option_to_list, if◌then◌else◌, None};
 ghost use Rattle.std.specs.BTreeMap as tree;
 ghost use Rattle.std.specs.Option.{option_copied};
 ghost use Rattle.tcc_txn.specs.declared.op.Op.{Op};
@@ -8,12 +8,13 @@ ghost use Rattle.tcc_reads.specs.Sources.{name_cmp};
 ghost use Rattle.tcc_reads.specs.private.Verdicts.{writers_in, is_in, write_judgement, read_judgement, op_judgement};
 ghost use Rattle.tcc_reads.specs.private.Verdicts.{fault_in, source_in, IsOwn, AreOwnIn, AreVisibleWrites};
 ghost use Rattle.tcc_reads.specs.private.Verdicts.{faults_found, sources_found};
+ghost use Rattle.tcc_reads.specs.private.Tracings.{is_outside, sources_traced};
 
 use crate::standing::Standing;
 use crate::writers::{Writer, Writers, first_writer};
 use crate::{ReadFault, ReadFaultKind};
 use std::alloc::{AllocError, Global};
-use std::collections::BTreeMap;
+use std::collections::{BTreeMap, BTreeSet};
 use tcc_txn::{Name, Op};
 
 /// What an operation is.
@@ -148,6 +149,24 @@ fn note(
     }
 }
 
+/// Adds an external read with its source, unless its key and value are among these.
+fn note_traced(
+    rewrites: &BTreeSet<(Name, u64)>,
+    op: &Op,
+    judgement: OpJudgement,
+    reads: &mut Vec<(Name, u32)>,
+) -> Result<(), AllocError>
+    ensures { OnOk result (reads.new.items ≡ reads.old.items
+        ++ option_to_list (if is_outside rewrites.now (op_key op.now, op_value op.now) then source_in op.now judgement else None)) }
+{
+    if let OpJudgement::ReadsFrom(source) = judgement {
+        if !rewrites.contains(&(op.key(), op.value())) {
+            reads.push((op.key(), source))?;
+        }
+    }
+    Ok(())
+}
+
 /// Takes in an operation as the latest one of its transaction.
 fn put_own(own: &mut BTreeMap<Name, u64>, op: Op) -> Result<(), AllocError>
     ensures { OnOk result ((before : List Op) → AreVisibleWrites own.old before → AreVisibleWrites own.new (before ++ op ∷ [])) }
@@ -182,6 +201,29 @@ pub(crate) fn judge(
         let position = before as u16 + 1;
         let judgement = judgement_of(writers, distinct, standing, position, *op, own);
         note(standing, position, op, judgement, faults, &mut reads)?;
+        put_own(own, *op)?;
+    }
+    Ok(reads)
+}
+
+/// Traces the external reads of a transaction: gives those without a fault, with their sources, but none of these keys and values.
+/// What `own` held is forgotten.
+pub(crate) fn trace(
+    alloc: Global,
+    writers: &Writers,
+    rewrites: &BTreeSet<(Name, u64)>,
+    standing: &Standing<'_>,
+    own: &mut BTreeMap<Name, u64>,
+) -> Result<Vec<(Name, u32)>, AllocError>
+    ensures { IfOk result (λ reads. reads.items ≡ sources_traced (writers_in writers.now) (is_outside rewrites.now) standing.now) }
+{
+    let ops = standing.txn.ops();
+    own.clear();
+    let mut reads = Vec::new(alloc);
+    for (before, op) in ops.iter().enumerate() {
+        let position = before as u16 + 1;
+        let judgement = judgement_of(writers, false, standing, position, *op, own);
+        note_traced(rewrites, op, judgement, &mut reads)?;
         put_own(own, *op)?;
     }
     Ok(reads)

@@ -9,10 +9,12 @@ mod resolved;
 mod resolver;
 mod sorting;
 mod standing;
+mod tracing;
 mod transaction;
 mod writers;
 
 pub use fault::{ReadFault, ReadFaultKind, ResolveFault};
 pub use resolved::{LargeResolved, Resolved};
 pub use resolver::{resolve, resolve_large};
+pub use tracing::{Traced, resolve_traced};
 pub use transaction::Transaction;

@@ -34,7 +34,7 @@ fn written_keys(alloc: Global, ops: &[Op]) -> Result<Vec<Name>, AllocError>
 }
 
 /// A committed transaction with its external reads.
-fn transaction(
+pub(crate) fn transaction(
     alloc: Global,
     standing: &Standing<'_>,
     reads: Vec<(Name, u32)>,
@@ -76,12 +76,24 @@ fn examine_one(
 
 /// The initial and the committed transactions, and all faults.
 #[derive(Drop)]
-struct Findings {
-    transactions: Vec<Transaction>,
-    faults: Vec<ReadFault>,
+pub(crate) struct Findings {
+    pub transactions: Vec<Transaction>,
+    pub faults: Vec<ReadFault>,
 }
 
-fn examine(
+/// The initial transaction.
+pub(crate) fn initial_transaction(alloc: Global) -> Transaction
+    ensures { result ≡ initial }
+{
+    Transaction {
+        owner: 0,
+        place: 0,
+        writes: Vec::new(alloc),
+        reads: Vec::new(alloc),
+    }
+}
+
+pub(crate) fn examine(
     alloc: Global,
     first: &FirstWrites,
     standings: &[Standing<'_>],
@@ -93,12 +105,7 @@ fn examine(
     let mut transactions = Vec::new(alloc);
     let mut faults = Vec::new(alloc);
     let mut own = BTreeMap::new(alloc);
-    transactions.push(Transaction {
-        owner: 0,
-        place: 0,
-        writes: Vec::new(alloc),
-        reads: Vec::new(alloc),
-    })?;
+    transactions.push(initial_transaction(alloc))?;
     for standing in standings {
         examine_one(
             alloc,
@@ -116,7 +123,10 @@ fn examine(
 }
 
 /// Session's index and place from number 1 on.
-fn places(alloc: Global, transactions: &[Transaction]) -> Result<Vec<(u32, u32)>, AllocError>
+pub(crate) fn places(
+    alloc: Global,
+    transactions: &[Transaction],
+) -> Result<Vec<(u32, u32)>, AllocError>
     ensures { IfOk result (λ places. places.items ≡ places_of transactions.now) }
 {
     transactions
