@@ -39,7 +39,7 @@ fn first_broken(
 {
     match level {
         Level::Causal => first_behind(alloc, graph, order),
-        Level::Atomic => Ok(first_single(graph, order, positions)),
+        Level::Atomic => first_single(alloc, graph, order, positions),
     }
 }
 

@@ -41,7 +41,7 @@ fn end_of(graph: &LargeGraph, session: u32, n: u32) -> u32
 }
 
 /// Where the transactions of each session begin.
-fn firsts_of(alloc: Global, graph: &LargeGraph) -> Result<Vec<u32>, NoMemory>
+pub(crate) fn firsts_of(alloc: Global, graph: &LargeGraph) -> Result<Vec<u32>, NoMemory>
     requires { IsBySession graph.now.entries }
     ensures { IfOk result (λ firsts. AreFirsts graph.now firsts.items) }
 {

@@ -1,11 +1,16 @@
-use Rattle.std.proofs.Common.{◌<◌, ◌≤◌, ℕ, arith}
+use Rattle.std.proofs.Common.{◌<◌, inl, arith}
 use Rattle.tcc_reads.specs.History.{count}
 use Rattle.tcc_judge.specs.declared.least.TheConstants.{NONE}
+use Rattle.tcc_judge.proofs.PositionLemmas.{before_at}
 use Rattle.tcc_judge.proofs.SingleLemmas.{singles_found, singles_end}
 use Rattle.tcc_judge.proofs.singles.first_single.Goals as goal
 
 pub loop-a-init : goal.loop-a-init
 loop-a-init c = λ at is. omega (arith, is.0)
+
+pub least_single-requires-clause-onward : goal.least_single-requires-clause-onward
+least_single-requires-clause-onward c = λ u v pair.
+    before_at (count c.args.graph.now) c.args.order.now c.args.positions.now c.requires.numbering c.requires.positions u v (c.requires.onward u v (inl pair))
 
 pub loop-a-preserved : goal.loop-a-preserved
 loop-a-preserved c =

@@ -1,34 +1,32 @@
-use Rattle.std.proofs.Common.{◌≡◌, ℕ, get_or, sym, ◌∙◌, arith}
-use Rattle.std.proofs.lemmas.Bool.{false≢true}
-use Rattle.tcc_graph.proofs.Pairs.{pair_kinds, pair_from_kinds}
-use Rattle.tcc_judge.proofs.singles.least_writer.Goals.{then-positions-a+then-causal, else-positions-a, else-positions-a-via-then-positions-a+else-causal, else-positions-a-via-else-positions-a}
-use Rattle.tcc_judge.proofs.SingleLemmas.{single_none, single_more, single_same, single_all}
+use Rattle.std.proofs.Common.{ℕ, List, get_or, sym, subst}
+use Rattle.std.specs.List.Sorted.{IsNonDecreasing}
+use Rattle.tcc_graph.specs.Keys.{key_at, writers}
+use Rattle.tcc_least.proofs.Within.{writers_rise}
+use Rattle.tcc_judge.specs.private.Least.{IsLeastOf}
+use Rattle.tcc_judge.specs.private.Singles.{IsInSession, IsSource}
+use Rattle.tcc_judge.proofs.SingleLemmas.{rise_of, single_of}
 use Rattle.tcc_judge.proofs.singles.least_writer.Goals as goal
 
-pub loop-b-init : goal.loop-b-init
-loop-b-init c = single_none c.args.graph.now c.args.positions.now c.args.writers.now c.args.a c.args.c
+pub least_source-source-requires-clause-writers : goal.least_source-source-requires-clause-writers
+least_source-source-requires-clause-writers c =
+    subst (λ (z : List ℕ). IsNonDecreasing z) (sym c.writers_at-writers.ensures) (writers_rise c.args.graph.now (key_at c.args.graph.now c.args.key_index))
 
-pub loop-b-preserved : goal.loop-b-preserved
-loop-b-preserved c =
-    let h = c.args.graph.now in
-    let positions = c.args.positions.now in
-    let ws = c.args.writers.now in
-    let i = c.loop-b.b-index in
-    let b : ℕ = get_or ws i 0 in
-    elim c.if-positions-a.branch [
-      | then-positions-a+then-causal w ↦ rw (w.least-is, w.min-least.ensures)
-          (single_more h positions ws c.args.a c.args.c i c.loop-b.least c.loop-b-test.true w.if-positions-a.true
-          (pair_kinds h b c.args.c (sym w.causal.ensures ∙ w.if-causal.true)) c.loop-b.invariant)
-      | else-positions-a w ↦ rw w.least-is
-          (single_same h positions ws c.args.a c.args.c i c.loop-b.least c.loop-b-test.true
-          (λ less pair. elim w.else-positions-a.branch [
-            | else-positions-a-via-then-positions-a+else-causal v ↦
-                false≢true (sym (sym v.causal.ensures ∙ v.if-causal.false) ∙ pair_from_kinds h b c.args.c pair)
-            | else-positions-a-via-else-positions-a v ↦ omega (arith, v.if-positions-a.false, less)
-          ]) c.loop-b.invariant)
-    ]
+pub first_in_session-requires-clause-writers : goal.first_in_session-requires-clause-writers
+first_in_session-requires-clause-writers c =
+    subst (λ (z : List ℕ). IsNonDecreasing z) (sym c.writers_at-writers.ensures) (writers_rise c.args.graph.now (key_at c.args.graph.now c.args.key_index))
+
+pub first_in_session-requires-clause-rise : goal.first_in_session-requires-clause-rise
+first_in_session-requires-clause-rise c =
+    rise_of c.args.graph.now c.requires.numbered c.args.positions.now c.requires.onward c.args.c c.args.begin c.requires.begin c.requires.c
 
 pub returns : goal.returns
 returns c =
-    single_all c.args.graph.now c.args.positions.now c.args.writers.now c.args.a c.args.c c.loop-b.b-index c.loop-b.least c.loop-b-test.false
-    c.loop-b.invariant
+    let h = c.args.graph.now in
+    let positions = c.args.positions.now in
+    let ws = writers h (key_at h c.args.key_index) in
+    let one : IsLeastOf (IsInSession positions ws c.args.begin c.args.c (get_or positions c.args.a 0)) c.first_in_session.result
+    = rw c.writers_at-writers.ensures at c.first_in_session.ensures in
+    let other : IsLeastOf (IsSource h positions ws (get_or positions c.args.a 0) c.args.c) c.least_source-source.result
+    = rw c.writers_at-writers.ensures at c.least_source-source.ensures in
+    rw c.min.ensures (single_of h positions ws c.args.begin c.args.a c.args.c c.requires.onward c.requires.begin c.requires.a c.first_in_session.result
+    c.least_source-source.result one other)

@@ -1,4 +1,4 @@
-use Rattle.std.proofs.Common.{◌≡◌, ◌<◌, ◌≤◌, ◌+◌, sym, ◌∙◌, arith}
+use Rattle.std.proofs.Common.{sym, ◌∙◌, arith}
 use Rattle.tcc_judge.proofs.Firsts.{first_empty, first_behind}
 use Rattle.tcc_judge.proofs.Told.{at_some, at_none}
 use Rattle.tcc_judge.proofs.telling.end_of.Goals as goal

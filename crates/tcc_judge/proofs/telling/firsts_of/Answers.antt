@@ -1,4 +1,4 @@
-use Rattle.std.proofs.Common.{rules, ◌≡◌, ◌<◌, ◌+◌, ◌++◌, ◌∷◌, [], ℕ, length, ap, sym, ◌∙◌, arith}
+use Rattle.std.proofs.Common.{◌≡◌, ◌<◌, ◌++◌, ◌∷◌, [], length, ap, arith}
 use Rattle.tcc_reads.specs.History.{count}
 use Rattle.tcc_judge.proofs.Told.{firsts_none, firsts_push}
 use Rattle.tcc_judge.proofs.telling.firsts_of.Goals as goal
