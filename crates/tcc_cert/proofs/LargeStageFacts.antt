@@ -7,7 +7,6 @@ use Rattle.tcc_cert.specs.declared.large.Run.{Run}
 use Rattle.tcc_cert.specs.declared.large_part.LargePart.{LargePart}
 use Rattle.tcc_cert.specs.declared.large_part.LargePart.TheVariants as part
 use Rattle.tcc_cert.specs.declared.ranges.Scale.TheVariants.{Large}
-use Rattle.tcc_cert.specs.declared.ranges.TheConstants.{MAX_HEADER_BYTES}
 use Rattle.tcc_cert.specs.declared.reading.input.Input.{Input}
 use Rattle.tcc_cert.specs.declared.reading.large_forms.LargeSizes.{LargeSizes}
 use Rattle.tcc_cert.specs.declared.reading.large_forms.LargeSizes.TheVariants.{Order, Cycle}
@@ -16,11 +15,11 @@ use Rattle.tcc_cert.specs.declared.reading.large_forms.Tail.TheVariants.{Least, 
 use Rattle.tcc_cert.specs.declared.reading.large_stages.LargeStage.{LargeStage}
 use Rattle.tcc_cert.specs.LargeParts.{LargeParts, large_claim_parts, large_end_parts, large_parts_behind, least_parts, link_parts}
 use Rattle.tcc_cert.specs.LargeParts.{run_parts, tail_parts}
-use Rattle.tcc_cert.specs.LargeReading.{large_header_line, large_sizes_line, run_line, tail_line}
+use Rattle.tcc_cert.specs.LargeReading.{large_sizes_line, run_line, tail_line}
 use Rattle.tcc_cert.specs.Parts.{◌>>>◌, FaultsIn, after_part}
 use Rattle.tcc_cert.specs.private.LargeStages.{TakesLargeStep}
 use Rattle.tcc_cert.specs.private.Showing.{Faults}
-use Rattle.tcc_cert.specs.Reading.{Position, Reads, link_at, next, word_line, words}
+use Rattle.tcc_cert.specs.Reading.{Position, Reads, link_at, word_line, words}
 use Rattle.tcc_cert.proofs.OnwardFacts.{onward-link, onward-words}
 use Rattle.tcc_cert.proofs.StageFacts.{onward-rows, onward-then, part-faults, wanted-earlier}
 

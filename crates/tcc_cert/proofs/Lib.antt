@@ -28,6 +28,7 @@ mod LargeOnward
 mod LargeReads
 pub mod LargePartFacts
 mod LargeStageFacts
+mod LargeGivenFacts
 mod LargeBack
 mod LargeOne
 mod WorkedLarge

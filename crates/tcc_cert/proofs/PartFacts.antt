@@ -1,6 +1,6 @@
 -- The parts that a text gives are those of the certificate that it is the text of, and end where its reading ends.
-use Rattle.std.proofs.Common.{◌≡◌, ℕ, zero, suc, ◌+◌, ◌-◌, Bool, true, false, cond, eqb, length, List, [], ◌∷◌, ◌++◌}
-use Rattle.std.proofs.Common.{Option, None, Some, Result, Ok, Err, refl, sym, ap, subst, ◌∙◌, append_assoc, append-nil}
+use Rattle.std.proofs.Common.{◌≡◌, ℕ, ◌-◌, length, List, [], ◌∷◌, ◌++◌}
+use Rattle.std.proofs.Common.{None, Some, Ok, Err, refl, sym, ap, subst, ◌∙◌, append_assoc}
 use Rattle.std.proofs.Common.{codes, ◌≤◌, arith, inl, inr}
 use Rattle.std.specs.Prelude.{map}
 use Rattle.tcc_graph.specs.declared.level.Level.{Level}
@@ -10,8 +10,6 @@ use Rattle.tcc_cert.specs.declared.ranges.TheConstants.{MAX_HEADER_BYTES}
 use Rattle.tcc_cert.specs.declared.version.Version.{Version}
 use Rattle.tcc_cert.specs.declared.ranges.Scale.TheVariants.{Small}
 use Rattle.tcc_cert.specs.declared.fault.CertFault.{CertFault}
-use Rattle.tcc_cert.specs.declared.fault.CertFaultKind.{CertFaultKind}
-use Rattle.tcc_cert.specs.declared.fault.CertFaultKind.TheVariants.{Trailing}
 use Rattle.tcc_cert.specs.declared.certificate.Certificate.{Certificate}
 use Rattle.tcc_cert.specs.declared.certificate.Certificate.TheVariants as claim
 use Rattle.tcc_cert.specs.declared.part.CycleHead.{CycleHead}
@@ -23,11 +21,11 @@ use Rattle.tcc_cert.specs.declared.reading.forms.Sizes.TheVariants.{Order, Cycle
 use Rattle.tcc_cert.specs.Ranges.{ranges_of}
 use Rattle.tcc_cert.specs.Tables.{lowest}
 use Rattle.tcc_cert.specs.Outcomes.{IsReading, reached}
-use Rattle.tcc_cert.specs.Parts.{◌>>>◌, Parts, after_part, claim_parts, cycle_parts, end_parts, far_parts, link_rows}
+use Rattle.tcc_cert.specs.Parts.{after_part, claim_parts, cycle_parts, end_parts, far_parts, link_rows}
 use Rattle.tcc_cert.specs.Parts.{near_parts, order_parts, order_rest, parts_behind, parts_of, parts_read}
 use Rattle.tcc_cert.specs.Parts.{rows_then, whole_parts, with_clocks, with_tables}
 use Rattle.tcc_cert.specs.Reading.{◌>>=◌, Position, Reads, behind_header, certificate_at, certificate_read, claim_at, clocks_at, cycle_at}
-use Rattle.tcc_cert.specs.Reading.{ended, header_line, link_at, next, numbered, numbers_line, order_at, repeated, sizes_line, start_of}
+use Rattle.tcc_cert.specs.Reading.{header_line, link_at, next, numbered, numbers_line, order_at, repeated, sizes_line, start_of}
 use Rattle.tcc_cert.specs.Reading.{word_line, words}
 use Rattle.tcc_cert.proofs.PartsTold.{IsAllTold, IsTold, all-told, bind-assoc, fault-of, reached-of, told-behind, told-ended, told-part, told-rows, whole-of}
 

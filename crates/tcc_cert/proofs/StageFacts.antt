@@ -1,13 +1,12 @@
 -- Parts of a text given one after the other, where a reader may fail and memory may be refused.
-use Rattle.std.proofs.Common.{◌≡◌, ℕ, zero, suc, ◌+◌, ◌≤◌, cond, eqb, length, List, Option, None}
-use Rattle.std.proofs.Common.{Some, Result, Ok, Err, inl, inr, refl, sym, ap, subst, arith, codes}
+use Rattle.std.proofs.Common.{◌≡◌, ℕ, zero, suc, ◌+◌, ◌≤◌, List, Option}
+use Rattle.std.proofs.Common.{Result, Ok, Err, inl, inr, refl, sym, subst, arith, codes}
 use Rattle.tcc_graph.specs.declared.level.Level.{Level}
 use Rattle.tcc_graph.specs.declared.level.Level.TheVariants.{Causal, Atomic}
 use Rattle.tcc_cert.specs.declared.ranges.TheConstants.{MAX_HEADER_BYTES}
 use Rattle.tcc_cert.specs.declared.version.Version.{Version}
 use Rattle.tcc_cert.specs.declared.ranges.Scale.TheVariants.{Small}
 use Rattle.tcc_cert.specs.declared.fault.CertFault.{CertFault}
-use Rattle.tcc_cert.specs.declared.fault.CertFaultKind.TheVariants.{Trailing}
 use Rattle.tcc_graph.specs.declared.link.Link.{Link}
 use Rattle.tcc_cert.specs.declared.part.Part.{Part}
 use Rattle.tcc_cert.specs.declared.part.Part.TheVariants as part
@@ -24,7 +23,7 @@ use Rattle.tcc_cert.specs.private.Inputs.{Ends}
 use Rattle.tcc_cert.specs.InputBytes.{HasFailed}
 use Rattle.tcc_cert.specs.private.Showing.{Faults}
 use Rattle.tcc_cert.specs.Parts.{◌>>>◌, FaultsIn, IsFirst, Parts, PartsOf, after_part, claim_parts, end_parts, ended_parts}
-use Rattle.tcc_cert.specs.Parts.{ending, far_parts, far_rows, link_rows, near_parts, order_rest, parts_behind, rows_then}
+use Rattle.tcc_cert.specs.Parts.{far_parts, far_rows, link_rows, near_parts, order_rest, parts_behind, rows_then}
 use Rattle.tcc_cert.specs.Parts.{whole_parts}
 use Rattle.tcc_cert.specs.Shapes.{behind_table, columns_in, height, most_in, part_of, table_parts, table_rows, word_before}
 use Rattle.tcc_cert.specs.Reading.{Position, Reads, header_line, link_at, next, numbers_line, sizes_line, word_line, words}

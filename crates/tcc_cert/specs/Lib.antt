@@ -15,6 +15,7 @@ pub mod Parts
 pub mod Ahead
 pub mod LargeParts
 pub mod LargeAhead
+pub mod LargeGiven
 pub mod WindowBytes
 pub mod InputBytes
 pub mod Versions

@@ -14,7 +14,7 @@ use std::io::{self, Write};
 use tcc_graph::Level;
 
 /// `s k`
-fn run_line<W: Write>(outgoing: &mut Outgoing, out: &mut W, run: &Run) -> io::Result<()>
+pub(crate) fn run_line<W: Write>(outgoing: &mut Outgoing, out: &mut W, run: &Run) -> io::Result<()>
     ensures { IsSent result (W.contents out.old) outgoing.old (W.contents out.new) outgoing.new (line_text (run_words run.now)) }
 {
     number_line(outgoing, out, &[run.session, run.count])
@@ -39,7 +39,7 @@ fn runs_to_end<W: Write>(outgoing: &mut Outgoing, out: &mut W, runs: &Runs) -> i
 }
 
 /// `order N S R`
-fn order_sizes<W: Write>(
+pub(crate) fn order_sizes<W: Write>(
     outgoing: &mut Outgoing,
     out: &mut W,
     transactions: u32,
@@ -70,7 +70,11 @@ fn order<W: Write>(outgoing: &mut Outgoing, out: &mut W, claim: &RunsClaim) -> i
 }
 
 /// `least R`
-fn least_size<W: Write>(outgoing: &mut Outgoing, out: &mut W, runs: usize) -> io::Result<()>
+pub(crate) fn least_size<W: Write>(
+    outgoing: &mut Outgoing,
+    out: &mut W,
+    runs: usize,
+) -> io::Result<()>
     ensures { IsSent result (W.contents out.old) outgoing.old (W.contents out.new) outgoing.new
         (line_text (codes "least" ∷ decimal runs ∷ [])) }
 {
@@ -103,7 +107,11 @@ fn cycle<W: Write>(outgoing: &mut Outgoing, out: &mut W, claim: &LinksClaim) -> 
 }
 
 /// The line that names the version and the level.
-fn header_line<W: Write>(outgoing: &mut Outgoing, out: &mut W, level: Level) -> io::Result<()>
+pub(crate) fn header_line<W: Write>(
+    outgoing: &mut Outgoing,
+    out: &mut W,
+    level: Level,
+) -> io::Result<()>
     ensures { IsSent result (W.contents out.old) outgoing.old (W.contents out.new) outgoing.new (line_text (large_header_words level)) }
 {
     match level {

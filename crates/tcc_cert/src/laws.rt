@@ -1,12 +1,14 @@
 //! What the definitions of a certificate's text say by themselves.
-ghost use Rattle.std.specs.Prelude.{◌≡◌, ◌≤◌, ◌<◌, ◌+◌, ◌∷◌, length, ℕ, List, Err, None, Ok, Some};
+ghost use Rattle.std.specs.Prelude.{◌≡◌, ◌≤◌, ◌<◌, ◌+◌, [], ◌∷◌, ◌++◌, length, ℕ, List, Err, None, Ok, Some};
 ghost use Rattle.tcc_cert.specs.Texts.{HasText, certificate_text};
 ghost use Rattle.tcc_cert.specs.LargeTexts.{HasLargeText, HasRunsClaimText, large_certificate_text};
 ghost use Rattle.tcc_cert.specs.RunsTold.{order_claim_of};
 ghost use Rattle.tcc_cert.specs.declared.version_3.TheConstants.{V3_MAX_COUNT, V3_MAX_SESSIONS};
 ghost use Rattle.tcc_graph.specs.declared.level.Level.{Level};
 ghost use Rattle.tcc_reads.specs.History.{History, count, owner};
+ghost use Rattle.tcc_cert.specs.LargeGiven.{parts_text};
 ghost use Rattle.tcc_cert.specs.LargeParts.{large_parts_of, large_parts_read};
+ghost use Rattle.tcc_cert.specs.declared.large_part.LargePart.TheVariants as part;
 ghost use Rattle.tcc_cert.specs.LargeReading.{large_certificate_read};
 ghost use Rattle.tcc_cert.specs.Outcomes.{IsLargeReading, IsReading};
 ghost use Rattle.tcc_cert.specs.Versions.{HasNoFirstLine};
@@ -63,6 +65,11 @@ pub fn large_parts_of_what_is_read()
 pub fn large_parts_before_the_fault()
     ensures { (bytes : List ℕ) (f : CertFault) → large_certificate_read bytes ≡ Err f
         → ((large_parts_read bytes).fault ≡ Some f.kind) × ((large_parts_read bytes).line ≡ f.line) }
+{}
+
+/// The text of a certificate of version 3 is that of its parts and the end.
+pub fn text_of_parts()
+    ensures { (c : LargeCertificate) → parts_text (large_parts_of c ++ part.End ∷ []) ≡ large_certificate_text c }
 {}
 
 /// A text without a first line has that fault whatever its version.

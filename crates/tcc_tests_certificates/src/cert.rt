@@ -1,6 +1,7 @@
 //! Certificates of worked histories, writers that fail, altered texts, and readers that fail.
 mod large;
 mod large_parts;
+mod large_writer;
 mod parts;
 mod rows;
 mod streams;

@@ -25,7 +25,7 @@ pub const FIVE_STEPS: &str = "tcc-certificate 3 causal\ncycle 5 2 5\nS 0 1\nD 1 
 const GREATEST: &str = "tcc-certificate 3 atomic\ncycle 1048576 1 4294967295\n\
     R 1048575 1048575 x\nleast 1\n65534 1048575\nend\n";
 
-const TEXTS: [&str; 6] = [
+pub const TEXTS: [&str; 6] = [
     NO_RUNS,
     RUNS,
     LEAST_STALE_READ,

@@ -12,7 +12,7 @@ use tcc_cert::{LargePart, LargePartReader, VersionReader, reader_of};
 use tcc_graph::Level;
 
 /// The parts of what a reader gives, whose first line is one of version 3.
-fn parts_of<R: Read + Drop>(rt: &impl Abort, reader: R) -> LargePartReader<R> {
+pub fn parts_of<R: Read + Drop>(rt: &impl Abort, reader: R) -> LargePartReader<R> {
     match reader_of(reader) {
         Ok(VersionReader::Large(text)) => text.parts(),
         _ => panic!(rt; "the first line is another"),
