@@ -52,7 +52,7 @@ module _ (h : History) (u : ℕ) (prices costs : List ℕ) where
       go f (inl before) = let w = f before in (omega (arith, w.0), w.1, w.2)
       go f (inr last) = here (is_other h u prices costs n) refl last
 
-  kept : (n v : ℕ) → v < n → is_other h u prices costs v ≡ true → Contains (others_below h u prices costs n) (v, slice_index costs v)
+  pub kept : (n v : ℕ) → v < n → is_other h u prices costs v ≡ true → Contains (others_below h u prices costs n) (v, slice_index costs v)
   kept zero v low e = absurd (omega arith)
   kept (suc n) v low e = go (λ before. kept n v before e) (cases_eq v n)
     where

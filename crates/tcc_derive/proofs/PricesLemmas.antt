@@ -1,7 +1,8 @@
 -- All rows together are the prices of a history at a level, and name no transactions that it doesn't have.
 use Rattle.std.proofs.Common.{ℕ, ◌<◌, ◌≤◌, ◌≡◌, List, [], length, get_or, refl, sym, subst, arith}
-use Rattle.std.specs.Prelude.{All}
+use Rattle.std.specs.Prelude.{All, slice_index}
 use Rattle.std.specs.List.{AllPairs}
+use Rattle.std.proofs.lemmas.Bool.{ne_eqb}
 use Rattle.std.proofs.lemmas.List.{get_or_default}
 use Rattle.tcc_txn.specs.declared.limits.TheConstants.{MAX_COUNT}
 use Rattle.tcc_reads.specs.History.{count}
@@ -10,12 +11,14 @@ use Rattle.tcc_graph.specs.Tables.{row_of}
 use Rattle.tcc_near.specs.Distances.{IsSquare, NearTable, IsNearOf}
 use Rattle.tcc_derive.specs.Prices.{Tables, IsCost, IsPricesOf, HasOthers, cost_at}
 use Rattle.tcc_derive.specs.private.Others.{HasOtherRows, HasEnds, IsShaped, others_below, tables_of}
+use Rattle.tcc_near.specs.declared.distances.TheConstants.{NONE}
+use Rattle.tcc_derive.specs.private.Closings.{HasPriced}
 use Rattle.tcc_derive.specs.private.Classes.{HasClassRows, HaveByClass}
 use Rattle.tcc_derive.specs.declared.by_class.ByClass.{ByClass}
 use Rattle.tcc_derive.specs.private.Rows.{IsPriceRow, IsCostRow, HasRows}
 use Rattle.tcc_derive.proofs.ClassLemmas.{by_class_of}
 use Rattle.tcc_derive.proofs.CostLemmas.{cost_row_of}
-use Rattle.tcc_derive.proofs.OthersLemmas.{others_of, costed_at, below, ascends}
+use Rattle.tcc_derive.proofs.OthersLemmas.{kept, others_of, costed_at, below, ascends}
 
 square : (n : ℕ) (rows : List (List ℕ)) → length rows ≡ n → ((u : ℕ) → u < n → length (row_of rows u) ≡ n) → IsSquare n rows
 square n rows long wide = record { long = long; wide = λ k d l. rw (get_or_default rows k d [] l) (wide k (omega arith)) }
@@ -79,6 +82,15 @@ module _ (j : Judged) (near : NearTable) (prices : List (List ℕ)) (ends : List
   others_within m few = λ u d low.
       let inside : All (λ (p : ℕ × ℕ). p.0 < count j.history) (row_of others u) = below_count u (omega (arith, low, other.long)) in
       rw (get_or_default others u d [] low) (λ k e l. let less : (get_or (row_of others u) k e).0 < count j.history = inside k e l in omega (arith, less, few))
+
+  pub others_priced : HasPriced prices others
+  others_priced b a from to some =
+      let here : b < count j.history = omega (arith, from, priced.long) in
+      let there : a < count j.history = omega (arith, to, priced.long) in (
+        slice_index (costs b here) a,
+        rw (others_are b here)
+            (kept j.history b (row_of prices b) (costs b here) (count j.history) a there (rw (ne_eqb (slice_index (row_of prices b) a) NONE some) refl)),
+      )
 
   pub have_by_class : (rows : List ByClass) → HasClassRows ends others limit rows → HaveByClass tables rows
   have_by_class rows classes_in = record {

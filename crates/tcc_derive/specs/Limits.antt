@@ -1,17 +1,26 @@
 -- Up to which cost links are kept by what they cost, and whether all are.
-use Rattle.std.specs.Prelude.{ℕ, ◌+◌, ◌≤◌, ◌≡◌, ◌⊎◌, List, All, Some}
+use Rattle.std.specs.Prelude.{ℕ, ◌+◌, ◌<◌, ◌≤◌, ◌≡◌, ◌⊎◌, List, length, All, Some}
 use Rattle.tcc_near.specs.Distances.{least}
+use Rattle.tcc_near.specs.declared.distances.TheConstants.{NONE}
 use Rattle.tcc_derive.specs.declared.limits.TheConstants.{NO_CYCLE_LIMIT}
 
 -- by these distances and prices a walk makes a cycle that costs n, or a walk and one derived link back do
 abbrev pub IsClosing : List (List ℕ) → List (List ℕ) → ℕ → Type 0
 IsClosing near prices n =
-    ((a : ℕ) × (least near a a ≡ Some n))
-    ⊎ ((a : ℕ) × (b : ℕ) × (d : ℕ) × (c : ℕ) × (least near a b ≡ Some d) × (least prices b a ≡ Some c) × (d + c ≡ n))
+    ((a : ℕ) × (a < length near) × (least near a a ≡ Some n))
+    ⊎ ((a : ℕ) × (b : ℕ) × (d : ℕ) × (c : ℕ) × (a < length near) × (b < length near)
+    × (least near a b ≡ Some d) × (least prices b a ≡ Some c) × (d + c ≡ n))
 
--- the limit is what such a cycle costs, or the one that stands where none is found
+-- n is what the cheapest of such cycles costs
+abbrev pub IsLeastClosing : List (List ℕ) → List (List ℕ) → ℕ → Type 0
+IsLeastClosing near prices n = IsClosing near prices n × ((m : ℕ) → IsClosing near prices m → n ≤ m)
+
+-- the limit is what the cheapest of such cycles costs; where none costs less than the mark for none, it is the one that stands
+-- for that
 abbrev pub IsLimit : List (List ℕ) → List (List ℕ) → ℕ → Type 0
-IsLimit near prices limit = (limit ≡ NO_CYCLE_LIMIT) ⊎ IsClosing near prices limit
+IsLimit near prices limit =
+    IsLeastClosing near prices limit
+    ⊎ ((limit ≡ NO_CYCLE_LIMIT) × ((m : ℕ) → IsClosing near prices m → NONE ≤ m))
 
 -- none of these links costs more
 abbrev pub AreWithin : ℕ → List (List (ℕ × ℕ)) → Type 0

@@ -1,9 +1,10 @@
 //! Up to which cost links are kept by what they cost.
-ghost use Rattle.std.specs.Prelude.{◌≡◌, ◌<◌, ◌≤◌, ◌↔◌, false, true, length, All};
+ghost use Rattle.std.specs.Prelude.{◌≡◌, ◌<◌, ◌≤◌, ◌↔◌, ◌⊎◌, ℕ, false, true, length, slice_index, All};
 ghost use Rattle.tcc_txn.specs.declared.limits.TheConstants.{MAX_COUNT};
 ghost use Rattle.tcc_near.specs.Distances.{IsSquare};
 ghost use Rattle.tcc_derive.specs.Limits.{AreWithin, IsLimit};
-ghost use Rattle.tcc_derive.specs.private.Closings.{IsBackOrNone, IsClosingOrNone};
+ghost use Rattle.tcc_derive.specs.private.Closings.{HasMany, HasPriced, IsBackOrNone, IsClosingOrNone, NoOtherCheaper, NoneCheaper};
+ghost use Rattle.tcc_graph.specs.Tables.{row_of};
 
 use tcc_bits::Row;
 use tcc_near::{NONE, Near};
@@ -11,7 +12,7 @@ use tcc_near::{NONE, Near};
 /// So many rows of distances are read side by side, so that a row of prices is read once for all of them.
 const BLOCK: usize = 32;
 
-/// A row of others is looked through one by one where it is at most this part of all transactions.
+/// A row of others is looked through one by one where it has at most this part of all transactions.
 const PART: usize = 16;
 
 /// The limit where no such cycle is.
@@ -23,7 +24,8 @@ fn least_back(near: &Near, prices: &[u16], from: usize, to: usize, b: usize) -> 
     requires long { length prices.now ≡ length near.now.rows }
     requires below { b < length near.now.rows }
     requires few { length near.now.rows ≤ MAX_COUNT }
-    ensures { IsBackOrNone near.now.rows prices.now b result }
+    ensures attained { IsBackOrNone near.now.rows prices.now b result }
+    ensures least { NoneCheaper near.now.rows prices.now b from to result }
 {
     let mut least = NONE;
     for a in from..to {
@@ -37,7 +39,8 @@ fn least_of_others(near: &Near, prices: &[u16], others: &[(u32, u32)], b: usize)
     requires within { All (λ p. p.0 < length near.now.rows) others.now }
     requires long { length prices.now ≡ length near.now.rows }
     requires below { b < length near.now.rows }
-    ensures { IsBackOrNone near.now.rows prices.now b result }
+    ensures attained { IsBackOrNone near.now.rows prices.now b result }
+    ensures least { NoOtherCheaper near.now.rows prices.now b others.now result }
 {
     let mut least = NONE;
     for other in others {
@@ -47,11 +50,12 @@ fn least_of_others(near: &Near, prices: &[u16], others: &[(u32, u32)], b: usize)
     least
 }
 
-/// The least cost of a walk from one of these transactions to one that has many others, and back by a derived link.
+/// The least cost of a walk from one of these transactions to one that has more others than `few`, and back by a derived link.
 fn least_from(
     near: &Near,
     prices: &[Row<u16>],
     others: &[Row<(u32, u32)>],
+    few: usize,
     from: usize,
     to: usize,
 ) -> u16
@@ -59,30 +63,34 @@ fn least_from(
     requires square { IsSquare (length near.now.rows) prices.now }
     requires same { length others.now ≡ length near.now.rows }
     requires few { length near.now.rows ≤ MAX_COUNT }
-    ensures { IsClosingOrNone near.now.rows prices.now result }
+    ensures attained { IsClosingOrNone near.now.rows prices.now result }
+    ensures least { (b : ℕ) → b < length near.now.rows → HasMany few others.now b
+        → NoneCheaper near.now.rows (row_of prices.now b) b from to result }
 {
     let mut least = NONE;
     for b in 0..prices.len() {
-        if others[b].as_slice().len() > prices.len() / PART {
+        if others[b].as_slice().len() > few {
             least = least.min(least_back(near, prices[b].as_slice(), from, to, b));
         }
     }
     least
 }
 
-/// The least cost of a walk back to its start, or to one that has few others and back by a derived link.
-fn least_of_few(near: &Near, prices: &[Row<u16>], others: &[Row<(u32, u32)>]) -> u16
+/// The least cost of a walk back to its start, or to one that has no more others than `few` and back by a derived link.
+fn least_of_few(near: &Near, prices: &[Row<u16>], others: &[Row<(u32, u32)>], few: usize) -> u16
     requires square { IsSquare (length near.now.rows) prices.now }
     requires same { length others.now ≡ length near.now.rows }
     requires within { All (λ row. All (λ p. p.0 < length near.now.rows) row) others.now }
     requires few { length near.now.rows ≤ MAX_COUNT }
-    ensures { IsClosingOrNone near.now.rows prices.now result }
+    ensures attained { IsClosingOrNone near.now.rows prices.now result }
+    ensures least { (b : ℕ) → b < length near.now.rows → (result ≤ slice_index (row_of near.now.rows b) b)
+        × (HasMany few others.now b ⊎ NoOtherCheaper near.now.rows (row_of prices.now b) b (row_of others.now b) result) }
 {
     let mut least = NONE;
     for b in 0..prices.len() {
         least = least.min(near.row(b as u32)[b]);
         let row = others[b].as_slice();
-        if row.len() <= prices.len() / PART {
+        if row.len() <= few {
             least = least.min(least_of_others(near, prices[b].as_slice(), row, b));
         }
     }
@@ -95,14 +103,17 @@ pub(crate) fn cost_limit(near: &Near, prices: &[Row<u16>], others: &[Row<(u32, u
     requires square { IsSquare (length near.now.rows) prices.now }
     requires same { length others.now ≡ length near.now.rows }
     requires within { All (λ row. All (λ p. p.0 < length near.now.rows) row) others.now }
+    requires priced { HasPriced prices.now others.now }
     requires few { length near.now.rows ≤ MAX_COUNT }
     ensures { IsLimit near.now.rows prices.now result }
 {
     let count = prices.len();
-    let mut least = least_of_few(near, prices, others);
+    let few = count / PART;
+    let mut least = least_of_few(near, prices, others, few);
     for block in 0..count.div_ceil(BLOCK) {
         let from = block * BLOCK;
-        least = least.min(least_from(near, prices, others, from, count.min(from + BLOCK)));
+        let to = count.min(from + BLOCK);
+        least = least.min(least_from(near, prices, others, few, from, to));
     }
     if least == NONE { NO_CYCLE_LIMIT } else { least }
 }

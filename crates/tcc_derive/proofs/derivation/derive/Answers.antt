@@ -2,7 +2,7 @@ use Rattle.std.proofs.Common.{◌≤◌, length, arith}
 use Rattle.tcc_reads.specs.History.{count}
 use Rattle.tcc_graph.specs.Levels.{Judged, judged}
 use Rattle.tcc_txn.specs.declared.limits.TheConstants.{MAX_COUNT}
-use Rattle.tcc_derive.proofs.PricesLemmas.{prices_of, shaped, others_within, have_by_class}
+use Rattle.tcc_derive.proofs.PricesLemmas.{prices_of, shaped, others_within, others_priced, have_by_class}
 use Rattle.tcc_derive.proofs.derivation.derive.Goals as goal
 
 pub returns-clause-prices : goal.returns-clause-prices
@@ -49,3 +49,10 @@ new-requires-clause-by_class g c =
 
 pub returns-clause-limit : goal.returns-clause-limit
 returns-clause-limit g c = rw c.new.ensures (rw c.deref-2.ensures.value at c.cost_limit-limit.ensures)
+
+pub cost_limit-limit-requires-clause-priced : goal.cost_limit-limit-requires-clause-priced
+cost_limit-limit-requires-clause-priced g c =
+    let j : Judged = judged c.args.graph.now c.args.near.now.level in
+    rw (c.deref-2.ensures.value, c.deref-3.ensures.value)
+    (others_priced j c.args.near.now c.in_ok-prices.prices.items c.in_ok-ends.ends.items c.in_ok-others.others.items 0 c.requires c.in_ok-prices.ensures.rows
+    c.in_ok-ends.ensures (rw c.deref.ensures.value at c.in_ok-others.ensures))
