@@ -14,7 +14,7 @@ use Rattle.tcc_graph.specs.Walks.{IsReached}
 use Rattle.tcc_graph.specs.declared.level.Level.{Level}
 use Rattle.tcc_near.specs.Distances.{IsShortest, IsWalkLength, IsNearOf, least_in}
 use Rattle.tcc_bits.specs.Bits.{is_marked}
-use Rattle.tcc_near.specs.private.Breadth.{IsWithin, IsMarked, IsLengthWithin, IsSearched, HasLengths, HaveLengths, IsLedTo, numbered, one_step, unnumbered}
+use Rattle.tcc_near.specs.private.Breadth.{IsWithin, IsMarked, IsBoundFrom, IsLengthWithin, IsSearched, HasLengths, HaveLengths, IsLedTo, numbered, one_step, unnumbered}
 use Rattle.tcc_near.proofs.Walks.{within_more, within_one, within_one_from, within_pair, IsStepAfter, last_step, within_closed, within_below, shortest_at}
 use Rattle.tcc_near.specs.declared.distances.TheConstants.{NONE}
 
@@ -183,6 +183,39 @@ row_full h a n row searched few all = row_done h a n row searched few near
         let is = known h a n row b searched below (all b (omega (arith, searched.long))) in
         let walk = is.1.attained in
         (walk.0, walk.1.0, omega (arith, is.0, walk.2))
+
+-- where each that may be reached has a number, the search has ended
+pub row_covered : (h : History) (a n : ℕ) (row bound : List ℕ) → IsSearched h a n row → n ≤ count h → IsBoundFrom h a bound
+    → ((b : ℕ) → b < length bound → slice_index bound b ≢ NONE → slice_index row b ≢ NONE) → HasLengths (causally h) a row
+row_covered h a n row bound searched few is all = row_done h a n row searched few near
+  where
+    near : (b : ℕ) → IsReached h a b → IsWithin h a n b
+    near b reached =
+        let below = within_below h a (length reached.0) b (reached.0, reached.1, omega arith) in
+        let here = known h a n row b searched below (all b (omega (arith, below, is.long)) (is.reached b reached)) in
+        let walk = here.1.attained in
+        (walk.0, walk.1.0, omega (arith, here.0, walk.2))
+
+-- a row of numbers bounds any search
+pub bound_all : (h : History) (a n : ℕ) → n ≡ count h → IsBoundFrom h a (replicate n 0)
+bound_all h a n long = record { long = length-replicate n 0 ∙ long; reached = λ b reached. some b reached }
+  where
+    some : (b : ℕ) → IsReached h a b → slice_index (replicate n 0) b ≢ NONE
+    some b reached same =
+        let below = within_below h a (length reached.0) b (reached.0, reached.1, omega arith) in
+        let zero_here : slice_index (replicate n 0) b ≡ 0 = get_or-replicate n b 0 0 (omega (arith, below, long)) in
+        absurd (omega (arith, zero_here, same))
+
+-- what has a number keeps it in a round, so what is closed stays so
+pub closed_more : (row new marks bound : List ℕ) (d first : ℕ) → d < NONE → ((b : ℕ) → slice_index new b ≡ numbered row marks d b)
+    → ((b : ℕ) → b < first → slice_index bound b ≢ NONE → slice_index row b ≢ NONE)
+    → (next : ℕ) → ((b : ℕ) → first ≤ b → b < next → slice_index bound b ≢ NONE → slice_index new b ≢ NONE)
+    → (b : ℕ) → b < next → slice_index bound b ≢ NONE → slice_index new b ≢ NONE
+closed_more row new marks bound d first small each before next after b below some = go (cases_lt b first)
+  where
+    go : (b < first) ⊎ (first ≤ b) → slice_index new b ≢ NONE
+    go (inl early) = λ none. before b early some (sym (numbered_kept row marks d b (before b early some)) ∙ (sym (each b) ∙ none))
+    go (inr late) = after b late below some
 
 -- whether a distance is none, as a number
 abbrev without : ℕ → ℕ

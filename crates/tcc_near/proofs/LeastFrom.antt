@@ -1,5 +1,5 @@
 -- The least numbers of steps from some transactions: one transaction more, and one step more.
-use Rattle.std.proofs.Common.{◌≡◌, ◌≢◌, ◌<◌, ◌≤◌, ◌+◌, ◌↔◌, ◌⊎◌, inl, inr, ℕ, true, List, [], ◌∷◌, length, length-set, replicate, set, take, get_or}
+use Rattle.std.proofs.Common.{◌≡◌, ◌≢◌, ◌<◌, ◌≤◌, ◌+◌, ◌↔◌, ◌⊎◌, inl, inr, ℕ, true, List, [], ◌∷◌, ◌++◌, length, length-set, replicate, set, take, get_or}
 use Rattle.std.proofs.Common.{slice_index, refl, sym, ◌∙◌, ap, subst, arith, Option, Some, None}
 use Rattle.std.specs.Prelude.{min}
 use Rattle.std.specs.List.{All, Contains}
@@ -8,12 +8,14 @@ use Rattle.std.proofs.lemmas.List.{get_or-replicate, length-replicate, get_or-se
 use Rattle.tcc_reads.specs.History.{History, count}
 use Rattle.tcc_graph.specs.Relations.{IsSessionPair, causal_pair}
 use Rattle.tcc_graph.specs.Levels.{causally}
-use Rattle.tcc_graph.specs.Walks.{step_to, Leads, IsWalk}
+use Rattle.tcc_graph.specs.Walks.{step_to, Leads, IsReached, IsWalk}
 use Rattle.tcc_graph.specs.Tables.{row_of}
 use Rattle.tcc_graph.specs.declared.step.Step.{Step}
 use Rattle.tcc_graph.proofs.Pairs.{step_from_pair, pair_from_step}
+use Rattle.tcc_graph.proofs.Walking.{leads_append}
+use Rattle.tcc_near.proofs.Walks.{within_below}
 use Rattle.tcc_near.specs.Distances.{IsShortest, IsWalkLength, least_in}
-use Rattle.tcc_near.specs.private.Breadth.{IsSessionEnd, AreEnds, IsPairsFrom, HasLengths}
+use Rattle.tcc_near.specs.private.Breadth.{IsSessionEnd, IsBoundFrom, AreEnds, IsPairsFrom, HasLengths}
 use Rattle.tcc_near.specs.private.Backwards.{IsLedFrom, IsLeastFrom, IsLowered, IsNextOrOne, IsFromOn, AreOthers, AreKnown, AreHeads}
 use Rattle.tcc_near.specs.declared.distances.TheConstants.{NONE}
 use Rattle.tcc_near.proofs.BreadthLemmas.{Read, read}
@@ -297,3 +299,18 @@ heads_first h ends heads runs n are long last same blank = record {
         let end : IsSessionEnd h head (slice_index ends head) = are.each head (omega (arith, at.0, are.long)) in
         rw (blank s [] (omega (arith, same)))
         (least_none h (IsSessionPair h head) n long (λ b p. let w = (end.pairs b).0 p in absurd (omega (arith, w.0, w.1, at.1))))
+
+-- ---- what walks lead to from a transaction that a later one of its session reaches
+pub bound_run : (h : History) (a : ℕ) (run : List ℕ) → a < count h → IsLeastFrom h (IsSessionPair h a) run → slice_index run a ≢ NONE → IsBoundFrom h a run
+bound_run h a run low is some = record { long = is.long; reached = λ b reached. go b reached (is.attained a low) }
+  where
+    by : (b z : ℕ) (steps : List Step) → IsReached h a b → IsSessionPair h a z → Leads h z a steps → slice_index run b ≢ NONE
+    by b z steps (walk, w) later leads same =
+        let below = within_below h a (length walk) b (walk, w, omega arith) in
+        let far = is.least z b (steps ++ walk) later below (leads_append h z a b steps walk leads w.1) in
+        omega (arith, far.0, same)
+
+    go : (b : ℕ) → IsReached h a b → (slice_index run a ≡ NONE) ⊎ ((slice_index run a ≤ count h) × IsLedFrom h (IsSessionPair h a) a (slice_index run a))
+        → slice_index run b ≢ NONE
+    go b reached (inl none) = absurd (some none)
+    go b reached (inr (few, (z, later, steps, leads, long))) = by b z steps reached later leads

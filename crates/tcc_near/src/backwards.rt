@@ -10,7 +10,7 @@ ghost use Rattle.tcc_reads.specs.History.{count};
 ghost use Rattle.tcc_graph.specs.Relations.{IsSessionPair};
 ghost use Rattle.tcc_graph.specs.Levels.{causally};
 ghost use Rattle.tcc_graph.specs.Tables.{row_of};
-ghost use Rattle.tcc_near.specs.private.Breadth.{ArePairs, HasLengths, HaveLengths};
+ghost use Rattle.tcc_near.specs.private.Breadth.{ArePairs, HasLengths, HaveLengths, IsBoundFrom};
 ghost use Rattle.tcc_near.specs.private.Backwards.{IsLeastFrom, IsLowered, IsNextOrOne, IsFromOn, AreOthers, AreKnown, IsThere, AreHeads};
 ghost use Rattle.tcc_near.specs.declared.distances.TheConstants.{NONE};
 ghost use Rattle.tcc_txn.specs.declared.limits.TheConstants.{MAX_COUNT};
@@ -121,6 +121,26 @@ fn are_there(rows: &[Row<u16>], numbers: &[u32], count: usize) -> bool
     true
 }
 
+/// A row in which all have a value to which walks lead from the head of a session: where a later transaction of the session
+/// reaches the head, they lead to no others than from those.
+fn bound_from(
+    alloc: Global,
+    _pairs: &Pairs<'_>,
+    run: &[u16],
+    head: u32,
+) -> Result<Row<u16>, AllocError>
+    requires below { head < count _pairs.now.history }
+    requires run { IsLeastFrom _pairs.now.history (IsSessionPair _pairs.now.history head) run.now }
+    ensures { IfOk result (IsBoundFrom _pairs.now.history head) }
+{
+    if run[head as usize] == NONE {
+        let all = vec![in alloc; 0; run.len()]?;
+        return Ok(Row::new(all));
+    }
+    let row = run.to_vec(alloc)?;
+    Ok(Row::new(row))
+}
+
 /// The lengths from the head of a session: by those of its readers where they have theirs, else by a search.
 fn row_of_head(
     alloc: Global,
@@ -139,7 +159,8 @@ fn row_of_head(
     if are_there(rows, readers, pairs.count()) {
         row_over(alloc, pairs, run, rows, readers, head)
     } else {
-        lengths_from(alloc, pairs, head)
+        let bound = bound_from(alloc, pairs, run, head)?;
+        lengths_from(alloc, pairs, head, bound.as_slice())
     }
 }
 
@@ -252,11 +273,12 @@ pub(crate) fn rows_backwards(alloc: Global, pairs: &Pairs<'_>) -> Result<Vec<Row
     ensures { IfOk result (λ rows. HaveLengths (causally pairs.now.history) rows.items) }
 {
     let mut rows = rows_of_sessions(alloc, pairs)?;
+    let all = vec![in alloc; 0; pairs.count()]?;
     for source in 0..pairs.count() {
         if rows[source].as_slice().len() == pairs.count() {
             continue;
         }
-        rows[source] = lengths_from(alloc, pairs, source as u32)?;
+        rows[source] = lengths_from(alloc, pairs, source as u32, all.as_slice())?;
     }
     Ok(rows)
 }

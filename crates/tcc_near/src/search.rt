@@ -1,12 +1,13 @@
 //! All walk lengths of a graph, from each transaction: breadth-first search over rows of marks, 64 transactions in a word, or by the
 //! lengths of those that its pairs lead to (`backwards`). A breadth-first search from one transaction takes N / 64 steps a round and
-//! one for each reads-from pair, since of each session only the suffix that isn't marked yet is gone through.
-ghost use Rattle.std.specs.Prelude.{◌≡◌, ◌<◌, ◌≤◌, ◌^◌, ◌↔◌, ℕ, true, length, All, Contains, IfOk, OnOk, slice_index};
+//! one for each reads-from pair, since of each session only the suffix that isn't marked yet is gone through; it ends once all have
+//! their lengths that may be reached.
+ghost use Rattle.std.specs.Prelude.{◌≡◌, ◌<◌, ◌≤◌, ◌≢◌, ◌^◌, ◌↔◌, ℕ, true, length, All, Contains, IfOk, OnOk, slice_index};
 ghost use Rattle.tcc_reads.specs.History.{count};
 ghost use Rattle.tcc_graph.specs.Levels.{causally, atomically, judged};
 ghost use Rattle.tcc_near.specs.Distances.{IsNearOf};
 ghost use Rattle.tcc_bits.specs.Bits.{is_marked};
-ghost use Rattle.tcc_near.specs.private.Breadth.{AreMarks, ArePairs, HasLengths, HaveLengths, IsLedTo, IsRound, IsSeen, one_step, unnumbered};
+ghost use Rattle.tcc_near.specs.private.Breadth.{AreMarks, IsBoundFrom, ArePairs, HasLengths, HaveLengths, IsLedTo, IsRound, IsSeen, one_step, unnumbered};
 ghost use Rattle.tcc_near.specs.declared.distances.TheConstants.{NONE};
 
 use crate::backwards::rows_backwards;
@@ -67,24 +68,47 @@ fn spread(pairs: &Pairs<'_>, words: &mut [u64], suffixes: &mut [u32], fresh: &[u
     }
 }
 
-/// The lengths from one transaction by causal walks. A round numbers what is marked for the first time, and marks what
-/// the next step reaches from there; the search ends where there is nothing to number.
+/// From this index on the first transaction that has a value in `bound` and no length; the number of all where there is none.
+fn next_open(bound: &[u16], steps: &[u16], from: usize) -> usize
+    requires same { length bound.now ≡ length steps.now }
+    requires within { from ≤ length bound.now }
+    ensures within { result ≤ length bound.now }
+    ensures closed { (b : ℕ) → from ≤ b → b < result → slice_index bound.now b ≢ NONE → slice_index steps.now b ≢ NONE }
+{
+    for number in from..bound.len() {
+        if bound[number] != NONE && steps[number] == NONE {
+            return number;
+        }
+    }
+    bound.len()
+}
+
+/// The lengths from one transaction by causal walks, which lead to no others than those that have a value in `bound`. A round
+/// numbers what is marked for the first time, and marks what the next step reaches from there; the search ends where there is
+/// nothing to number, or nothing that may still be reached.
 pub(crate) fn lengths_from(
     alloc: Global,
     pairs: &Pairs<'_>,
     source: u32,
+    bound: &[u16],
 ) -> Result<Row<u16>, AllocError>
     requires pairs { ArePairs pairs.now }
     requires source { source < count pairs.now.history }
+    requires bound { IsBoundFrom pairs.now.history source bound.now }
     ensures { IfOk result (HasLengths (causally pairs.now.history) source) }
 {
     let (mut words, mut suffixes) = first_marks(alloc, pairs, source)?;
     let mut steps = vec![in alloc; NONE; pairs.count()]?;
     let mut seen = vec![in alloc; 0; words.len()]?;
     let mut fresh = Vec::new(alloc);
+    let mut next = 0;
     for before in 0..pairs.count() {
         number_fresh(&mut steps, &mut seen, &words, &mut fresh, before as u16 + 1)?;
         if fresh.is_empty() {
+            return Ok(Row::new(steps));
+        }
+        next = next_open(bound, steps.as_slice(), next);
+        if next == bound.len() {
             return Ok(Row::new(steps));
         }
         spread(pairs, &mut words, &mut suffixes, &fresh);

@@ -1,10 +1,10 @@
 -- The search breadth first: what is known after walks of so many steps.
-use Rattle.std.specs.Prelude.{ℕ, ◌+◌, ◌<◌, ◌≤◌, ◌≡◌, ◌⊎◌, ◌↔◌, ◌==◌, ◌&&◌, Bool, true, false, if◌then◌else◌, List, length, Contains}
+use Rattle.std.specs.Prelude.{ℕ, ◌+◌, ◌<◌, ◌≤◌, ◌≡◌, ◌≢◌, ◌⊎◌, ◌↔◌, ◌==◌, ◌&&◌, Bool, true, false, if◌then◌else◌, List, length, Contains}
 use Rattle.std.specs.Prelude.{[], count_by, Option, None, Some, slice_index, slice_index_or}
 use Rattle.tcc_reads.specs.History.{History, count}
 use Rattle.tcc_graph.specs.Relations.{IsSessionPair, causal_pair}
 use Rattle.tcc_graph.specs.Levels.{Judged, causally}
-use Rattle.tcc_graph.specs.Walks.{IsWalk}
+use Rattle.tcc_graph.specs.Walks.{IsReached, IsWalk}
 use Rattle.tcc_graph.specs.Tables.{row_of}
 use Rattle.tcc_graph.specs.declared.step.Step.{Step}
 use Rattle.tcc_bits.specs.Bits.{is_marked, words_for}
@@ -65,6 +65,11 @@ IsWithin h a n b = (walk : List Step) × IsWalk h a b walk × (length walk ≤ n
 -- marked are the transactions to which a walk of at most n steps leads
 pub record IsMarked (h : History) (a : ℕ) (n : ℕ) (marks : List ℕ) : Type 0 where
   pub exact : (b : ℕ) → b < count h → (is_marked marks b ≡ true) ↔ IsWithin h a n b
+
+-- each transaction that a reaches has a value in the row
+pub record IsBoundFrom (h : History) (a : ℕ) (row : List ℕ) : Type 0 where
+  pub long : length row ≡ count h
+  pub reached : (b : ℕ) → IsReached h a b → slice_index row b ≢ NONE
 
 -- the distance where it is at most n, and none where it is more
 abbrev pub IsLengthWithin : History → ℕ → ℕ → ℕ → Option ℕ → Type 0

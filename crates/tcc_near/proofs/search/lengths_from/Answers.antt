@@ -1,10 +1,10 @@
-use Rattle.std.proofs.Common.{rules, ◌≡◌, ◌<◌, ◌+◌, ◌↔◌, ℕ, true, length, replicate, ◌∙◌, arith, take_at, sym}
+use Rattle.std.proofs.Common.{rules, ◌≡◌, ◌≢◌, ◌≤◌, ◌<◌, ◌+◌, ◌↔◌, ℕ, true, length, replicate, slice_index, ◌∙◌, arith, take_at, sym}
 use Rattle.std.proofs.lemmas.List.{get_or-replicate, length-replicate}
 use Rattle.std.specs.List.{Contains}
 use Rattle.tcc_bits.specs.Bits.{is_marked}
 use Rattle.tcc_near.specs.private.Breadth.{IsSearched, IsRound, IsLedTo}
 use Rattle.tcc_bits.proofs.BitLemmas.{none_marked}
-use Rattle.tcc_near.proofs.BreadthLemmas.{searched_at_start, unnumbered_at_start, searched_more, row_at_end, row_full, all_numbered}
+use Rattle.tcc_near.proofs.BreadthLemmas.{searched_at_start, unnumbered_at_start, searched_more, row_at_end, row_covered, row_full, all_numbered, closed_more}
 use Rattle.tcc_near.proofs.FreshLemmas.{none_fresh, fresh_below, marked_round, led_inside}
 use Rattle.tcc_near.proofs.search.lengths_from.Goals.{After-is_empty}
 use Rattle.tcc_near.proofs.search.lengths_from.Goals as goal
@@ -25,6 +25,8 @@ loop-before-init c =
       seen = λ b below. (λ unseen. get_or-replicate n b NONE 0 (omega (arith, length-replicate n NONE)), λ none. none_marked c.len.result b);
       few = omega (arith, unnumbered_at_start n, c.count.ensures);
       searched = searched_at_start h c.args.source n c.count.ensures;
+      within = omega arith;
+      closed = λ b l some. absurd (omega arith);
       marked = made.marked;
     })
 
@@ -65,6 +67,31 @@ returns-then-is_empty c =
     (row_at_end c.args.pairs.now.history c.args.source c.loop-before.before c.loop-before.steps.items new c.loop-before.words.items inv.searched inv.marked
     (omega (arith, c.count.ensures)) (none_fresh (round after) empty) (searched after))
 
+-- ---- what may be reached
+-- before the next one that is open
+closed : (c : After-is_empty) (next : ℕ)
+    → ((b : ℕ) → c.loop-before.next ≤ b → b < next → slice_index c.args.bound.now b ≢ NONE → slice_index c.number_fresh.new.steps b ≢ NONE)
+    → (b : ℕ) → b < next → slice_index c.args.bound.now b ≢ NONE → slice_index c.number_fresh.new.steps b ≢ NONE
+closed c next after =
+    closed_more c.loop-before.steps.items c.number_fresh.new.steps c.loop-before.words.items c.args.bound.now (c.loop-before.before + 1) c.loop-before.next
+    (omega (arith, c.requires.pairs.few, c.count.ensures)) (round c).each c.loop-before.invariant.closed next after
+
+pub next_open-next-requires-clause-same : goal.next_open-next-requires-clause-same
+next_open-next-requires-clause-same c =
+    let after = (goal.at.next_open-next-requires-clause-same c).After-is_empty in
+    rw (c.as_slice.ensures.value, take_at c.number_fresh.new.steps _ c.loop-before.steps.len (whole after))
+    (c.requires.bound.long ∙ sym (searched after).long)
+
+pub returns-then-next-bound : goal.returns-then-next-bound
+returns-then-next-bound c =
+    let after = (goal.at.returns-then-next-bound c).After-is_empty in
+    let new = c.number_fresh.new.steps in
+    let all : c.next_open-next.result ≡ length c.args.bound.now = search rules in
+    let next = rw (c.as_slice.ensures.value, take_at new _ c.loop-before.steps.len (whole after)) at c.next_open-next.ensures.closed in
+    rw (c.new-then-next-bound.ensures, take_at new _ c.loop-before.steps.len (whole after))
+    (row_covered c.args.pairs.now.history c.args.source (c.loop-before.before + 1) new c.args.bound.now (searched after) (omega (arith, c.count.ensures))
+    c.requires.bound (λ b l some. closed after c.next_open-next.result next b (omega (arith, l, all)) some))
+
 pub spread-requires-clause-below : goal.spread-requires-clause-below
 spread-requires-clause-below c =
     rw c.deref-in-loop-before.ensures.value
@@ -86,6 +113,7 @@ loop-before-preserved c =
     let led : (b : ℕ) → (is_marked next b ≡ true) ↔ IsLedTo h c.loop-before.words.items (Contains fresh) b =
     rw (c.deref-in-loop-before.ensures.value, c.deref_mut-in-loop-before-2.ensures.value) at c.spread.ensures.each in
     let some : 0 < length fresh = search (rules, c.if-is_empty.false, c.is_empty.ensures) in
+    let open_next = rw (c.as_slice.ensures.value, take_at c.number_fresh.new.steps _ c.loop-before.steps.len (whole after)) at c.next_open-next.ensures.closed in
     let met_same : length met ≡ length c.loop-before.seen.items = search rules in
     let seen_long : c.loop-before.seen.len ≡ length c.loop-before.seen.items = search rules in
     let marks_long : c.loop-before.words.len ≡ length c.loop-before.words.items = search rules in
@@ -102,6 +130,8 @@ loop-before-preserved c =
       seen = (round after).seen;
       few = omega (arith, (round after).fewer some, inv.few);
       searched = searched after;
+      within = c.next_open-next.ensures.within;
+      closed = closed after c.next_open-next.result open_next;
       marked = marked_round (round after) inv.inside inv.searched inv.marked (searched after) (omega (arith, c.requires.pairs.few, c.count.ensures)) led;
     })
 
