@@ -1,5 +1,5 @@
 //! Whether transactions and snapshots are equal.
-ghost use Rattle.std.specs.Prelude.{◌≡◌, true, false, IsTrue};
+ghost use Rattle.std.specs.Prelude.{◌≡◌, true, false};
 ghost use Rattle.tcc_txn.specs.Snapshots.{parts_of};
 
 use crate::{Name, Op, Txn};
@@ -43,14 +43,16 @@ pub fn are_same<T: Alike>(some: &[T], others: &[T]) -> bool
 
 /// Whether two sessions have the same name and the same transactions.
 fn is_same_part(session: &Name, some: &[Txn], other: &Name, others: &[Txn]) -> bool
-    ensures { IsTrue result → (session.now ≡ other.now) × (some.now ≡ others.now) }
+    ensures same { result ≡ true → (session.now ≡ other.now) × (some.now ≡ others.now) }
+    ensures other { result ≡ false → session.now ≡ other.now → some.now ≡ others.now → ⊥ }
 {
     session == other && are_same(some, others)
 }
 
 /// Whether each session has the name and the transactions of the one at its index.
 pub(crate) fn are_same_parts(some: &[(Name, Vec<Txn>)], others: &[(Name, Vec<Txn>)]) -> bool
-    ensures { IsTrue result → parts_of some.now ≡ parts_of others.now }
+    ensures same { result ≡ true → parts_of some.now ≡ parts_of others.now }
+    ensures other { result ≡ false → parts_of some.now ≡ parts_of others.now → ⊥ }
 {
     if some.len() != others.len() {
         return false;

@@ -422,7 +422,8 @@ impl<B: Bounds> SnapshotWithin<B> {
 
     /// Whether the snapshots are equal.
     pub fn is_same(&self, other: &SnapshotWithin<B>) -> bool
-        ensures { IsTrue result → self.now ≡ other.now }
+        ensures same { result ≡ true → self.now ≡ other.now }
+        ensures other { result ≡ false → self.now ≡ other.now → ⊥ }
     {
         are_same_parts(&self.sessions, &other.sessions)
     }
