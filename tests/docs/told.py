@@ -61,7 +61,7 @@ HELD = {
         "at most {MAX_TRANSACTIONS} transactions, aborted ones counted, of {MAX_OPERATIONS} operations each, in {MAX_SESSIONS} "
         "sessions on {MAX_KEYS} keys",
         "up to {LARGE_TRANSACTIONS} transactions in {LARGE_SESSIONS} sessions on {LARGE_KEYS} keys, in {LARGE_INPUT_BYTES} bytes",
-        "**A full book**: {MAX_TRANSACTIONS} transactions"),
+        "that is at {MAX_TRANSACTIONS} transactions, aborted ones counted"),
     "docs/FORMATS.md": (
         "names: 1 to {MAX_NAME_BYTES} bytes",
         "| TooManyOps | operation {MAX_OPERATIONS+1} of a transaction |",

@@ -19,7 +19,7 @@ A case is a JSON object:
     written    files of that folder after the run: names, and parts
     runs       several runs, each with fields of its own over those of the case
 
-Behind the cases, the help of each script has to show an example, the clients in Python that README, GUIDE and RECORDING show have
+Behind the cases, the help of each script has to show an example, the clients in Python that README and RECORDING show have
 to write what they saw, also where their connections are cut at every call (`clients.py`), each way of reading a history has to
 give the same records, a script that is interrupted to say what it has, and the lines of RECORDING for a large history to end
 with its status (`scripts.py`); the pages of report.py have to be whole, and right in a browser where Chromium is there
@@ -29,7 +29,6 @@ where their servers or their library for Python aren't there, they are passed ov
 The wanted texts were worked out by hand from the definitions. Each difference is one line; the last line is
 `N passed, M failed`.
 """
-import io
 import json
 import os
 import pathlib
@@ -184,26 +183,6 @@ def unknown_outcomes() -> Iterator[Outcome]:
     yield "count of unknown outcomes", None if list(counts.values()) == [1, 1] else str(counts)
 
 
-class Store:
-    """A store of one map, for the client of GUIDE."""
-
-    def __init__(self):
-        self.values: Dict[str, int] = {}
-
-    def transact(self, reads: list, written: list) -> list:
-        values = [self.values.get(key) for key in reads]
-        self.values.update(written)
-        return values
-
-
-def short_client() -> Iterator[Outcome]:
-    """The client that GUIDE shows: what it writes is what it saw."""
-    short, out = clients.example("docs/GUIDE.md"), io.StringIO()
-    short["client"]("a", Store(), [(["x"], [("x", 5)]), (["x"], [])], out)
-    wanted = ["a,begin", "a,r,x,0", "a,w,x,5", "a,commit", "a,begin", "a,r,x,5", "a,commit"]
-    yield "client of GUIDE", None if out.getvalue().split() == wanted else "wrote %s" % out.getvalue().split()
-
-
 def first_example(tcc: List[str]) -> Iterator[Outcome]:
     """What README shows of the package: what it records, and that the answer is printed."""
     script = re.search("```python\n(.*?)```", (TOP / "README.md").read_text(), re.DOTALL).group(1)
@@ -259,7 +238,6 @@ def outcomes(names: List[str], tcc: List[str]) -> Iterator[Outcome]:
         yield from outcomes_of(CASES / (name + ".json"), tcc)
     if not names:
         yield from helps()
-        yield from short_client()
         yield from first_example(tcc)
         yield from clients.outcomes(tcc)
         yield from scripts.outcomes(tcc)
