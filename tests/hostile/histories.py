@@ -99,6 +99,39 @@ def gathered(sessions: int, writes: int) -> Transactions:
         yield "c", ["r,x,%d" % (sessions + n + 1)]
 
 
+def ring(links: int, copies: int, empty: int) -> Transactions:
+    """Each of many transactions overwrites what the next one overwrites too, and c, behind many empty ones, saw each in turn: so
+    each stands before the next, and the last, of which there are some, before the first."""
+    yield "t0", ["w,x0,1", "w,z,1", "w,end,1"]
+    for n in range(1, links):
+        last = ["w,e%d,1" % copy for copy in range(copies)] if n == links - 1 else ["w,x%d,%d" % (n, n + 1)]
+        yield "t%d" % n, ["w,x%d,%d" % (n - 1, n + 1), *last]
+    for copy in range(copies):
+        yield "v%d" % copy, ["w,e%d,2" % copy, "w,end,%d" % (copy + 2)]
+    for _ in range(empty):
+        yield "c", []
+    yield "c", ["r,z,1"]
+    for n in range(1, links):
+        yield "c", ["r,x%d,%d" % (n - 1, n + 1)]
+    for copy in range(copies):
+        yield "c", ["r,e%d,2" % copy]
+    yield "c", ["r,end,1"]
+
+
+def stale_beside(stale: int, keys: int, empty: int) -> Transactions:
+    """Session a reads old values of some keys that it overwrote; each transaction that it read from has many other keys, which b
+    reads behind many empty transactions."""
+    for n in range(stale):
+        yield "a", ["w,y%d,1" % n, *("w,k%d,%d" % (key, n + 1) for key in range(keys))]
+    for n in range(stale):
+        yield "a", ["w,y%d,2" % n]
+    yield "a", ["r,y%d,1" % n for n in range(stale)]
+    for _ in range(empty):
+        yield "b", []
+    for n in range(stale):
+        yield "b", ["r,k%d,%d" % (key, n + 1) for key in range(keys)]
+
+
 def ordinary(size: int) -> str:
     """A history with so many bytes at least: 32 sessions, of whose transactions each writes a key and reads the last value of
     another one."""
@@ -117,7 +150,7 @@ def ordinary(size: int) -> str:
 
 
 def hard() -> Iterator[Hard]:
-    """The histories, each consistent, at sizes of a second and less. At `atomic` who reads an old value by one pair alone isn't
+    """The histories, at sizes of a second and less. At `atomic` who reads an old value by one pair alone isn't
     contradicted by what it knows by two."""
     large, atomic = ["explain", "--large"], ["explain", "--large", "--level", "atomic"]
     yield Hard("waiting", large, records_of(waiting(1365, 2729)), "consistent: 5471 transactions, 4095 sessions\n")
@@ -126,3 +159,5 @@ def hard() -> Iterator[Hard]:
     yield Hard("crossed", atomic, records_of(crossed(250, 400)), "consistent: 650 transactions, 33 sessions\n")
     yield Hard("written by many", large, records_of(written_by_many(1000, 4000)), "consistent: 8005 transactions, 1002 sessions\n")
     yield Hard("gathered", large, records_of(gathered(2000, 8000)), "consistent: 18008 transactions, 2002 sessions\n")
+    yield Hard("ring", large, records_of(ring(1000, 64, 20000)), "anomaly: ")
+    yield Hard("stale beside", large, records_of(stale_beside(64, 255, 40000)), "anomaly: 3 steps, ")

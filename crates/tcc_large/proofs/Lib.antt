@@ -4,13 +4,13 @@
 -- Left     what is left of a list, one item more
 -- Numbered cells that were given the numbers from 1 on
 -- Reached  what a search has reached by pairs, one more, and all of it
--- OnwardLemmas reads that a transaction's writes are against, and the derived links from it
--- Ranks    ranks of transactions, one more, and all of them; a trail of links
+-- ReasonLemmas derived links between two transactions, by what was looked at so far
+-- Retraced going back over what holds transactions back, and the links along it
 pub mod Judged
 pub mod Carried
 pub mod Recorded
 pub mod Left
 pub mod Numbered
 pub mod Reached
-pub mod OnwardLemmas
-pub mod Ranks
+pub mod ReasonLemmas
+pub mod Retraced

@@ -9,7 +9,7 @@ use Rattle.tcc_graph.specs.Relations.{IsCausalPair, IsReadsPair, IsSessionPair}
 use Rattle.tcc_graph.specs.Walks.{step_to, Leads, IsWalk}
 use Rattle.tcc_graph.specs.declared.step.Step.{Step}
 use Rattle.tcc_graph.proofs.Pairs.{step_pair}
-use Rattle.tcc_large.specs.private.Reaching.{IsReach, IsMore, AreMet, AreMetBetween, AreSpread, number_at, before_at}
+use Rattle.tcc_large.specs.private.Reaching.{IsReach, IsMore, AreCovered, AreMet, AreMetBetween, AreSpread, number_at, before_at}
 use Rattle.tcc_large.proofs.Numbered.{numbered_room}
 
 -- no more positions than transactions and one
@@ -145,16 +145,26 @@ module _ (h : History) (from : ℕ) (rs : List ℕ) (ks : List (List ℕ)) (long
       let reads = (each (slice_index rs k) (get_or ks k [])).0 (zipped rs ks k long l) in
       subst (λ (z : ℕ). z < count h) (sym at) reads.1
 
-  pub all_met : (positions : List ℕ) (low high : ℕ) → ((v : ℕ) → IsSessionPair h from v ↔ ((low ≤ v) × (v < high))) → AreMetBetween h positions from low high
-      → AreMet h positions from rs (length rs) → (v : ℕ) → IsCausalPair h from v → 0 < slice_index positions v
-  all_met positions low high pairs between met v (inl session) = let w = (pairs v).0 session in between v w.0 w.1 (inl session)
-  all_met positions low high pairs between met v (inr (x, reads)) =
+  pub all_met : (positions : List ℕ) → ((v : ℕ) → IsSessionPair h from v → 0 < slice_index positions v) → AreMet h positions from rs (length rs)
+      → (v : ℕ) → IsCausalPair h from v → 0 < slice_index positions v
+  all_met positions sessions met v (inl session) = sessions v session
+  all_met positions sessions met v (inr (x, reads)) =
       let w = zip_position rs ks v x ((each v x).1 reads) in
       subst (λ (z : ℕ). IsCausalPair h from z → 0 < slice_index positions z) w.2 (met w.0 w.1) (inr (x, reads))
 
-pub more_between : (h : History) (a : List ℕ) (p : List (ℕ × ℕ)) (b : List ℕ) (q : List (ℕ × ℕ)) (from low high : ℕ) → IsMore a p b q
-    → AreMetBetween h a from low high → AreMetBetween h b from low high
-more_between h a p b q from low high more met v above l pair = more.reached v (met v above l pair)
+-- what is covered stays so, and of a session all before what is covered was met
+pub covered_more : (positions covered : List ℕ) (p : List (ℕ × ℕ)) (new : List ℕ) (q : List (ℕ × ℕ)) → IsMore positions p new q → AreCovered positions covered
+    → AreCovered new covered
+covered_more positions covered p new q more was end v some above below = more.reached v (was end v some above below)
+
+pub all_later : (h : History) (from low end high : ℕ) (positions : List ℕ) (p : List (ℕ × ℕ)) (new : List ℕ) (q : List (ℕ × ℕ))
+    → ((v : ℕ) → IsSessionPair h from v ↔ ((low ≤ v) × (v < high))) → IsMore positions p new q → AreMetBetween h new from low end
+    → ((v : ℕ) → end ≤ v → v < high → 0 < slice_index positions v) → (v : ℕ) → low ≤ v → v < high → 0 < slice_index new v
+all_later h from low end high positions p new q pairs more met was v above below = go (cases_lt v end)
+  where
+    go : (v < end) ⊎ (end ≤ v) → 0 < slice_index new v
+    go (inl less) = met v above less (inl ((pairs v).1 (above, below)))
+    go (inr past) = more.reached v (was v past below)
 
 -- one position more
 pub spread_next : (h : History) (a : List ℕ) (p : List (ℕ × ℕ)) (b : List ℕ) (q : List (ℕ × ℕ)) (n : ℕ) → AreSpread h a p n → IsMore a p b q → n < length p

@@ -1,5 +1,5 @@
 -- What is decided of a history of any size.
-use Rattle.std.specs.Prelude.{ℕ, ◌<◌, ◌≡◌, List}
+use Rattle.std.specs.Prelude.{◌<◌, ◌≡◌, List}
 use Rattle.tcc_graph.specs.Levels.{Judged}
 use Rattle.tcc_graph.specs.Links.{cost}
 use Rattle.tcc_graph.specs.Orders.{IsFirstOrder}

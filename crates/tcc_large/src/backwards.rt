@@ -1,4 +1,4 @@
-//! Searches backwards: what they have met.
+//! Breadth-first search backwards: what it has met, level by level.
 use crate::cells::Cells;
 use crate::covering::Covering;
 use crate::pairs::Pairs;
@@ -14,6 +14,9 @@ pub(crate) struct Backwards {
     next: Cells,
     covering: Covering,
     queue: Vec<u32>,
+    head: usize,
+    level_end: usize,
+    depth: usize,
 }
 
 impl Backwards {
@@ -26,6 +29,9 @@ impl Backwards {
             next: Cells::new(alloc, count, 0)?,
             covering: Covering::new(alloc, pairs.session_count())?,
             queue: Vec::new(alloc),
+            head: 0,
+            level_end: 0,
+            depth: 0,
         })
     }
 
@@ -33,6 +39,9 @@ impl Backwards {
     pub(crate) fn begin(&mut self) {
         self.turn = self.turn.saturating_add(1);
         self.queue.clear();
+        self.head = 0;
+        self.level_end = 0;
+        self.depth = 0;
     }
 
     /// Takes in a transaction that leads on to the next one, and says whether it wasn't met before.
@@ -51,9 +60,20 @@ impl Backwards {
         self.met.get(number) == self.turn
     }
 
-    /// The transaction that was met at an index.
-    pub(crate) fn at(&self, index: u32) -> Option<u32> {
-        self.queue.get(index as usize).copied()
+    /// The next transaction to go on from, in the order in which they were met.
+    pub(crate) fn take(&mut self) -> Option<u32> {
+        let number = self.queue.get(self.head).copied()?;
+        if self.head >= self.level_end {
+            self.level_end = self.queue.len();
+            self.depth = self.depth.saturating_add(1);
+        }
+        self.head = self.head.saturating_add(1);
+        Some(number)
+    }
+
+    /// How far from where the search began those are that lead to the transaction that was taken last.
+    pub(crate) fn depth(&self) -> usize {
+        self.depth
     }
 
     /// Where a transaction leads on to; to itself where the search began.

@@ -5,7 +5,6 @@ ghost use Rattle.tcc_graph.specs.Relations.{IsReadsPair, IsSessionPair};
 ghost use Rattle.tcc_large.specs.Slices.{IsCarried};
 ghost use Rattle.tcc_large.specs.private.Carrying.{carry, Fits, Keeps, KeepsReads, KeepsSessions, KeepsWrites, IsRising};
 
-use crate::onward::is_writer;
 use tcc_graph::{LargeGraph, Level, Link};
 
 /// The number that one has in the large history; 0 where it has none.
@@ -73,7 +72,7 @@ fn keeps_writes(small: &LargeGraph, large: &LargeGraph, numbers: &[u32], writer:
     ensures { IsTrue result → KeepsWrites numbers.now small.now large.now writer }
 {
     for key in small.writes(writer) {
-        if !is_writer(large, carried(numbers, writer), key) {
+        if !large.is_writer(carried(numbers, writer), key) {
             return false;
         }
     }

@@ -39,6 +39,16 @@ impl Cells {
         }
     }
 
+    /// The values from one index to before another; none where that is past the end.
+    pub(crate) fn between(&self, low: u32, high: u32) -> &[u32] {
+        let (low, high) = (low as usize, high as usize);
+        if low < high && high <= self.values.len() {
+            &self.values[low..high]
+        } else {
+            &[]
+        }
+    }
+
     /// Raises the value at an index by one, up to the greatest.
     pub(crate) fn add_one(&mut self, index: u32) {
         self.set(index, self.get(index).saturating_add(1));

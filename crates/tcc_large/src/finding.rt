@@ -1,37 +1,43 @@
-//! A search for a short cycle. What it finds is trusted by nobody, and not always the least.
-use crate::among::Among;
-use crate::circling::Circling;
-use crate::derived::{Derived, readers_by_key};
-use crate::heading::back_links;
+//! A search for a short cycle, by the links that an order kept until it stopped. What it finds is trusted by nobody, and not always
+//! the least. With N transactions, R reads and E kept links it takes O(N + R + E) steps: what goes over all goes over all once, and
+//! each search stops at a limit of work.
+use crate::back_edges::back_edges;
+use crate::breadth_first::BreadthFirst;
 use crate::judging::ends;
 use crate::linking::Linker;
-use crate::pairs::{Pairs, span};
-use crate::placing::Relation;
+use crate::pairs::{Pair, Pairs, span};
+use crate::relation::Relation;
+use crate::trimming::Trimmed;
+use crate::work::{Halt, Work, unless_spent};
 use std::alloc::{AllocError, Global};
+use tcc_bits::Row;
 use tcc_graph::{LargeGraph, Level, Link};
+use tcc_order::Stuck;
 use tcc_txn::NoMemory;
 
-/// So many circles are looked at, at most, and so many keys by which a link leads to `init`.
+/// So many links are tried, at most, of each kind.
 const TRIES: usize = 64;
 
-/// No further circle is looked for once searches have met so many transactions.
-const ENOUGH: u64 = 1 << 24;
+/// A search may look at so much, and at so much more for each transaction and read.
+const WORK: u64 = 1 << 21;
 
-/// The cheapest links so far, with what they cost.
+const WORK_EACH: u64 = 4;
+
+/// No cheaper cycle is looked for here than one of so many steps.
+const CHEAP: usize = 4;
+
+/// The cheapest links so far, and how many steps others have to stay below.
 #[derive(Drop)]
 struct Cheapest {
     links: Option<Vec<Link>>,
-    cost: usize,
+    below: usize,
 }
 
-/// What links cost: one step each, a derived one those of its walk and one more.
+/// What links cost together.
 fn cost(links: &[Link]) -> usize {
     let mut steps = 0usize;
     for link in links {
-        steps = steps.saturating_add(1);
-        if let Link::Derived { walk, .. } = link {
-            steps = steps.saturating_add(walk.as_slice().len());
-        }
+        steps = steps.saturating_add(link.cost());
     }
     steps
 }
@@ -40,9 +46,9 @@ impl Cheapest {
     /// Keeps these links if they cost less than those so far.
     fn offer(&mut self, links: Vec<Link>) {
         let cost = cost(&links);
-        if self.links.is_none() || cost < self.cost {
+        if cost < self.below {
             self.links = Some(links);
-            self.cost = cost;
+            self.below = cost;
         }
     }
 }
@@ -52,7 +58,8 @@ impl Cheapest {
 struct Finder<'a> {
     pairs: &'a Pairs<'a>,
     linker: Linker,
-    circling: Circling,
+    breadth_first: BreadthFirst,
+    work: Work,
     cheapest: Cheapest,
 }
 
@@ -61,53 +68,14 @@ fn is_tried(index: usize, count: usize) -> bool {
     index % (count / TRIES + 1) == 0
 }
 
-/// The readers of the key at an index, of readings that ascend by the indices of their keys, each with the index.
-fn readers_at(
-    alloc: Global,
-    readings: &[(u32, u32)],
-    key_index: u32,
-) -> Result<Vec<(u32, u32)>, AllocError> {
-    let start = readings.partition_point(|reading| reading.0 < key_index);
-    let mut found = Vec::new(alloc);
-    for index in start..readings.len() {
-        let (key, reader) = readings[index];
-        if key != key_index {
-            break;
-        }
-        found.push((reader, key))?;
-    }
-    Ok(found)
-}
-
-/// What a pair is by.
-#[derive(Clone, Copy)]
-enum Kind {
-    Session,
-    Read,
-}
-
-/// Whether a pair of this kind leads from one transaction to another.
-fn is_pair(pairs: &Pairs<'_>, kind: Kind, from: u32, to: u32) -> bool {
-    match kind {
-        Kind::Session => pairs.is_session(from, to),
-        Kind::Read => !pairs.reads_from(from, to).is_empty(),
-    }
-}
-
-/// Of these links those against a pair of this kind.
-fn against(
-    alloc: Global,
-    pairs: &Pairs<'_>,
-    kind: Kind,
-    links: &[(u32, u32)],
-) -> Result<Vec<(u32, u32)>, AllocError> {
-    let mut found = Vec::new(alloc);
-    for (from, to) in links {
-        if is_pair(pairs, kind, *to, *from) {
-            found.push((*from, *to))?;
+/// Whether any link was kept.
+fn has_links(kept: &[Row<u32>]) -> bool {
+    for row in kept {
+        if !row.as_slice().is_empty() {
+            return true;
         }
     }
-    Ok(found)
+    false
 }
 
 impl<'a> Finder<'a> {
@@ -115,12 +83,36 @@ impl<'a> Finder<'a> {
         Ok(Finder {
             pairs,
             linker: Linker::new(alloc, pairs, level)?,
-            circling: Circling::new(alloc, pairs)?,
+            breadth_first: BreadthFirst::new(alloc, pairs)?,
+            work: Work::new(0),
             cheapest: Cheapest {
                 links: None,
-                cost: 0,
+                below: usize::MAX,
             },
         })
+    }
+
+    /// Allows the work of one more search.
+    fn allow(&mut self) {
+        let more = self.pairs.size().saturating_mul(WORK_EACH);
+        self.work = Work::new(more.saturating_add(WORK));
+    }
+
+    /// Whether a cheaper cycle is worth a search.
+    fn goes_on(&self) -> bool {
+        self.cheapest.below > CHEAP
+    }
+
+    /// The links along transactions that stand in a circle.
+    fn along(&mut self, alloc: Global, circle: &[u32]) -> Result<(), Halt> {
+        let below = self.cheapest.below;
+        let links = self
+            .linker
+            .links(alloc, &mut self.work, self.pairs, circle, below)?;
+        if let Some(links) = links {
+            self.cheapest.offer(links);
+        }
+        Ok(())
     }
 
     /// Offers the cycle of a session pair from a transaction and of a link back.
@@ -136,81 +128,84 @@ impl<'a> Finder<'a> {
         Ok(())
     }
 
-    /// A cycle of two links, from a transaction to a later one in session order and back by the key at an index; these are
-    /// the readings from it.
-    fn try_back(
-        &mut self,
-        alloc: Global,
-        source: u32,
-        readings: &[(u32, u32)],
-        key_index: u32,
-    ) -> Result<(), NoMemory> {
-        let readers = readers_at(alloc, readings, key_index)?;
+    /// A cycle of two links, from a transaction to a later one in session order and back by the key at an index.
+    fn try_key(&mut self, alloc: Global, source: u32, key_index: u32) -> Result<(), Halt> {
         let (low, high) = self.pairs.later(source);
         let wanted = span(self.pairs.writers(key_index), low, high);
+        let mut readers = Vec::new(alloc);
+        for reader in self.pairs.readers(source, key_index) {
+            readers.push((*reader, key_index))?;
+        }
+        if wanted.is_empty() || readers.is_empty() {
+            return Ok(());
+        }
+        let most = self.cheapest.below.saturating_sub(2);
+        let work = &mut self.work;
         let back = self
             .linker
-            .derived(alloc, self.pairs, wanted, source, &readers)?;
+            .derived(alloc, work, self.pairs, wanted, source, &readers, most)?;
         if let Some(back) = back {
             self.offer_back(alloc, source, back)?;
         }
         Ok(())
     }
 
-    /// Such cycles by each key that is read from a transaction.
-    fn try_all_back(&mut self, alloc: Global, source: u32) -> Result<(), NoMemory> {
-        let readings = readers_by_key(alloc, self.pairs, source)?;
-        let mut last = None;
-        for (key_index, _reader) in &readings {
-            if last != Some(*key_index) {
-                self.try_back(alloc, source, &readings, *key_index)?;
-            }
-            last = Some(*key_index);
-        }
-        Ok(())
-    }
-
-    /// Such cycles for some of the links that lead back in a session.
-    fn through_sessions(&mut self, alloc: Global, links: &[(u32, u32)]) -> Result<(), NoMemory> {
-        let back = against(alloc, self.pairs, Kind::Session, links)?;
-        for (index, (_from, to)) in back.iter().enumerate() {
-            if is_tried(index, back.len()) {
-                self.try_all_back(alloc, *to)?;
+    /// Such cycles by each of these keys.
+    fn try_keys(&mut self, alloc: Global, source: u32, key_indices: &[u32]) -> Result<(), Halt> {
+        self.work.take(key_indices.len())?;
+        for key_index in key_indices {
+            if self.goes_on() {
+                self.try_key(alloc, source, *key_index)?;
             }
         }
         Ok(())
     }
 
-    /// Cycles through `init`, by some of the keys by which a link leads there.
-    fn through_init(&mut self, alloc: Global, key_indices: &[u32]) -> Result<(), NoMemory> {
-        if key_indices.is_empty() {
-            return Ok(());
-        }
-        let readings = readers_by_key(alloc, self.pairs, 0)?;
-        for (index, key_index) in key_indices.iter().enumerate() {
-            if is_tried(index, key_indices.len()) {
-                self.try_back(alloc, 0, &readings, *key_index)?;
+    /// Cycles through `init`, by keys of some of these writers, from each of which a link leads there.
+    fn through_init(&mut self, alloc: Global, writers: &[u32]) -> Result<(), Halt> {
+        for (index, writer) in writers.iter().enumerate() {
+            if is_tried(index, writers.len()) && self.goes_on() {
+                self.along(alloc, &[0, *writer])?;
+                self.try_keys(alloc, 0, self.pairs.writes(*writer))?;
             }
         }
         Ok(())
     }
 
-    /// The links along transactions that stand in a circle.
-    fn along(&mut self, alloc: Global, circle: &[u32]) -> Result<(), NoMemory> {
-        if let Some(links) = self.linker.links(alloc, self.pairs, circle)? {
-            self.cheapest.offer(links);
+    /// Cycles of a session pair and a link, for some of the links against such a pair.
+    fn through_sessions(&mut self, alloc: Global, links: &[(u32, u32)]) -> Result<(), Halt> {
+        for (index, (from, to)) in links.iter().enumerate() {
+            if is_tried(index, links.len()) && self.goes_on() {
+                self.along(alloc, &[*to, *from])?;
+                self.try_keys(alloc, *to, self.pairs.writes(*to))?;
+            }
         }
         Ok(())
     }
 
-    /// A shortest cycle, by links, through a pair or link with these ends, which are marked.
+    /// Cycles of two links, for some of those against a reads-from pair.
+    fn through_reads(&mut self, alloc: Global, links: &[(u32, u32)]) -> Result<(), Halt> {
+        for (index, (from, to)) in links.iter().enumerate() {
+            if is_tried(index, links.len()) && self.goes_on() {
+                self.along(alloc, &[*to, *from])?;
+            }
+        }
+        Ok(())
+    }
+
+    /// A cycle of fewest links through a pair or link with these ends, which are marked.
     fn through_one(
         &mut self,
         alloc: Global,
-        among: &Among<'_>,
+        among: &Trimmed<'_>,
         ends: (u32, u32),
-    ) -> Result<(), NoMemory> {
-        if let Some(circle) = self.circling.way(alloc, among, (ends.1, ends.0))? {
+    ) -> Result<(), Halt> {
+        let most = self.cheapest.below.saturating_sub(2);
+        let ends = (ends.1, ends.0);
+        let circle = self
+            .breadth_first
+            .way(alloc, &mut self.work, among, ends, most)?;
+        if let Some(circle) = circle {
             self.along(alloc, &circle)?;
         }
         Ok(())
@@ -220,92 +215,75 @@ impl<'a> Finder<'a> {
     fn through(
         &mut self,
         alloc: Global,
-        among: &Among<'_>,
+        among: &Trimmed<'_>,
         ends: &[(u32, u32)],
-    ) -> Result<(), NoMemory> {
+    ) -> Result<(), Halt> {
         for (index, one) in ends.iter().enumerate() {
-            if is_tried(index, ends.len()) && self.circling.looked() < ENOUGH {
+            if is_tried(index, ends.len()) && self.goes_on() {
                 self.through_one(alloc, among, *one)?;
             }
         }
         Ok(())
     }
 
-    /// Cycles of pairs among marked transactions.
-    fn through_pairs(&mut self, alloc: Global, among: &Among<'_>) -> Result<(), NoMemory> {
+    /// Cycles of pairs.
+    fn by_pairs(&mut self, alloc: Global, placed: &[u64]) -> Result<(), NoMemory> {
+        let relation = Relation::of(alloc, self.pairs, &[])?;
+        let among = Trimmed::of(alloc, &relation, placed)?;
         let reads = among.reads(alloc)?;
-        self.through(alloc, among, &reads)
+        self.allow();
+        unless_spent(self.through(alloc, &among, &reads))
     }
 
-    /// Cycles of pairs and links among marked transactions.
-    fn through_links(&mut self, alloc: Global, among: &Among<'_>) -> Result<(), NoMemory> {
-        let links = among.relation().links();
-        self.through_sessions(alloc, links)?;
-        let short = against(alloc, self.pairs, Kind::Read, links)?;
-        self.through(alloc, among, &short)?;
-        let back = back_links(alloc, among)?;
-        self.through(alloc, among, &back)
+    /// Cycles of pairs and links that don't pass `init`.
+    fn around(&mut self, alloc: Global, among: &Trimmed<'_>) -> Result<(), NoMemory> {
+        let sessions = among.links_against(alloc, Pair::Session)?;
+        self.allow();
+        unless_spent(self.through_sessions(alloc, &sessions))?;
+        let reads = among.links_against(alloc, Pair::Read)?;
+        self.allow();
+        unless_spent(self.through_reads(alloc, &reads))?;
+        let back = back_edges(alloc, among)?;
+        self.allow();
+        unless_spent(self.through(alloc, among, &back))
     }
 
-    /// A cycle of pairs and links, whatever it costs.
-    fn anywhere(&mut self, alloc: Global, relation: &Relation<'_>) -> Result<(), NoMemory> {
-        if let Some(circle) = relation.circle(alloc)? {
-            self.along(alloc, &circle)?;
+    /// Cycles of pairs and kept links, where pairs alone are in no circle.
+    fn by_links(&mut self, alloc: Global, stuck: &Stuck) -> Result<(), NoMemory> {
+        let relation = Relation::of(alloc, self.pairs, &stuck.kept)?;
+        self.allow();
+        unless_spent(self.through_init(alloc, relation.links_into(0)))?;
+        if self.goes_on() {
+            let among = Trimmed::of(alloc, &relation, &stuck.placed)?;
+            self.around(alloc, &among)?;
         }
         Ok(())
     }
 
-    /// Cycles of pairs and links where the order leaves some transactions out.
-    fn around(&mut self, alloc: Global, relation: &Relation<'_>) -> Result<(), NoMemory> {
-        if !relation.is_circular() {
-            return Ok(());
+    /// Cycles of pairs, and where there are none others. At `Causal` no link was kept if there are some.
+    fn find(&mut self, alloc: Global, level: Level, stuck: &Stuck) -> Result<(), NoMemory> {
+        let has_links = has_links(&stuck.kept);
+        if level == Level::Atomic || !has_links {
+            self.by_pairs(alloc, &stuck.placed)?;
         }
-        let among = Among::circles(alloc, relation)?;
-        if relation.links().is_empty() {
-            self.through_pairs(alloc, &among)?;
-        } else {
-            self.through_links(alloc, &among)?;
-        }
-        if self.cheapest.links.is_none() {
-            self.anywhere(alloc, relation)?;
-        }
-        Ok(())
-    }
-
-    /// Cycles of pairs and derived links, where pairs alone are in no circle.
-    fn by_links(
-        &mut self,
-        alloc: Global,
-        level: Level,
-        pairs: &Relation<'_>,
-    ) -> Result<(), NoMemory> {
-        let derived = Derived::of(alloc, pairs, level)?;
-        self.through_init(alloc, derived.into_init())?;
-        let relation = Relation::of(alloc, self.pairs, derived.links())?;
-        self.around(alloc, &relation)
-    }
-
-    /// Cycles of pairs, and where none was found others.
-    fn find(&mut self, alloc: Global, level: Level) -> Result<(), NoMemory> {
-        let pairs = Relation::of(alloc, self.pairs, &[])?;
-        self.around(alloc, &pairs)?;
-        if self.cheapest.links.is_none() {
-            self.by_links(alloc, level, &pairs)?;
+        if has_links && self.cheapest.links.is_none() {
+            self.by_links(alloc, stuck)?;
         }
         Ok(())
     }
 }
 
-/// The links of a short cycle of a history at a level, not always of a least one; none where none was found. A cycle of pairs is
-/// looked for first. Else it is the cheapest of those through `init` and of shortest ones, by links, through some derived
-/// links, so many as some limits of work allow.
+/// The links of a short cycle of a history at a level in which an order stops, where no cycle costs less than four steps; not
+/// always of a least one, and none where none was found. A cycle of pairs is looked for first. Else it is the cheapest of those
+/// through `init`, of a pair and a link, and of shortest ones, by links, through some that lead back in an order of all pairs.
 pub(crate) fn found_cycle(
     alloc: Global,
     graph: &LargeGraph,
     level: Level,
+    stuck: &Stuck,
 ) -> Result<Option<Vec<Link>>, NoMemory> {
     let pairs = Pairs::of(alloc, graph)?;
     let mut finder = Finder::new(alloc, &pairs, level)?;
-    finder.find(alloc, level)?;
+    finder.find(alloc, level, stuck)?;
     Ok(finder.cheapest.links.take())
 }

@@ -1,35 +1,34 @@
 //! What is decided of a history of any size: its first commit order, or a cycle. The finder of a cycle is trusted by nobody:
-//! each link of what it finds is judged by itself, and where that isn't a cycle, a plain search, which is complete, finds one. That
-//! a cycle of four steps at most is a least one is proved by a look at each place.
+//! each link of what it finds is judged by itself, and where that isn't a cycle, going back over what the order leaves comes to one.
+//! That a cycle of four steps at most is a least one is proved by a look at each place.
 #![tactic(auto)]
 
-mod among;
 mod answer;
+mod back_edges;
 mod backwards;
+mod breadth_first;
 mod carrying;
 mod cells;
-mod circling;
-mod clocks;
 mod covering;
 mod cutting;
 mod deciding;
 mod decision;
-mod derived;
 mod explaining;
 mod finding;
-mod following;
-mod heading;
 mod judging;
 mod leaving;
 mod linking;
 mod needs;
-mod onward;
 mod pairs;
-mod placing;
 mod reaching;
+mod reasons;
+mod relation;
+mod retracing;
 mod slicing;
 mod texts;
+mod trimming;
 mod walking;
+mod work;
 
 pub use answer::LargeAnswer;
 pub use deciding::decide;

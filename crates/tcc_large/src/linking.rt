@@ -1,7 +1,8 @@
 //! From transactions in a circle to the links between them.
-use crate::onward::link_of;
 use crate::pairs::Pairs;
+use crate::reasons::link_of;
 use crate::walking::Walking;
+use crate::work::{Halt, Work};
 use std::alloc::{AllocError, Global};
 use tcc_graph::{Level, Link, Step, Walk};
 use tcc_txn::{Name, NoMemory};
@@ -9,7 +10,7 @@ use tcc_txn::{Name, NoMemory};
 /// Finds the link between two transactions.
 #[derive(Drop)]
 pub(crate) struct Linker {
-    level: Level,
+    longest: usize,
     walking: Walking,
 }
 
@@ -35,24 +36,34 @@ fn without_runs(alloc: Global, pairs: &Pairs<'_>, circle: &[u32]) -> Result<Vec<
     Ok(kept)
 }
 
-/// The readers of a transaction's keys that the other writes too, each with the index of the key, by number.
+/// The readers of a transaction's keys that the other writes too, each with the index of the key.
 fn contradicted(
     alloc: Global,
+    work: &mut Work,
     pairs: &Pairs<'_>,
     from: u32,
     to: u32,
-) -> Result<Vec<(u32, u32)>, AllocError> {
-    let written = pairs.writes(from);
-    let (readers, key_indices) = pairs.readings(to);
+) -> Result<Vec<(u32, u32)>, Halt> {
     let mut found = Vec::new(alloc);
-    for (index, reader) in readers.iter().enumerate() {
-        if let Some(key_index) = key_indices.get(index) {
-            if written.contains(key_index) {
-                found.push((*reader, *key_index))?;
-            }
-        }
+    for key_index in pairs.writes(from) {
+        let readers = pairs.readers(to, *key_index);
+        work.take(readers.len())?;
+        work.take(1)?;
+        add_readers(&mut found, readers, *key_index)?;
     }
     Ok(found)
+}
+
+/// Adds readers of the key at an index.
+fn add_readers(
+    found: &mut Vec<(u32, u32)>,
+    readers: &[u32],
+    key_index: u32,
+) -> Result<(), AllocError> {
+    for reader in readers {
+        found.push((*reader, key_index))?;
+    }
+    Ok(())
 }
 
 /// The step from one transaction to another by a pair, where there is one.
@@ -62,26 +73,6 @@ fn step(pairs: &Pairs<'_>, from: u32, to: u32) -> Option<Step> {
     }
     let key = *pairs.reads_from(from, to).first()?;
     Some(Step::Reads { from, to, key })
-}
-
-/// A step from one of the wanted transactions to this one.
-fn step_to(pairs: &Pairs<'_>, wanted: &[u32], to: u32) -> Option<Step> {
-    for from in wanted {
-        if let Some(step) = step(pairs, *from, to) {
-            return Some(step);
-        }
-    }
-    None
-}
-
-/// A step from one of the wanted transactions to one of the readers.
-fn step_between(pairs: &Pairs<'_>, wanted: &[u32], readers: &[(u32, u32)]) -> Option<Step> {
-    for (reader, _key_index) in readers {
-        if let Some(step) = step_to(pairs, wanted, *reader) {
-            return Some(step);
-        }
-    }
-    None
 }
 
 /// The key that is beside a reader.
@@ -111,85 +102,81 @@ fn derived_by(pairs: &Pairs<'_>, walk: Walk, to: u32, readers: &[(u32, u32)]) ->
 impl Linker {
     /// For a history at a level.
     pub(crate) fn new(alloc: Global, pairs: &Pairs<'_>, level: Level) -> Result<Linker, NoMemory> {
+        let longest = match level {
+            Level::Atomic => 1,
+            Level::Causal => usize::MAX,
+        };
         let walking = Walking::new(alloc, pairs)?;
-        Ok(Linker { level, walking })
+        Ok(Linker { longest, walking })
     }
 
-    /// A walk from one of the wanted transactions, which ascend, to one of the readers: at `Atomic` one of one step, at
-    /// `Causal` the shortest.
-    fn walk(
-        &mut self,
-        alloc: Global,
-        pairs: &Pairs<'_>,
-        wanted: &[u32],
-        readers: &[(u32, u32)],
-    ) -> Result<Option<Walk>, NoMemory> {
-        match self.level {
-            Level::Atomic => {
-                let Some(step) = step_between(pairs, wanted, readers) else {
-                    return Ok(None);
-                };
-                let mut steps = Vec::new(alloc);
-                steps.push(step)?;
-                Ok(Some(Walk::new(steps)))
-            }
-            Level::Causal => {
-                let mut ends = Vec::new(alloc);
-                for (reader, _key_index) in readers {
-                    ends.push(*reader)?;
-                }
-                let steps = self.walking.walk(alloc, pairs, wanted, &ends)?;
-                Ok(steps.map(Walk::new))
-            }
-        }
-    }
-
-    /// A derived link to a transaction from one of these writers of what the readers read from it.
+    /// A derived link to a transaction from one of these writers of what the readers read from it, by a shortest walk; none where it
+    /// costs more than so many steps.
     pub(crate) fn derived(
         &mut self,
         alloc: Global,
+        work: &mut Work,
         pairs: &Pairs<'_>,
         wanted: &[u32],
         to: u32,
         readers: &[(u32, u32)],
-    ) -> Result<Option<Link>, NoMemory> {
-        let Some(walk) = self.walk(alloc, pairs, wanted, readers)? else {
-            return Ok(None);
-        };
-        Ok(derived_by(pairs, walk, to, readers))
+        most: usize,
+    ) -> Result<Option<Link>, Halt> {
+        let mut ends = Vec::new(alloc);
+        for (reader, _key_index) in readers {
+            ends.push(*reader)?;
+        }
+        let most = most.saturating_sub(1).min(self.longest);
+        let steps = self.walking.walk(alloc, work, pairs, wanted, &ends, most)?;
+        match steps {
+            Some(steps) => Ok(derived_by(pairs, Walk::new(steps), to, readers)),
+            None => Ok(None),
+        }
     }
 
-    /// The link from one transaction to another.
-    fn link(
+    /// The link from one transaction to another, where it costs so many steps at most.
+    pub(crate) fn link(
         &mut self,
         alloc: Global,
+        work: &mut Work,
         pairs: &Pairs<'_>,
-        from: u32,
-        to: u32,
-    ) -> Result<Option<Link>, NoMemory> {
+        ends: (u32, u32),
+        most: usize,
+    ) -> Result<Option<Link>, Halt> {
+        let (from, to) = ends;
         if let Some(step) = step(pairs, from, to) {
             return Ok(Some(link_of(step)));
         }
-        let readers = contradicted(alloc, pairs, from, to)?;
-        self.derived(alloc, pairs, &[from], to, &readers)
+        let readers = contradicted(alloc, work, pairs, from, to)?;
+        self.derived(alloc, work, pairs, &[from], to, &readers, most)
     }
 
-    /// The links along a circle; none where two that follow each other have none.
+    /// The links along a circle, where together they cost less than so many steps; none where two that follow each other have
+    /// none.
     pub(crate) fn links(
         &mut self,
         alloc: Global,
+        work: &mut Work,
         pairs: &Pairs<'_>,
         circle: &[u32],
-    ) -> Result<Option<Vec<Link>>, NoMemory> {
+        below: usize,
+    ) -> Result<Option<Vec<Link>>, Halt> {
         let circle = without_runs(alloc, pairs, circle)?;
         let mut links = Vec::new(alloc);
+        // each link that is not there yet costs a step at least
+        let mut most = below.saturating_sub(circle.len());
         for (index, from) in circle.iter().enumerate() {
             let Some(to) = following(&circle, index) else {
                 return Ok(None);
             };
-            let Some(link) = self.link(alloc, pairs, *from, to)? else {
+            let Some(link) = self.link(alloc, work, pairs, (*from, to), most)? else {
                 return Ok(None);
             };
+            let more = (link.cost() as usize).saturating_sub(1);
+            if more >= most {
+                return Ok(None);
+            }
+            most = most.saturating_sub(more);
             links.push(link)?;
         }
         Ok(Some(links))

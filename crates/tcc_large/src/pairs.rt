@@ -5,10 +5,18 @@ use std::alloc::Global;
 use tcc_graph::LargeGraph;
 use tcc_txn::{Name, NoMemory};
 
-/// A graph, with the session of each number and the numbers of each session.
+/// What a pair is by.
+#[derive(Clone, Copy)]
+pub(crate) enum Pair {
+    Session,
+    Read,
+}
+
+/// A graph, with the session of each number and the numbers of each session, and how many transactions and reads there are.
 #[derive(Drop)]
 pub(crate) struct Pairs<'a> {
     graph: &'a LargeGraph,
+    size: u64,
     owners: Cells,
     firsts: Cells,
     ends: Cells,
@@ -31,6 +39,7 @@ impl<'a> Pairs<'a> {
         let count = graph.sessions().len();
         let mut pairs = Pairs {
             graph,
+            size: 0,
             owners: Cells::new(alloc, graph.count() as usize, 0)?,
             firsts: Cells::new(alloc, count, 0)?,
             ends: Cells::new(alloc, count, 0)?,
@@ -45,6 +54,8 @@ impl<'a> Pairs<'a> {
 
     /// Notes the session of a number that is above all those noted before.
     fn add(&mut self, number: u32, owner: u32) {
+        let reads = self.reads(number).len() as u64;
+        self.size = self.size.saturating_add(reads).saturating_add(1);
         self.owners.set(number, owner);
         if self.ends.get(owner) == 0 {
             self.firsts.set(owner, number);
@@ -55,6 +66,11 @@ impl<'a> Pairs<'a> {
     /// How many transactions there are, `init` among them.
     pub(crate) fn count(&self) -> u32 {
         self.graph.count()
+    }
+
+    /// How many transactions and reads there are together.
+    pub(crate) fn size(&self) -> u64 {
+        self.size
     }
 
     /// How many sessions there are.
@@ -96,6 +112,14 @@ impl<'a> Pairs<'a> {
         from < self.graph.count() && to < self.graph.count() && self.graph.session(from, to)
     }
 
+    /// Whether a pair of this kind leads from one transaction to another.
+    pub(crate) fn is_pair(&self, kind: Pair, from: u32, to: u32) -> bool {
+        match kind {
+            Pair::Session => self.is_session(from, to),
+            Pair::Read => !self.reads_from(from, to).is_empty(),
+        }
+    }
+
     /// Of those behind a transaction in session order the first, and one past the last.
     pub(crate) fn later(&self, number: u32) -> (u32, u32) {
         if number < self.graph.count() {
@@ -111,6 +135,21 @@ impl<'a> Pairs<'a> {
             self.graph.readings_at(source)
         } else {
             (&[], &[])
+        }
+    }
+
+    /// Who reads the key at an index from a transaction.
+    pub(crate) fn readers(&self, source: u32, key_index: u32) -> &'a [u32] {
+        if (key_index as usize) >= self.graph.keys().len() {
+            return &[];
+        }
+        let (sources, readers) = self.graph.readings_of(key_index);
+        let start = sources.partition_point(|other| *other < source);
+        let end = sources.partition_point(|other| *other <= source);
+        if start < end && end <= readers.len() {
+            &readers[start..end]
+        } else {
+            &[]
         }
     }
 

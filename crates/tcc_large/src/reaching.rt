@@ -1,10 +1,11 @@
-//! What a transaction reaches by pairs, and by which walks. The search is complete: it serves where the finder found nothing.
-ghost use Rattle.std.specs.Prelude.{◌≡◌, ◌<◌, ◌≤◌, ℕ, length, All, IfOk, OnOk, slice_index};
+//! What a transaction reaches by pairs, breadth first, and by which walks: in time linear in the transactions and reads that are
+//! met, since of each session only those are looked at that weren't met by a session pair before.
+ghost use Rattle.std.specs.Prelude.{◌≡◌, ◌<◌, ◌≤◌, ℕ, length, All, IfOk, MatchOption, OnOk, slice_index};
 ghost use Rattle.tcc_txn.specs.declared.limits.TheConstants.{LARGE_COUNT};
 ghost use Rattle.tcc_reads.specs.History.{count};
-ghost use Rattle.tcc_graph.specs.Relations.{IsCausalPair};
+ghost use Rattle.tcc_graph.specs.Relations.{IsCausalPair, IsSessionPair};
 ghost use Rattle.tcc_graph.specs.Walks.{IsStep, IsWalk, step_from, step_to};
-ghost use Rattle.tcc_large.specs.private.Reaching.{IsReach, IsMore, AreMet, AreMetBetween, AreSpread, number_at};
+ghost use Rattle.tcc_large.specs.private.Reaching.{IsReach, IsMore, AreCovered, AreMet, AreMetBetween, AreSpread, number_at};
 
 use crate::cells::Cells;
 use std::alloc::{AllocError, Global};
@@ -33,36 +34,41 @@ pub(crate) fn step(graph: &LargeGraph, from: u32, to: u32) -> Step
 pub(crate) struct Reach {
     /// Of each transaction its position in the queue; 0 where it wasn't reached.
     positions: Cells,
+    /// Of each number at which a session ends the first from which on all before it were met; 0 where none was.
+    covered: Cells,
     /// Where the search began, and then each transaction that was reached, with the position of the one that led there.
     queue: Vec<(u32, u32)>,
 }
 
 impl Reach {
     /// Before the search from a transaction.
-    fn new(alloc: Global, graph: &LargeGraph, start: u32) -> Result<Reach, NoMemory>
+    pub(crate) fn new(alloc: Global, graph: &LargeGraph, start: u32) -> Result<Reach, NoMemory>
         requires { start < count graph.now }
         ensures reach { IfOk result (λ reach. IsReach graph.now reach.positions reach.queue.items) }
         ensures start { IfOk result (λ reach. number_at reach.queue.items 0 ≡ start) }
+        ensures covered { IfOk result (λ reach. AreCovered reach.positions reach.covered) }
     {
-        let positions = Cells::new(alloc, graph.count() as usize, 0)?;
+        let count = graph.count() as usize;
+        let positions = Cells::new(alloc, count, 0)?;
+        let covered = Cells::new(alloc, count + 1, 0)?;
         let mut queue = Vec::new(alloc);
         queue.push((start, 0))?;
-        Ok(Reach { positions, queue })
+        Ok(Reach {
+            positions,
+            covered,
+            queue,
+        })
     }
 
-    /// How many positions the queue has.
-    pub(crate) fn len(&self) -> usize
-        ensures { result ≡ length self.now.queue.items }
+    /// The transaction at a position of the queue, if it is so long.
+    pub(crate) fn number(&self, position: u32) -> Option<u32>
+        ensures { MatchOption result (length self.now.queue.items ≤ position)
+            (λ number. (position < length self.now.queue.items) × (number ≡ number_at self.now.queue.items position)) }
     {
-        self.queue.len()
-    }
-
-    /// The transaction at a position of the queue.
-    pub(crate) fn number(&self, position: usize) -> u32
-        requires { position < length self.now.queue.items }
-        ensures { result ≡ number_at self.now.queue.items position }
-    {
-        self.queue[position].0
+        match self.queue.get(position as usize) {
+            Some(entry) => Some(entry.0),
+            None => None,
+        }
     }
 
     /// Takes in a transaction that wasn't reached before, if a pair leads to it from the one at a position.
@@ -73,6 +79,7 @@ impl Reach {
         requires reach { IsReach graph.now self.old.positions self.old.queue.items }
         ensures reach { OnOk result (IsReach graph.now self.new.positions self.new.queue.items) }
         ensures more { OnOk result (IsMore self.old.positions self.old.queue.items self.new.positions self.new.queue.items) }
+        ensures covered { self.new.covered ≡ self.old.covered }
         ensures met { OnOk result (IsCausalPair graph.now (number_at self.old.queue.items position) number → 0 < slice_index self.new.positions number) }
     {
         if self.positions.get(number) > 0 {
@@ -100,6 +107,7 @@ impl Reach {
         requires reach { IsReach graph.now self.old.positions self.old.queue.items }
         ensures reach { OnOk result (IsReach graph.now self.new.positions self.new.queue.items) }
         ensures more { OnOk result (IsMore self.old.positions self.old.queue.items self.new.positions self.new.queue.items) }
+        ensures covered { self.new.covered ≡ self.old.covered }
         ensures met { OnOk result (AreMet graph.now self.new.positions (number_at self.old.queue.items position) numbers.now (length numbers.now)) }
     {
         for number in numbers {
@@ -123,6 +131,7 @@ impl Reach {
         requires reach { IsReach graph.now self.old.positions self.old.queue.items }
         ensures reach { OnOk result (IsReach graph.now self.new.positions self.new.queue.items) }
         ensures more { OnOk result (IsMore self.old.positions self.old.queue.items self.new.positions self.new.queue.items) }
+        ensures covered { self.new.covered ≡ self.old.covered }
         ensures met { OnOk result (AreMetBetween graph.now self.new.positions (number_at self.old.queue.items position) low high) }
     {
         for number in low..high {
@@ -131,38 +140,67 @@ impl Reach {
         Ok(())
     }
 
-    /// Takes in all to which a pair leads from the transaction at a position: the later ones of its session, and its readers.
-    fn spread(&mut self, graph: &LargeGraph, position: u32) -> Result<(), AllocError>
+    /// Notes that all from `low` on were met, up to where their session ends.
+    fn cover(&mut self, low: u32, end: u32)
+        ensures positions { self.new.positions ≡ self.old.positions }
+        ensures queue { self.new.queue ≡ self.old.queue }
+        ensures covered { AreCovered self.old.positions self.old.covered
+            → ((v : ℕ) → low ≤ v → v < end → 0 < slice_index self.old.positions v) → AreCovered self.new.positions self.new.covered }
+    {
+        self.covered.set(end, low);
+    }
+
+    /// Before which number, of those from `low` to where their session ends, all from there on were met.
+    fn uncovered(&self, low: u32, end: u32) -> u32
+        requires order { low ≤ end }
+        requires covered { AreCovered self.now.positions self.now.covered }
+        ensures low { low ≤ result }
+        ensures end { result ≤ end }
+        ensures met { (v : ℕ) → result ≤ v → v < end → 0 < slice_index self.now.positions v }
+    {
+        let covered = self.covered.get(end);
+        if covered > 0 && covered < end {
+            covered.max(low)
+        } else {
+            end
+        }
+    }
+
+    /// Takes in the later ones of a session, from the transaction at a position on.
+    fn spread_session(&mut self, graph: &LargeGraph, position: u32) -> Result<(), AllocError>
         requires few { count graph.now ≤ LARGE_COUNT }
         requires position { position < length self.old.queue.items }
         requires reach { IsReach graph.now self.old.positions self.old.queue.items }
+        requires covered { AreCovered self.old.positions self.old.covered }
         ensures reach { OnOk result (IsReach graph.now self.new.positions self.new.queue.items) }
+        ensures covered { OnOk result (AreCovered self.new.positions self.new.covered) }
         ensures more { OnOk result (IsMore self.old.positions self.old.queue.items self.new.positions self.new.queue.items) }
-        ensures met { OnOk result ((v : ℕ) → IsCausalPair graph.now (number_at self.old.queue.items position) v → 0 < slice_index self.new.positions v) }
+        ensures met { OnOk result ((v : ℕ) → IsSessionPair graph.now (number_at self.old.queue.items position) v → 0 < slice_index self.new.positions v) }
     {
-        let from = self.queue[position as usize].0;
-        let (low, high) = graph.later(from);
-        self.meet_between(graph, position, low, high)?;
-        let (readers, _keys) = graph.readings(from);
-        self.meet_each(graph, position, readers)?;
+        let (low, high) = graph.later(self.queue[position as usize].0);
+        let end = self.uncovered(low, high);
+        self.meet_between(graph, position, low, end)?;
+        self.cover(low, high);
         Ok(())
     }
 
-    /// All that a transaction reaches.
-    pub(crate) fn of(alloc: Global, graph: &LargeGraph, start: u32) -> Result<Reach, NoMemory>
-        requires { start < count graph.now }
-        ensures reach { IfOk result (λ reach. IsReach graph.now reach.positions reach.queue.items) }
-        ensures start { IfOk result (λ reach. number_at reach.queue.items 0 ≡ start) }
-        ensures all { IfOk result (λ reach. AreSpread graph.now reach.positions reach.queue.items (length reach.queue.items)) }
+    /// Takes in all to which a pair leads from the transaction at a position: the later ones of its session, and its readers.
+    pub(crate) fn spread(&mut self, graph: &LargeGraph, position: u32) -> Result<(), AllocError>
+        requires position { position < length self.old.queue.items }
+        requires reach { IsReach graph.now self.old.positions self.old.queue.items }
+        requires covered { AreCovered self.old.positions self.old.covered }
+        ensures reach { OnOk result (IsReach graph.now self.new.positions self.new.queue.items) }
+        ensures covered { OnOk result (AreCovered self.new.positions self.new.covered) }
+        ensures more { OnOk result (IsMore self.old.positions self.old.queue.items self.new.positions self.new.queue.items) }
+        ensures met { OnOk result ((v : ℕ) → IsCausalPair graph.now (number_at self.old.queue.items position) v → 0 < slice_index self.new.positions v) }
     {
-        let mut reach = Reach::new(alloc, graph, start)?;
-        for position in 0..graph.count() + 1 {
-            if position as usize >= reach.queue.len() {
-                return Ok(reach);
-            }
-            reach.spread(graph, position)?;
-        }
-        Ok(reach)
+        // there are few, as this call says
+        graph.count();
+        let from = self.queue[position as usize].0;
+        self.spread_session(graph, position)?;
+        let (readers, _keys) = graph.readings(from);
+        self.meet_each(graph, position, readers)?;
+        Ok(())
     }
 
     /// The walk from where the search began to the transaction at a later position.

@@ -1,7 +1,8 @@
-//! Shortest walks, searched backwards.
+//! Shortest walks: breadth-first search by pairs, backwards.
 use crate::backwards::Backwards;
 use crate::cells::Cells;
 use crate::pairs::{Pairs, span};
+use crate::work::{Halt, Work};
 use std::alloc::{AllocError, Global};
 use tcc_graph::Step;
 use tcc_txn::NoMemory;
@@ -24,23 +25,31 @@ impl Walking {
         Ok(Walking { backwards, by })
     }
 
-    /// A shortest walk from one of the wanted transactions, which ascend, to one of these ends; none where there is none.
+    /// A shortest walk from one of the wanted transactions, which ascend, to one of these ends; none where there is none of so many
+    /// steps at most.
     pub(crate) fn walk(
         &mut self,
         alloc: Global,
+        work: &mut Work,
         pairs: &Pairs<'_>,
         wanted: &[u32],
         ends: &[u32],
-    ) -> Result<Option<Vec<Step>>, NoMemory> {
+        most: usize,
+    ) -> Result<Option<Vec<Step>>, Halt> {
         self.backwards.begin();
+        work.take(ends.len())?;
         for end in ends {
             self.meet(*end, *end, BY_SESSION)?;
         }
-        for head in 0..pairs.count() {
-            let Some(number) = self.backwards.at(head) else {
+        for _turn in 0..pairs.count() {
+            let Some(number) = self.backwards.take() else {
                 break;
             };
-            if let Some((start, by)) = self.search(pairs, wanted, number)? {
+            if self.backwards.depth() > most {
+                break;
+            }
+            let is_last = self.backwards.depth() == most;
+            if let Some((start, by)) = self.search(work, pairs, wanted, number, is_last)? {
                 return Ok(Some(self.steps(alloc, pairs, start, number, by)?));
             }
         }
@@ -55,21 +64,26 @@ impl Walking {
         Ok(())
     }
 
-    /// Looks at all that lead to a transaction by one step: a wanted one and the step, or else they are taken in.
+    /// Looks at all that lead to a transaction by one step: a wanted one and the step; or else they are taken in, unless these
+    /// are the last.
     fn search(
         &mut self,
+        work: &mut Work,
         pairs: &Pairs<'_>,
         wanted: &[u32],
         number: u32,
-    ) -> Result<Option<(u32, u32)>, AllocError> {
-        if let Some(start) = self.search_session(pairs, wanted, number)? {
+        is_last: bool,
+    ) -> Result<Option<(u32, u32)>, Halt> {
+        if let Some(start) = self.search_session(work, pairs, wanted, number, is_last)? {
             return Ok(Some((start, BY_SESSION)));
         }
-        for (key_index, source) in pairs.reads(number) {
+        let reads = pairs.reads(number);
+        work.take(reads.len())?;
+        for (key_index, source) in reads {
             if wanted.binary_search(source).is_ok() {
                 return Ok(Some((*source, *key_index)));
             }
-            if *source != 0 {
+            if *source != 0 && !is_last {
                 self.meet(*source, number, *key_index)?;
             }
         }
@@ -79,14 +93,21 @@ impl Walking {
     /// The same of those before it in its session, as far as they weren't taken in for a later one.
     fn search_session(
         &mut self,
+        work: &mut Work,
         pairs: &Pairs<'_>,
         wanted: &[u32],
         number: u32,
-    ) -> Result<Option<u32>, AllocError> {
+        is_last: bool,
+    ) -> Result<Option<u32>, Halt> {
+        work.take(1)?;
         let low = self.backwards.cover(pairs, number);
         if let Some(start) = span(wanted, low, number).first() {
             return Ok(Some(*start));
         }
+        if is_last {
+            return Ok(None);
+        }
+        work.take(number.saturating_sub(low) as usize)?;
         for earlier in low..number {
             self.meet(earlier, number, BY_SESSION)?;
         }

@@ -25,6 +25,10 @@ pub record IsMore (old : List ℕ) (older : List (ℕ × ℕ)) (new : List ℕ) 
   pub same : (i : ℕ) → i < length older → slice_index_or newer i (0, 0) ≡ slice_index_or older i (0, 0)
   pub reached : (v : ℕ) → 0 < slice_index old v → 0 < slice_index new v
 
+-- before each of these ends all from what stands there on were reached
+abbrev pub AreCovered : List ℕ → List ℕ → Type 0
+AreCovered positions covered = (end v : ℕ) → 0 < slice_index covered end → slice_index covered end ≤ v → v < end → 0 < slice_index positions v
+
 -- of the first n of these numbers, and of those from low to below high, each to which a pair leads was reached
 abbrev pub AreMet : History → List ℕ → ℕ → List ℕ → ℕ → Type 0
 AreMet h positions from numbers n = (k : ℕ) → k < n → IsCausalPair h from (slice_index numbers k) → 0 < slice_index positions (slice_index numbers k)

@@ -1,0 +1,112 @@
+-- Derived links between two transactions, by what was looked at so far.
+use Rattle.std.proofs.Common.{ℕ, ◌+◌, ◌<◌, ◌≤◌, ◌≡◌, ◌≢◌, ◌⊎◌, inl, inr, false, List, [], ◌∷◌, length, get_or, refl, sym, ap, subst, ◌∙◌, arith}
+use Rattle.std.specs.Prelude.{slice_index}
+use Rattle.std.proofs.lemmas.Bool.{cases_lt, false≢true}
+use Rattle.std.proofs.lemmas.List.{get_or_default}
+use Rattle.tcc_reads.specs.History.{History, count}
+use Rattle.tcc_graph.specs.Relations.{IsCausalPair, IsReadsPair, causal_pair, reads_from}
+use Rattle.tcc_graph.specs.Keys.{IsWriter}
+use Rattle.tcc_graph.specs.Levels.{Judged, causally, atomically}
+use Rattle.tcc_graph.specs.Links.{MayContradict}
+use Rattle.tcc_graph.specs.Readings.{AreReadings}
+use Rattle.tcc_graph.specs.Walks.{step_from, step_to, IsStep, IsWalk}
+use Rattle.tcc_graph.specs.declared.step.Step.{Step}
+use Rattle.tcc_graph.specs.declared.link.Link.TheVariants as link
+use Rattle.tcc_graph.proofs.Pairs.{pair_from_kinds, step_pair}
+use Rattle.tcc_least.proofs.Built.{NoneOverwritten}
+use Rattle.tcc_least.proofs.Listed.{at_pair}
+use Rattle.tcc_order.specs.Placements.{IsDerivedPair}
+use Rattle.tcc_large.specs.private.Reaching.{IsReach, IsMore, AreSpread, number_at}
+use Rattle.tcc_large.specs.private.Retracing.{IsHeldBack, IsLinkBetween}
+use Rattle.tcc_large.proofs.Reached.{walk_reached, spread_upto}
+
+-- what holds of those before n and of n holds of those before n + 1
+one_more : (P : ℕ → Type 0) (n : ℕ) → ((k : ℕ) → k < n → P k) → P n → (k : ℕ) → k < n + 1 → P k
+one_more P n before here k l = go (cases_lt k n)
+  where
+    go : (k < n) ⊎ (n ≤ k) → P k
+    go (inl less) = before k less
+    go (inr past) = let same : n ≡ k = omega (arith, past, l) in subst P same here
+
+-- ---- what a derived link joins
+pub derived_ends : (j : Judged) (b a : ℕ) → IsDerivedPair j b a → (b ≢ a) × (a < count j.history) × (b < count j.history)
+derived_ends j b a (x, c, walk, ((apart, reads, writer), allowed)) = (apart, reads.0, writer.0)
+
+-- what no pair holds back a derived link does
+pub derived_of : (j : Judged) (b a : ℕ) → causal_pair j.history b a ≡ false → IsHeldBack j b a → IsDerivedPair j b a
+derived_of j b a none (inl pair) = absurd (false≢true (sym none ∙ pair_from_kinds j.history b a pair))
+derived_of j b a none (inr derived) = derived
+
+-- ---- keys
+-- none of the first n of the keys is written
+abbrev pub WritesNone : History → ℕ → List (List ℕ) → ℕ → Type 0
+WritesNone h from keys n = (k : ℕ) → k < n → IsWriter h from (get_or keys k []) → ⊥
+
+pub none_more : (h : History) (from : ℕ) (keys : List (List ℕ)) (n : ℕ) → WritesNone h from keys n → (IsWriter h from (get_or keys n []) → ⊥)
+    → WritesNone h from keys (n + 1)
+none_more h from keys n none here = one_more (λ k. IsWriter h from (get_or keys k []) → ⊥) n none here
+
+pub none_contradicts : (h : History) (from to reader n : ℕ) → length (reads_from h to reader) ≤ n → WritesNone h from (reads_from h to reader) n
+    → (x : List ℕ) → MayContradict h from to x reader → ⊥
+none_contradicts h from to reader n all none x (apart, reads, writer) =
+    let there = reads.2 in
+    let at : get_or (reads_from h to reader) there.0 [] ≡ x = get_or_default (reads_from h to reader) there.0 [] x there.1 ∙ there.2 in
+    none there.0 (omega (arith, there.1, all)) (subst (λ (y : List ℕ). IsWriter h from y) (sym at) writer)
+
+-- ---- by walks
+-- those at the positions behind the first, up to n, contradict nothing
+abbrev pub NoneUpTo : History → ℕ → ℕ → List (ℕ × ℕ) → ℕ → Type 0
+NoneUpTo h from to queue n = (i : ℕ) → 0 < i → i < n + 1 → (x : List ℕ) → MayContradict h from to x (number_at queue i) → ⊥
+
+pub none_at_first : (h : History) (from to : ℕ) (queue : List (ℕ × ℕ)) → NoneUpTo h from to queue 0
+none_at_first h from to queue i some l = absurd (omega (arith, some, l))
+
+pub none_kept : (h : History) (from to : ℕ) (a : List ℕ) (p : List (ℕ × ℕ)) (b : List ℕ) (q : List (ℕ × ℕ)) (n : ℕ) → NoneUpTo h from to p n
+    → IsMore a p b q → n < length p → NoneUpTo h from to q n
+none_kept h from to a p b q n none more inside i some l x =
+    let same : number_at q i ≡ number_at p i = ap (λ z. z.0) (more.same i (omega (arith, l, inside))) in
+    subst (λ (z : ℕ). MayContradict h from to x z → ⊥) (sym same) (none i some l x)
+
+pub none_upto : (h : History) (from to : ℕ) (a : List ℕ) (p : List (ℕ × ℕ)) (b : List ℕ) (q : List (ℕ × ℕ)) (n reader : ℕ) → NoneUpTo h from to p n
+    → IsMore a p b q → n < length p → reader ≡ number_at q (n + 1) → ((x : List ℕ) → MayContradict h from to x reader → ⊥) → NoneUpTo h from to q (n + 1)
+none_upto h from to a p b q n reader none more inside is here i some l = go (cases_lt i (n + 1))
+  where
+    go : (i < n + 1) ⊎ (n + 1 ≤ i) → (x : List ℕ) → MayContradict h from to x (number_at q i) → ⊥
+    go (inl less) x = none_kept h from to a p b q n none more inside i some less x
+    go (inr past) x =
+        let same : n + 1 ≡ i = omega (arith, past, l) in
+        subst (λ (z : ℕ). MayContradict h from to x (number_at q z) → ⊥) same (subst (λ (z : ℕ). MayContradict h from to x z → ⊥) is (here x))
+
+-- where all was looked at there is no derived link
+pub no_walk : (h : History) (from to : ℕ) (positions : List ℕ) (queue : List (ℕ × ℕ)) (n : ℕ) → IsReach h positions queue
+    → AreSpread h positions queue (n + 1) → number_at queue 0 ≡ from → length queue ≤ n + 1 → NoneUpTo h from to queue n
+    → IsDerivedPair (causally h) from to → ⊥
+no_walk h from to positions queue n reach spread start all none (x, c, walk, (contradicts, (path, allowed))) =
+    let each = spread_upto h positions queue (n + 1) all spread in
+    let some = walk_reached h positions queue reach each c walk (subst (λ (z : ℕ). IsWalk h z c walk) (sym start) path) in
+    let there = reach.noted c some in
+    none (slice_index positions c) some (omega (arith, there.0, all)) x (subst (λ (z : ℕ). MayContradict h from to x z) (sym there.1) contradicts)
+
+-- ---- by steps
+one_pair : (h : History) (b c : ℕ) (walk : List Step) → IsWalk h b c walk → length walk ≡ 1 → IsCausalPair h b c
+one_pair h b c [] path one = absurd (omega (arith, path.0))
+one_pair h b c (s ∷ []) path one =
+    subst (λ (z : ℕ). IsCausalPair h z c) path.1.0 (subst (λ (z : ℕ). IsCausalPair h (step_from s) z) path.1.2 (step_pair h s path.1.1))
+one_pair h b c (s ∷ t ∷ steps) path one = absurd (omega (arith, one))
+
+pub no_step : (h : History) (from to : ℕ) (readers : List ℕ) (names : List (List ℕ)) (n : ℕ) → AreReadings h to readers names → length readers ≤ n
+    → NoneOverwritten h from readers names n → IsDerivedPair (atomically h) from to → ⊥
+no_step h from to readers names n are all none (x, c, walk, ((apart, reads, writer), (path, allowed))) =
+    let w = at_pair readers names [] are.long c x ((are.each c x).1 reads) in
+    none w.0 (omega (arith, w.1, all)) (rw (w.2, w.3) (writer, one_pair h from c walk path allowed))
+
+-- the link of one step
+pub step_link : (h : History) (b a d : ℕ) (x : List ℕ) (s : Step) → b ≢ a → IsReadsPair h a d x → IsWriter h b x → step_from s ≡ b → step_to s ≡ d
+    → IsStep h s → IsLinkBetween (atomically h) b a (link.Derived b a x d (s ∷ []))
+step_link h b a d x s apart reads writer from to is = (refl, refl, ((apart, reads, writer), ((omega arith, (from, is, to)), refl)))
+
+-- the link of a walk to the transaction at a position
+pub walk_link : (h : History) (b a d : ℕ) (x : List ℕ) (start at : ℕ) (walk : List Step) → MayContradict h b a x d → start ≡ b → d ≡ at
+    → IsWalk h start at walk → IsLinkBetween (causally h) b a (link.Derived b a x d walk)
+walk_link h b a d x start at walk against from to path =
+    (refl, refl, (against, (subst (λ (z : ℕ). IsWalk h z d walk) from (subst (λ (z : ℕ). IsWalk h start z walk) (sym to) path), tt)))

@@ -1,0 +1,130 @@
+//! The link between two transactions of which one is known to stand before the other.
+ghost use Rattle.std.specs.Prelude.{◌≡◌, ◌≢◌, ◌<◌, ◌⊎◌, ◌↔◌, List, ℕ, IfOk, IsTrue, MatchOption};
+ghost use Rattle.tcc_reads.specs.History.{count};
+ghost use Rattle.tcc_graph.specs.Relations.{IsReadsPair};
+ghost use Rattle.tcc_least.specs.private.Building.{Overwrites};
+ghost use Rattle.tcc_graph.specs.Levels.{Judged, causally, atomically, judged};
+ghost use Rattle.tcc_graph.specs.Links.{MayContradict, IsLink, link_from, link_to};
+ghost use Rattle.tcc_graph.specs.Walks.{IsStep, step_from, step_to};
+ghost use Rattle.tcc_order.specs.Placements.{IsDerivedPair};
+ghost use Rattle.tcc_large.specs.private.Retracing.{IsHeldBack, IsLinkBetween};
+
+use crate::reaching::{Reach, step};
+use std::alloc::Global;
+use tcc_graph::{LargeGraph, Level, Link, Step, Walk};
+use tcc_txn::{Name, NoMemory};
+
+/// A key that the reader reads from `to`, and that `from`, another transaction, writes too.
+fn contradicted(graph: &LargeGraph, from: u32, to: u32, reader: u32) -> Option<Name>
+    requires apart { from ≢ to }
+    requires to { to < count graph.now }
+    requires reader { reader < count graph.now }
+    ensures { MatchOption result ((x : List ℕ) → MayContradict graph.now from to x reader → ⊥)
+        (λ key. MayContradict graph.now from to key reader) }
+{
+    for key in graph.reads_from(to, reader) {
+        if graph.is_writer(from, key) {
+            return Some(*key);
+        }
+    }
+    None
+}
+
+/// At `Causal` the derived link from one transaction to another, with a shortest walk: breadth first from where it begins.
+fn derived_by_walk(alloc: Global, graph: &LargeGraph, from: u32, to: u32) -> Result<Link, NoMemory>
+    requires { IsDerivedPair (causally graph.now) from to }
+    ensures { IfOk result (IsLinkBetween (causally graph.now) from to) }
+{
+    let mut reach = Reach::new(alloc, graph, from)?;
+    for position in 0..graph.count() + 1 {
+        reach.spread(graph, position)?;
+        let Some(reader) = reach.number(position + 1) else {
+            break;
+        };
+        if let Some(key) = contradicted(graph, from, to, reader) {
+            let walk = reach.walk(alloc, graph, position as usize + 1)?;
+            return Ok(Link::Derived {
+                from,
+                to,
+                key,
+                reader,
+                walk,
+            });
+        }
+    }
+    unreachable!()
+}
+
+/// Whether a transaction writes the key, and a pair leads from it to the reader.
+fn overwrites(graph: &LargeGraph, from: u32, reader: u32, key: &Name) -> bool
+    requires from { from < count graph.now }
+    requires reader { reader < count graph.now }
+    ensures { IsTrue result ↔ Overwrites graph.now from reader key.now }
+{
+    graph.is_writer(from, key) && graph.causal(from, reader)
+}
+
+/// A reader of `to`, and a key that it reads there, which `from` writes too, from which a pair leads to the reader.
+fn overwritten(graph: &LargeGraph, from: u32, to: u32) -> (u32, Name)
+    requires { IsDerivedPair (atomically graph.now) from to }
+    ensures { IsReadsPair graph.now to result.0 result.1 × Overwrites graph.now from result.0 result.1 }
+{
+    let (readers, keys) = graph.readings(to);
+    for index in 0..readers.len() {
+        if overwrites(graph, from, readers[index], &keys[index]) {
+            return (readers[index], keys[index]);
+        }
+    }
+    unreachable!()
+}
+
+/// At `Atomic` the derived link from one transaction to another.
+fn derived_by_step(alloc: Global, graph: &LargeGraph, from: u32, to: u32) -> Result<Link, NoMemory>
+    requires { IsDerivedPair (atomically graph.now) from to }
+    ensures { IfOk result (IsLinkBetween (atomically graph.now) from to) }
+{
+    let (reader, key) = overwritten(graph, from, to);
+    let mut steps = Vec::new(alloc);
+    steps.push(step(graph, from, reader))?;
+    Ok(Link::Derived {
+        from,
+        to,
+        key,
+        reader,
+        walk: Walk::new(steps),
+    })
+}
+
+/// The link by the pair of a step.
+pub(crate) fn link_of(step: Step) -> Link
+    ensures from { link_from result ≡ step_from step }
+    ensures to { link_to result ≡ step_to step }
+    ensures link { (j : Judged) → IsStep j.history step → IsLink j result }
+{
+    match step {
+        Step::Session { from, to } => Link::Session { from, to },
+        Step::Reads { from, to, key } => Link::Reads { from, to, key },
+    }
+}
+
+/// The link from one transaction to another that it holds back: by a pair where there is one, and else a derived link.
+pub(crate) fn link_between(
+    alloc: Global,
+    graph: &LargeGraph,
+    level: Level,
+    from: u32,
+    to: u32,
+) -> Result<Link, NoMemory>
+    requires from { from < count graph.now }
+    requires to { to < count graph.now }
+    requires held { IsHeldBack (judged graph.now level) from to }
+    ensures { IfOk result (IsLinkBetween (judged graph.now level) from to) }
+{
+    if graph.causal(from, to) {
+        return Ok(link_of(step(graph, from, to)));
+    }
+    match level {
+        Level::Causal => derived_by_walk(alloc, graph, from, to),
+        Level::Atomic => derived_by_step(alloc, graph, from, to),
+    }
+}

@@ -1,0 +1,152 @@
+//! A cycle, found by going back over what an order leaves, each time to what holds a transaction back, until one comes again.
+//! That takes at most as many turns as there are transactions, and a search breadth first for each derived link of the cycle.
+ghost use Rattle.std.specs.Prelude.{◌≡◌, ◌<◌, ◌≤◌, ◌⊎◌, ℕ, true, false, length, slice_index, All, Contains, IfOk, MatchOption};
+ghost use Rattle.tcc_reads.specs.History.{count};
+ghost use Rattle.tcc_graph.specs.Levels.{judged};
+ghost use Rattle.tcc_graph.specs.Relations.{IsSessionPair};
+ghost use Rattle.tcc_bits.specs.Bits.{is_marked};
+ghost use Rattle.tcc_order.specs.Placements.{IsLeft, IsStuck};
+ghost use Rattle.tcc_large.specs.Cycles.{AreCycle};
+ghost use Rattle.tcc_large.specs.private.Retracing.{IsHeldBack, GoesRound};
+
+use crate::cells::Cells;
+use crate::reasons::link_between;
+use std::alloc::Global;
+use tcc_bits::is_marked;
+use tcc_clocks::parents_of;
+use tcc_graph::{LargeGraph, Level, Link};
+use tcc_order::Stuck;
+use tcc_txn::NoMemory;
+
+/// The first of these numbers that is not marked.
+fn first_left(numbers: &[u32], placed: &[u64]) -> Option<u32>
+    ensures { MatchOption result
+        (All (λ b. is_marked placed.now b ≡ true) numbers.now)
+        (λ b. Contains numbers.now b × (is_marked placed.now b ≡ false)) }
+{
+    for number in numbers {
+        if !is_marked(placed, *number as usize) {
+            return Some(*number);
+        }
+    }
+    None
+}
+
+/// The first transaction that is left.
+fn first_of_all(graph: &LargeGraph, level: Level, stuck: &Stuck) -> u32
+    requires { IsStuck (judged graph.now level) stuck.now.kept.items stuck.now.placed.items }
+    ensures { IsLeft (judged graph.now level) stuck.now.placed.items result }
+{
+    for number in 0..graph.count() {
+        if !is_marked(&stuck.placed, number as usize) {
+            return number;
+        }
+    }
+    unreachable!()
+}
+
+/// The first of a session from which on all up to this one are left.
+fn earliest_left(graph: &LargeGraph, placed: &[u64], number: u32) -> u32
+    requires below { number < count graph.now }
+    requires left { is_marked placed.now number ≡ false }
+    ensures below { result ≤ number }
+    ensures left { is_marked placed.now result ≡ false }
+    ensures pair { (result ≡ number) ⊎ IsSessionPair graph.now result number }
+{
+    for more in 0..number {
+        let before = number - more - 1;
+        if is_marked(placed, before as usize) || !graph.session(before, number) {
+            return before + 1;
+        }
+    }
+    0
+}
+
+/// A transaction that is left and holds this one back: by a pair if one does, and of its session the first.
+fn one_before(
+    alloc: Global,
+    graph: &LargeGraph,
+    level: Level,
+    stuck: &Stuck,
+    number: u32,
+) -> Result<u32, NoMemory>
+    requires stuck { IsStuck (judged graph.now level) stuck.now.kept.items stuck.now.placed.items }
+    requires left { IsLeft (judged graph.now level) stuck.now.placed.items number }
+    ensures left { IfOk result (IsLeft (judged graph.now level) stuck.now.placed.items) }
+    ensures held { IfOk result (λ before. IsHeldBack (judged graph.now level) before number) }
+{
+    // transactions stand by session and by place, as this call says
+    graph.sessions();
+    let first = earliest_left(graph, &stuck.placed, number);
+    if first != number {
+        return Ok(first);
+    }
+    let parents = parents_of(alloc, graph, number)?;
+    if let Some(parent) = first_left(&parents, &stuck.placed) {
+        return Ok(parent);
+    }
+    let kept = stuck.kept[number as usize].as_slice();
+    let Some(before) = first_left(kept, &stuck.placed) else {
+        unreachable!()
+    };
+    Ok(before)
+}
+
+/// Transactions each of which is held back by the next one, from one until it comes again.
+fn round(
+    alloc: Global,
+    graph: &LargeGraph,
+    level: Level,
+    stuck: &Stuck,
+) -> Result<Vec<u32>, NoMemory>
+    requires { IsStuck (judged graph.now level) stuck.now.kept.items stuck.now.placed.items }
+    ensures { IfOk result (λ numbers. GoesRound (judged graph.now level) numbers.items) }
+{
+    let mut positions = Cells::new(alloc, graph.count() as usize, 0)?;
+    let mut trail = Vec::new(alloc);
+    let mut at = first_of_all(graph, level, stuck);
+    trail.push(at)?;
+    for position in 0..graph.count() + 1 {
+        let before = positions.get(at);
+        if before > 0 {
+            return Ok(trail.split_off(before as usize - 1)?);
+        }
+        positions.set(at, position + 1);
+        at = one_before(alloc, graph, level, stuck, at)?;
+        trail.push(at)?;
+    }
+    unreachable!()
+}
+
+/// The links along such transactions.
+fn links_round(
+    alloc: Global,
+    graph: &LargeGraph,
+    level: Level,
+    numbers: &[u32],
+) -> Result<Vec<Link>, NoMemory>
+    requires { GoesRound (judged graph.now level) numbers.now }
+    ensures { IfOk result (λ links. AreCycle (judged graph.now level) links.items) }
+{
+    let mut links = Vec::new(alloc);
+    for index in 0..numbers.len() - 1 {
+        let (from, to) = (numbers[index + 1], numbers[index]);
+        links.push(link_between(alloc, graph, level, from, to)?)?;
+    }
+    links.reverse();
+    Ok(links)
+}
+
+/// The links of a cycle of a history at a level in which an order stops.
+pub(crate) fn cycle_of(
+    alloc: Global,
+    graph: &LargeGraph,
+    level: Level,
+    stuck: &Stuck,
+) -> Result<Vec<Link>, NoMemory>
+    requires { IsStuck (judged graph.now level) stuck.now.kept.items stuck.now.placed.items }
+    ensures { IfOk result (λ links. AreCycle (judged graph.now level) links.items) }
+{
+    let numbers = round(alloc, graph, level, stuck)?;
+    links_round(alloc, graph, level, &numbers)
+}
