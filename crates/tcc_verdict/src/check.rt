@@ -5,8 +5,9 @@ ghost use Rattle.tcc_txn.specs.declared.limits.Limits.TheVariants.{Small};
 ghost use Rattle.tcc_reads.specs.Faults.{read_faults};
 ghost use Rattle.tcc_reads.specs.Refusals.{IsRefusal};
 ghost use Rattle.tcc_reads.specs.Sources.{history};
+ghost use Rattle.tcc_verdict.specs.Checking.{IsHistory, MayBeResolution};
 ghost use Rattle.tcc_verdict.specs.Checks.{IsCheckRun, IsShown, MayBeCheck, PrintsSome};
-ghost use Rattle.tcc_verdict.specs.private.Stages.{IsHistory, IsMadeOf, MayBeResolution, MayBeTextCheck};
+ghost use Rattle.tcc_verdict.specs.private.Stages.{IsMadeOf, MayBeTextCheck};
 
 use crate::stopping::note_stop;
 use std::alloc::Global;

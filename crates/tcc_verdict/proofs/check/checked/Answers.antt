@@ -2,7 +2,8 @@
 use Rattle.std.proofs.Common.{subst}
 use Rattle.std.proofs.lemmas.Option.{IfSome_then}
 use Rattle.tcc_verdict.specs.Checks.{small_check}
-use Rattle.tcc_verdict.specs.private.Stages.{IsHistory, MayBeTextCheck}
+use Rattle.tcc_verdict.specs.Checking.{IsHistory}
+use Rattle.tcc_verdict.specs.private.Stages.{MayBeTextCheck}
 use Rattle.tcc_verdict.proofs.Checked.{of_both, nothing_made_by, for_any}
 use Rattle.tcc_verdict.proofs.check.checked.Goals as goal
 

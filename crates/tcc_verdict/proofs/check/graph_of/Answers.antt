@@ -1,6 +1,6 @@
 -- The history, all read faults, or refused memory.
 use Rattle.std.proofs.Common.{inl, ◌∙◌}
-use Rattle.tcc_verdict.specs.private.Stages.{IsHistory}
+use Rattle.tcc_verdict.specs.Checking.{IsHistory}
 use Rattle.tcc_verdict.proofs.Checked.{refused, without_memory}
 use Rattle.tcc_verdict.proofs.check.graph_of.Goals as goal
 

@@ -2,7 +2,7 @@
 use Rattle.std.proofs.Common.{◌∙◌}
 use Rattle.std.proofs.lemmas.Option.{IfSome_then}
 use Rattle.tcc_txn.specs.declared.limits.Limits.TheVariants.{Small}
-use Rattle.tcc_verdict.specs.private.Stages.{IsHistory}
+use Rattle.tcc_verdict.specs.Checking.{IsHistory}
 use Rattle.tcc_verdict.proofs.Checked.{of_snapshot, unrecorded}
 use Rattle.tcc_verdict.proofs.check.history_of.Goals as goal
 
