@@ -1,12 +1,11 @@
--- What comes of a history and a certificate, and what a run of the check does with their bytes.
-use Rattle.std.specs.Prelude.{ℕ, ◌≡◌, ◌≢◌, ◌⊎◌, List, [], Option, None, Some, Result, Ok, Err}
+-- What comes of a history and a certificate within the small limits, and what a run of the check does with their bytes.
+use Rattle.std.specs.Prelude.{ℕ, ◌≡◌, ◌≢◌, List, [], Option, None, Result, Ok, Err}
 use Rattle.tcc_txn.specs.Snapshots.{Sessions}
+use Rattle.tcc_txn.specs.declared.limits.Limits.TheVariants.{Small}
 use Rattle.tcc_rows.specs.Answers as rows
-use Rattle.tcc_rows.specs.Failing.{FailsAt}
 use Rattle.tcc_rows.specs.Items.{finished_in}
 use Rattle.tcc_rows.specs.declared.rows.Item.{Item}
 use Rattle.tcc_rows.specs.declared.fault.RowFault.{RowFault}
-use Rattle.tcc_rows.specs.declared.fault.RowFaultKind.TheVariants as row_kind
 use Rattle.tcc_reads.specs.Faults.{read_faults}
 use Rattle.tcc_reads.specs.History.{History}
 use Rattle.tcc_reads.specs.Sources.{history}
@@ -18,9 +17,10 @@ use Rattle.tcc_check.specs.Streams.{claim_of}
 use Rattle.tcc_check.specs.Verdicts.{IsVerdict, IsTrueClaim}
 use Rattle.tcc_check.specs.declared.judgement.Judgement.{Judgement}
 use Rattle.tcc_print.specs.declared.halt.Halt.{Halt}
-use Rattle.tcc_print.specs.declared.halt.Halt.TheVariants.{Row, Reads, Text, NoMemory}
-use Rattle.tcc_print.specs.Printed.{Prints, check_text}
+use Rattle.tcc_print.specs.declared.halt.Halt.TheVariants.{Text}
+use Rattle.tcc_print.specs.Printed.{check_text}
 use Rattle.tcc_print.specs.Statuses.{check_status}
+use Rattle.tcc_verdict.specs.Checking.{Check, IsOfRecords, IsOfSnapshot, IsOutcome, IsRun, MayBe, PrintsOutcome}
 
 -- what comes of the certificate's text, for a history: the claim of the certificate that it is the text of and the verdict
 -- on that certificate, else its first fault, or that of a reader that failed before
@@ -30,40 +30,38 @@ IsTextCheck h text (Ok judged) =
 IsTextCheck h text (Err (Text fault)) = IsReading text (Err fault) × (fault.kind ≢ text_kind.NoMemory)
 IsTextCheck h text (Err _) = ⊥
 
--- all read faults
-abbrev pub AreReads : Sessions → Result Judgement Halt → Type 0
-AreReads s (Err (Reads faults)) = faults.items ≡ read_faults s
-AreReads s _ = ⊥
+-- the check of records within the small limits
+abbrev pub small_check : Check Judgement
+small_check = record {
+  limits = Small;
+  of_text = λ s text o. IsTextCheck (history s) text o;
+  text = check_text;
+  status = check_status;
+}
 
--- what comes of a snapshot: its read faults where there are any, else what comes of the text for its history
+-- what comes of a snapshot
 abbrev pub IsSnapshotCheck : Sessions → List ℕ → Result Judgement Halt → Type 0
-IsSnapshotCheck s text o = ((read_faults s ≢ []) × AreReads s o) ⊎ ((read_faults s ≡ []) × IsTextCheck (history s) text o)
+IsSnapshotCheck s text o = IsOfSnapshot small_check s text o
 
--- what comes of the records: their fault, else what comes of the snapshot of all that was finished, whatever was sealed
+-- of records
 abbrev pub IsRecordsCheck : List Item → Option RowFault → List ℕ → Result Judgement Halt → Type 0
-IsRecordsCheck items None text o = IsSnapshotCheck (finished_in items) text o
-IsRecordsCheck items (Some fault) text o = o ≡ Err (Row fault)
+IsRecordsCheck items fault text o = IsOfRecords small_check items fault text o
 
+-- of their bytes
 abbrev pub IsCheck : List ℕ → List ℕ → Result Judgement Halt → Type 0
-IsCheck records text o = IsRecordsCheck (rows.answers_of records).items (rows.answers_of records).fault text o
+IsCheck records text o = IsOutcome small_check records text o
 
--- the reader of the records failed, at one of them or behind the last, and all before it are lawful
-abbrev pub IsRecordsFailure : List ℕ → Result Judgement Halt → Type 0
-IsRecordsFailure records o =
-    (row : ℕ) × FailsAt row (rows.records_of records) × (o ≡ Err (Row (record { row = row; kind = row_kind.Read })))
-
--- what may come of the bytes: what their definition says, the fault of a reader that fails, or `NoMemory`
+-- where a reader may fail and memory may be refused
 abbrev pub MayBeCheck : List ℕ → List ℕ → Result Judgement Halt → Type 0
-MayBeCheck records text o = IsCheck records text o ⊎ (IsRecordsFailure records o ⊎ (o ≡ Err NoMemory))
+MayBeCheck records text o = MayBe small_check records text o
 
 -- the text of some outcome and its status, whatever is known of the bytes
 abbrev pub PrintsSome : Option (List ℕ) → Option (List ℕ) → ℕ → Type 0
-PrintsSome before after code = (o : Result Judgement Halt) × Prints before after (check_text o) (check_status o) code
+PrintsSome before after code = PrintsOutcome small_check before after code
 
 -- what a run does with the bytes
 abbrev pub IsCheckRun : List ℕ → List ℕ → Option (List ℕ) → Option (List ℕ) → ℕ → Type 0
-IsCheckRun records text before after code =
-    (o : Result Judgement Halt) × MayBeCheck records text o × Prints before after (check_text o) (check_status o) code
+IsCheckRun records text before after code = IsRun small_check records text before after code
 
 -- the bytes are those of a history without faults and the text of a certificate for it, whose claim is true: its order is
 -- a commit order, or its links are a least cycle and cost what is claimed

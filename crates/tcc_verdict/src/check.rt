@@ -5,8 +5,9 @@ ghost use Rattle.tcc_txn.specs.declared.limits.Limits.TheVariants.{Small};
 ghost use Rattle.tcc_reads.specs.Faults.{read_faults};
 ghost use Rattle.tcc_reads.specs.Refusals.{IsRefusal};
 ghost use Rattle.tcc_reads.specs.Sources.{history};
+ghost use Rattle.tcc_verdict.specs.Checking.{IsHistory, MayBeResolution};
 ghost use Rattle.tcc_verdict.specs.Checks.{IsCheckRun, IsShown, MayBeCheck, PrintsSome};
-ghost use Rattle.tcc_verdict.specs.private.Stages.{IsHistoryOf, MayBeTextCheck};
+ghost use Rattle.tcc_verdict.specs.private.Stages.{IsMadeOf, MayBeTextCheck};
 
 use crate::stopping::note_stop;
 use std::alloc::Global;
@@ -18,19 +19,20 @@ use tcc_print::Halt;
 use tcc_print::notes::note_reads;
 use tcc_print::printing::print_check;
 use tcc_reads::{ResolveFault, Resolved, resolve};
-use tcc_rows::{Recording, RowFault, RowFaultKind};
-use tcc_txn::Snapshot;
+use tcc_rows::{Recording, RecordingWithin, RowFault, RowFaultKind};
+use tcc_txn::{Bounds, Snapshot};
 
-/// The recording of all that the records finish; of a record's fault it is noted what to mend.
-fn recorded<R: Read + Drop, N: Write>(
+/// The recording of all that the records finish within the limits that `B` stands for, whatever they seal; of a record's fault it
+/// is noted what to mend.
+pub fn recorded<R: Read + Drop, B: Bounds, N: Write>(
     alloc: Global,
     reader: R,
     notes: &mut N,
-) -> Result<Recording<R>, RowFault>
+) -> Result<RecordingWithin<R, B>, RowFault>
     ensures { IfSome (R.remaining reader) (λ text. MatchResult result
-        (λ recording. IsRecorded Small text (Ok recording.snapshot)) (λ fault. IsRecorded Small text (Err fault))) }
+        (λ recording. IsRecorded B.limits text (Ok recording.snapshot)) (λ fault. IsRecorded B.limits text (Err fault))) }
 {
-    let Ok(recording) = Recording::new(alloc, reader) else {
+    let Ok(recording) = RecordingWithin::<R, B>::new(alloc, reader) else {
         return Err(RowFault {
             row: 1,
             kind: RowFaultKind::NoMemory,
@@ -63,18 +65,25 @@ fn resolved<N: Write>(
     resolved
 }
 
+/// The history of a snapshot, or all its read faults; of the first of these it is noted which write each of them is about.
+pub fn graph_of<N: Write>(alloc: Global, snapshot: &Snapshot, notes: &mut N) -> Result<Graph, Halt>
+    ensures { MayBeResolution IsHistory snapshot.now result }
+{
+    let resolved = resolved(alloc, snapshot, notes)?;
+    let graph = Graph::build(alloc, resolved)?;
+    Ok(graph)
+}
+
 /// The history of all that the records finish, whatever was sealed.
 fn history_of<R: Read + Drop, N: Write>(
     alloc: Global,
     reader: R,
     notes: &mut N,
 ) -> Result<Graph, Halt>
-    ensures { IfSome (R.remaining reader) (λ records. IsHistoryOf records result) }
+    ensures { IfSome (R.remaining reader) (λ records. IsMadeOf Small IsHistory records result) }
 {
-    let recording = recorded(alloc, reader, notes)?;
-    let resolved = resolved(alloc, recording.snapshot(), notes)?;
-    let graph = Graph::build(alloc, resolved)?;
-    Ok(graph)
+    let recording: Recording<R> = recorded(alloc, reader, notes)?;
+    graph_of(alloc, recording.snapshot(), notes)
 }
 
 /// What the certificate claims whose text the reader gives, and the verdict on it. The text is judged as it comes.

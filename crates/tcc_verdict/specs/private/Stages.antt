@@ -1,37 +1,36 @@
 -- How the stages of a check follow one another.
-use Rattle.std.specs.Prelude.{ℕ, ◌≡◌, ◌≢◌, ◌⊎◌, List, [], None, Some, Result, Ok, Err}
-use Rattle.tcc_rows.specs.Answers as rows
-use Rattle.tcc_rows.specs.Failing.{FailsAt}
+use Rattle.std.specs.Prelude.{ℕ, ◌≡◌, ◌⊎◌, List, None, Some, Result, Ok, Err}
+use Rattle.tcc_rows.specs.Answers.{answers_within, records_within}
+use Rattle.tcc_rows.specs.Failing.{FailsAtWithin}
 use Rattle.tcc_rows.specs.Items.{finished_in}
 use Rattle.tcc_txn.specs.Snapshots.{Sessions}
+use Rattle.tcc_txn.specs.declared.limits.Limits.{Limits}
 use Rattle.tcc_rows.specs.declared.fault.RowFault.{RowFault}
 use Rattle.tcc_rows.specs.declared.fault.RowFaultKind.TheVariants as row_kind
-use Rattle.tcc_reads.specs.Faults.{read_faults}
 use Rattle.tcc_reads.specs.History.{History}
-use Rattle.tcc_reads.specs.Sources.{history}
 use Rattle.tcc_check.specs.declared.judgement.Judgement.{Judgement}
 use Rattle.tcc_print.specs.declared.halt.Halt.{Halt}
-use Rattle.tcc_print.specs.declared.halt.Halt.TheVariants.{Row, Reads, Text, NoMemory}
+use Rattle.tcc_print.specs.declared.halt.Halt.TheVariants.{Row, Text, NoMemory}
+use Rattle.tcc_verdict.specs.Checking.{Check, IsResolution}
 use Rattle.tcc_verdict.specs.Checks.{IsTextCheck}
 
 -- the fault of the records, or that of a reader that failed behind lawful ones
-abbrev pub IsRowHalt : List ℕ → RowFault → Type 0
-IsRowHalt records fault = ((rows.answers_of records).fault ≡ Some fault)
-    ⊎ ((fault.kind ≡ row_kind.Read) × FailsAt fault.row (rows.records_of records))
+abbrev pub IsRowHalt : Limits → List ℕ → RowFault → Type 0
+IsRowHalt limits records fault = ((answers_within limits records).fault ≡ Some fault)
+    ⊎ ((fault.kind ≡ row_kind.Read) × FailsAtWithin limits fault.row (records_within limits records))
 
--- the history of a snapshot whose reads have no faults, else all their faults
-abbrev pub IsResolution : Sessions → Result History Halt → Type 0
-IsResolution s (Ok h) = (read_faults s ≡ []) × (h ≡ history s)
-IsResolution s (Err (Reads faults)) = (read_faults s ≢ []) × (faults.items ≡ read_faults s)
-IsResolution s (Err _) = ⊥
+-- what is made of all that the records finish, or all its read faults, where the records have no fault; else why there is nothing
+abbrev pub IsMadeOf : {G : Type 0} → Limits → (Sessions → G → Type 0) → List ℕ → Result G Halt → Type 0
+IsMadeOf limits is_made records (Err (Row fault)) = IsRowHalt limits records fault
+IsMadeOf limits is_made records (Err NoMemory) = Unit {0}
+IsMadeOf limits is_made records (Err (Text fault)) = ⊥
+IsMadeOf limits is_made records o =
+    ((answers_within limits records).fault ≡ None) × IsResolution is_made (finished_in (answers_within limits records).items) o
 
--- the history of all that the records finish, or all its read faults, where the records have no fault; else why there is none
-abbrev pub IsHistoryOf : List ℕ → Result History Halt → Type 0
-IsHistoryOf records (Err (Row fault)) = IsRowHalt records fault
-IsHistoryOf records (Err NoMemory) = Unit {0}
-IsHistoryOf records (Err (Text fault)) = ⊥
-IsHistoryOf records o = ((rows.answers_of records).fault ≡ None) × IsResolution (finished_in (rows.answers_of records).items) o
+-- what comes of the certificate's text for a snapshot whose reads have no faults, or `NoMemory`
+abbrev pub MayBeOfText : {J : Type 0} → Check J → Sessions → List ℕ → Result J Halt → Type 0
+MayBeOfText check s text o = check.of_text s text o ⊎ (o ≡ Err NoMemory)
 
--- what comes of the certificate's text for a history, or `NoMemory`
+-- so for a history within the small limits
 abbrev pub MayBeTextCheck : History → List ℕ → Result Judgement Halt → Type 0
 MayBeTextCheck h text o = IsTextCheck h text o ⊎ (o ≡ Err NoMemory)

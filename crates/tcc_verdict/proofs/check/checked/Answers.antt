@@ -1,14 +1,19 @@
 -- What comes of the certificate for the history, or of records without a history.
+use Rattle.std.proofs.Common.{subst}
 use Rattle.std.proofs.lemmas.Option.{IfSome_then}
-use Rattle.tcc_verdict.proofs.Checked.{of_history, no_history_by, for_any}
+use Rattle.tcc_verdict.specs.Checks.{small_check}
+use Rattle.tcc_verdict.specs.Checking.{IsHistory}
+use Rattle.tcc_verdict.specs.private.Stages.{MayBeTextCheck}
+use Rattle.tcc_verdict.proofs.Checked.{of_both, nothing_made_by, for_any}
 use Rattle.tcc_verdict.proofs.check.checked.Goals as goal
 
 pub returns-in_err-graph : goal.returns-in_err-graph
 returns-in_err-graph g c = IfSome_then (g.H.Read.remaining c.args.history) c.in_err-graph.ensures
     (λ records fails. for_any (g.C.Read.remaining c.args.certificate)
-    (λ text. no_history_by records text c.in_err-graph.field-0.0 c.from_residual.result fails c.from_residual.ensures.1))
+    (λ text. nothing_made_by small_check IsHistory records text c.in_err-graph.field-0.0 c.from_residual.result fails c.from_residual.ensures.1))
 
 pub returns : goal.returns
 returns g c = IfSome_then (g.H.Read.remaining c.args.history) c.in_ok-graph.ensures
     (λ records is. IfSome_then (g.C.Read.remaining c.args.certificate) c.judged.ensures
-    (λ text may. of_history records text c.in_ok-graph.graph c.judged.result is may))
+    (λ text may. of_both small_check IsHistory records text c.in_ok-graph.graph c.judged.result is
+    (λ s same. subst (λ h. MayBeTextCheck h text c.judged.result) same may)))

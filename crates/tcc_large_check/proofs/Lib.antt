@@ -1,0 +1,5 @@
+pub mod Owned
+pub mod Faults
+pub mod Judgements
+pub mod TrueClaims
+pub mod LargeShown

@@ -1,0 +1,3 @@
+pub mod LargeTexts
+pub mod LargeChecks
+pub mod private

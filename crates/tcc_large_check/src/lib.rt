@@ -1,0 +1,13 @@
+//! The run of `tcc check --large`: from the bytes of a history of any size, and of a certificate of any version, to the verdict and
+//! the status.
+#![tactic(auto)]
+
+mod check;
+mod judgement;
+mod judging;
+pub mod laws;
+mod printing;
+mod sized;
+
+pub use check::run_check_large;
+pub use judgement::{LargeClaim, LargeJudgement};
