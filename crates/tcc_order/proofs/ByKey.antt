@@ -1,5 +1,5 @@
 -- The readings of each transaction, key by key: how they come together, and what has to stand before it by those of one key.
-use Rattle.std.proofs.Common.{◌≡◌, ◌≢◌, ◌<◌, ◌≤◌, ◌+◌, ◌↔◌, ◌⊎◌, inl, inr, ℕ, List, [], ◌∷◌, ◌++◌, length, get_or, set, slice_index, refl, sym, ap, subst, ◌∙◌, arith}
+use Rattle.std.proofs.Common.{◌≡◌, ◌≢◌, ◌<◌, ◌≤◌, ◌+◌, ◌-◌, ◌↔◌, ◌⊎◌, inl, inr, ℕ, List, [], ◌∷◌, ◌++◌, length, get_or, set, slice_index, refl, sym, ap, subst, ◌∙◌, arith}
 use Rattle.std.specs.Prelude.{max, zip}
 use Rattle.std.specs.List.{All, Contains}
 use Rattle.std.proofs.lemmas.Bool.{cases_lt, cases_eq}
@@ -16,10 +16,10 @@ use Rattle.tcc_graph.proofs.WriterLemmas.{writers_below}
 use Rattle.tcc_bits.proofs.Lists.{nothing_in, zip_at, zip_has, zip-long}
 use Rattle.tcc_clocks.specs.Clocks.{IsOneOf, IsBefore, AreOwners, AreLatestOf, AreClocks}
 use Rattle.tcc_clocks.specs.declared.latest.TheConstants.{WIDE}
-use Rattle.tcc_order.specs.private.Keeping.{IsLatestPast, AreLatestPast, IsOverwritten, IsLiftable, IsLifted, IsClock}
-use Rattle.tcc_order.specs.private.ByKey.{AreReadingsFrom, AreReadingRows, IsBeside, AddsReadings, IsTop, reader_in, key_index_in}
+use Rattle.tcc_order.specs.private.Keeping.{IsLatestPast, AreLatestPast, IsOverwritten, IsLiftable, IsLifted, IsClock, IsCovered, AreEnough, Overwrites, TellsNothing}
+use Rattle.tcc_order.specs.private.ByKey.{AreReadingsFrom, AreReadingRows, IsBeside, AddsReadings, IsTop, AreAlike, IsLikeBefore, reader_in, key_index_in}
 use Rattle.tcc_order.proofs.Readings.{key_place}
-use Rattle.tcc_order.proofs.Needing.{same_session}
+use Rattle.tcc_order.proofs.Needing.{IsUpTo, same_session, clock_reaches, passed_enough}
 
 -- ---- how they come together
 pub added_none : (sources readers : List ℕ) (key_index : ℕ) (rows : List (List (ℕ × ℕ))) → AddsReadings sources readers key_index 0 rows rows
@@ -417,3 +417,91 @@ module _ (h : History) (numbered : IsBySession h.entries) (owners : List ℕ) (k
                       meant = reached;
                     } in
                     by_top b one writer apart (omega (arith, low, (tops k l).greatest j above less)) (which b (slice_index top k))
+
+-- ---- a transaction whose readers are like those of the one before it
+pub like_before : (owners : List ℕ) (table : List (List ℕ)) (rows : List (List (ℕ × ℕ))) (a before : ℕ) → 0 < before
+    → (before ≡ 0) ⊎ ((before ≡ a - 1) × (slice_index owners before ≡ slice_index owners a)) → AreAlike table (row_of rows a) (row_of rows before)
+    → IsLikeBefore owners table rows a
+like_before owners table rows a before some (inl none) alike = absurd (omega arith)
+like_before owners table rows a before some (inr w) alike = record {
+  more = omega (arith, w.0);
+  same = subst (λ (z : ℕ). slice_index owners z ≡ slice_index owners a) w.0 w.1;
+  alike = subst (λ (z : ℕ). AreAlike table (row_of rows a) (row_of rows z)) w.0 alike;
+}
+
+module _ (h : History) (numbered : IsBySession h.entries) (owners : List ℕ) (known_owners : AreOwners h owners) (from a : ℕ) (low : a < count h)
+    (table : List (List ℕ)) (clocks : AreClocks h from table) (rows : List (List (ℕ × ℕ))) (all : AreReadingRows h rows)
+    (like : IsLikeBefore owners table rows a) (kept : List (List ℕ)) (are : AreEnough h (Overwrites h) (IsUpTo h from a) kept) where
+  less_one : a - 1 < a
+  less_one = omega (arith, like.more)
+
+  prior_low : a - 1 < count h
+  prior_low = omega (arith, low)
+
+  leads : IsReached h (a - 1) a
+  leads =
+      let own : owner h (a - 1) ≡ owner h a
+      = sym (known_owners.each (a - 1) (omega (arith, like.more)) prior_low) ∙ (like.same ∙ known_owners.each a (omega (arith, like.more)) low) in
+      let w = pair_walk h (a - 1) a (inl (same_session h numbered (a - 1) a (omega (arith, like.more)) less_one low own)) in
+      (w.0, w.1)
+
+  climb : (e : ℕ) → (e ≡ a - 1) ⊎ IsReached h e (a - 1) → IsReached h e a
+  climb e (inl same) = subst (λ (z : ℕ). IsReached h z a) (sym same) leads
+  climb e (inr reached) = reached_append h e (a - 1) a reached leads
+
+  -- what is covered there is covered here
+  handed_on : (b : ℕ) → IsCovered h kept (a - 1) b → IsCovered h kept a b
+  handed_on b (d, way, inl (e, there, up_to)) = (d, way, inl (e, there, inr (climb e up_to)))
+  handed_on b (d, way, inr reached) = (d, way, inr (reached_append h d (a - 1) a reached leads))
+
+  -- a reader of the key there with the same row
+  other_reader : (c : ℕ) (x : List ℕ) → IsReadsPair h a c x → (e : ℕ) × IsReadsPair h (a - 1) e x × (row_of table c ≡ row_of table e)
+  other_reader c x pair = go (back h a (row_of rows a) (all.each a low) c x pair)
+    where
+      go : IsReadBefore h (row_of rows a) (length (row_of rows a)) c x → (e : ℕ) × IsReadsPair h (a - 1) e x × (row_of table c ≡ row_of table e)
+      go (j, l, reader, key) =
+          let w = like.alike j l in
+          let name : key_at h (key_index_in (row_of rows (a - 1)) j) ≡ x = ap (λ p. key_at h p) (sym w.1) ∙ key in (
+            reader_in (row_of rows (a - 1)) j,
+            subst (λ (y : List ℕ). IsReadsPair h (a - 1) (reader_in (row_of rows (a - 1)) j) y) name
+                (reads h (a - 1) (row_of rows (a - 1)) (all.each (a - 1) prior_low) j w.0).1,
+            ap (λ z. row_of table z) (sym reader) ∙ w.2,
+          )
+
+  alike_covers : (b : ℕ) → Overwrites h a b → 0 < b → from ≤ owner h b → owner h b < from + WIDE → IsCovered h kept a b
+  alike_covers b (small, below, (c, x, pair, writer, apart, reached)) some high less = by (owner h b - from) (omega (arith, high, less)) (omega (arith, high))
+    where
+      by : (k : ℕ) → k < WIDE → owner h b ≡ from + k → IsCovered h kept a b
+      by k l mine = go (cases_eq b (a - 1))
+        where
+          again : (e : ℕ) → IsReadsPair h (a - 1) e x → row_of table c ≡ row_of table e → IsReached h b e
+          again e reading same =
+              let top : b ≤ slice_index (row_of table c) k
+              = ((clocks.each c pair.1 pair.1).each k l).greatest b record { committed = some; below = below; owned = mine; meant = reached } in
+              let up : b ≤ slice_index (row_of table e) k = subst (λ (r : List ℕ). b ≤ slice_index r k) same top in
+              clock_reaches h numbered e (from + k) (slice_index (row_of table e) k) b ((clocks.each e reading.1 reading.1).each k l) some below mine up
+
+          go : (b ≡ a - 1) ⊎ (b ≢ a - 1) → IsCovered h kept a b
+          go (inl same) = (b, inl refl, inr (subst (λ (z : ℕ). IsReached h z a) (sym same) leads))
+          go (inr other) =
+              let w = other_reader c x pair in
+              handed_on b (are (a - 1) b (prior_low, below, (w.0, x, w.1, writer, other, again w.0 w.1 w.2)) some (inr (less, less_one)))
+
+  -- nothing more is kept of it
+  pub alike_enough : AreEnough h (Overwrites h) (IsUpTo h from (a + 1)) kept
+  alike_enough d b over some meant = go meant (cases_eq d a) (cases_lt (owner h b) from)
+    where
+      go : IsUpTo h from (a + 1) d b → (d ≡ a) ⊎ (d ≢ a) → (owner h b < from) ⊎ (from ≤ owner h b) → IsCovered h kept d b
+      go m kind (inl early) = are d b over some (inl early)
+      go (inl early) kind (inr high) = are d b over some (inl early)
+      go (inr w) (inl at) (inr high) =
+          subst (λ (z : ℕ). IsCovered h kept z b) (sym at) (alike_covers b (subst (λ (z : ℕ). Overwrites h z b) at over) some high w.0)
+      go (inr w) (inr other) (inr high) = are d b over some (inr (w.0, omega (arith, w.1, other)))
+
+-- a transaction that is passed over
+pub none_more : (h : History) → IsBySession h.entries → (owners : List ℕ) → AreOwners h owners → (from a : ℕ) → a < count h → (table : List (List ℕ))
+    → AreClocks h from table → (rows : List (List (ℕ × ℕ))) → AreReadingRows h rows → TellsNothing h table a ⊎ IsLikeBefore owners table rows a
+    → (kept : List (List ℕ)) → AreEnough h (Overwrites h) (IsUpTo h from a) kept → AreEnough h (Overwrites h) (IsUpTo h from (a + 1)) kept
+none_more h numbered owners known from a low table clocks rows all (inl nothing) kept are = passed_enough h numbered from a low table clocks nothing kept are
+none_more h numbered owners known from a low table clocks rows all (inr like) kept are =
+    alike_enough h numbered owners known from a low table clocks rows all like kept are

@@ -101,15 +101,17 @@ module _ (h : History) (numbered : IsBySession h.entries) (kept : List (List ℕ
   reached_first a b ([], w) = absurd (omega (arith, w.0))
   reached_first a b (s ∷ steps, w) = walk_first a b s steps w.1
 
-  covered_first : (a b : ℕ) → a < count h → ((e d : ℕ) → Contains (row_of kept e) d → d < count h) → IsCovered h kept a b → Before order b a
+  covered_first : (a b : ℕ) → a < count h → ((e d : ℕ) → Contains (row_of kept e) d → (e < count h) × (d < count h)) → IsCovered h kept a b → Before order b a
   covered_first a b low inside (d, way, rest) = by way
     where
-      into : (e : ℕ) → e < count h → Contains (row_of kept e) d → Before order d e
-      into e under there = is.ordered d e (holds_there h kept d e (inside e d there) under (Contains-append_right (parents h e) (row_of kept e) d there))
+      into : (e : ℕ) → Contains (row_of kept e) d → Before order d e
+      into e there =
+          let within = inside e d there in
+          is.ordered d e (holds_there h kept d e within.1 within.0 (Contains-append_right (parents h e) (row_of kept e) d there))
 
-      up : (e : ℕ) → Contains (row_of kept e) d → (e ≡ a) ⊎ IsSessionPair h e a → Before order d a
-      up e there (inl same) = subst (λ (z : ℕ). Before order d z) same (into e (omega (arith, low, same)) there)
-      up e there (inr pair) = before_join (count h) order d e a is.numbering (into e (session_ends h e a pair).0 there) (pairs_first e a (inl pair))
+      up : (e : ℕ) → Contains (row_of kept e) d → (e ≡ a) ⊎ IsReached h e a → Before order d a
+      up e there (inl same) = subst (λ (z : ℕ). Before order d z) same (into e there)
+      up e there (inr reached) = before_join (count h) order d e a is.numbering (into e there) (reached_first e a reached)
 
       last : IsKeptUpTo h kept a d ⊎ IsReached h d a → Before order d a
       last (inl (e, there, up_to)) = up e there up_to
@@ -135,7 +137,7 @@ module _ (j : Judged) (numbered : IsBySession j.history.entries) (kept : List (L
           let some : 0 < a = omega (arith, init, w.2.4) in
           pairs_first j.history numbered kept order is b a (inl (rw init (session_init j.history a some w.0)))
       go b a w (inr other) =
-          covered_first j.history numbered kept order is a b w.0 (λ e d there. (links.derived e d there).1) (links.enough a b w (omega arith) tt)
+          covered_first j.history numbered kept order is a b w.0 (λ e d there. let w = links.derived e d there in (w.0, w.1)) (links.enough a b w (omega arith) tt)
 
   order_of : (order : List ℕ) → IsCommitOrder j order → IsOrderOf (holds j.history kept) (count j.history) order
   order_of order is = record {

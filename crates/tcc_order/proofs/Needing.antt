@@ -207,15 +207,12 @@ module _ (h : History) (numbered : IsBySession h.entries) (from a : ℕ) (low : 
                 → (slice_index before k ≡ 0) ⊎ IsOneOf h (IsKeptEarlier h kept a (owner h a)) (from + k) (slice_index before k)
                 → IsCovered h (set kept a new) a b
             by_run up (inl none) = absurd (omega (arith, up, none, some))
-            by_run up (inr one) = (
-              slice_index before k,
-              after_b (slice_index before k) up one.below one.owned (cases_eq b (slice_index before k)),
-              inl (
-                one.meant.0,
-                wider one.meant.0 (slice_index before k) one.meant.4,
-                inr (same_session h numbered one.meant.0 a one.meant.1 one.meant.2 low one.meant.3),
-              ),
-            )
+            by_run up (inr one) =
+                let w = pair_walk h one.meant.0 a (inl (same_session h numbered one.meant.0 a one.meant.1 one.meant.2 low one.meant.3)) in (
+                  slice_index before k,
+                  after_b (slice_index before k) up one.below one.owned (cases_eq b (slice_index before k)),
+                  inl (one.meant.0, wider one.meant.0 (slice_index before k) one.meant.4, inr (w.0, w.1)),
+                )
 
             past_clock : slice_index clock k < b → (slice_index need k ≤ max (slice_index clock k) (slice_index before k)) ⊎ Contains new (slice_index need k)
                 → IsCovered h (set kept a new) a b

@@ -1,7 +1,7 @@
 //! The links at `Causal` that are kept: of each transaction and each session the last one that has to stand before it, where
-//! it doesn't reach it. One that an earlier transaction of the same session has too is kept there alone. For N transactions of S
-//! sessions, R reads, P pairs of a source and a key that is read from it, and W writers of a key that takes
-//! O(S (N + R + P log W)).
+//! it doesn't reach it. One that an earlier transaction of the same session has too is kept there alone; and where the readers of
+//! both are alike, the later one isn't looked at. For N transactions of S sessions, R reads, P pairs of a source and a key that is
+//! read from it, and W writers of a key that takes O(S (N + R + P log W)).
 ghost use Rattle.std.specs.Prelude.{◌≡◌, ◌≢◌, ◌<◌, ◌≤◌, ◌+◌, ◌-◌, ◌⊎◌, ◌↔◌, ℕ, length, slice_index, All, Contains, IfOk, OnOk};
 ghost use Rattle.tcc_reads.specs.History.{IsBySession, count, owner};
 ghost use Rattle.tcc_graph.specs.Relations.{IsReadsPair};
@@ -13,7 +13,7 @@ ghost use Rattle.tcc_graph.specs.Tables.{row_of};
 ghost use Rattle.tcc_graph.specs.Orders.{IsNumbering};
 ghost use Rattle.tcc_clocks.specs.Parents.{ArePrevious};
 ghost use Rattle.tcc_order.specs.private.Keeping.{AreOrdered, CanLift, IsLastUpTo, IsLastBut, AreLatestPast, TellsNothing, KeepsNews, IsBegun};
-ghost use Rattle.tcc_order.specs.private.ByKey.{AreReadingsFrom, AreReadingRows, IsTop, key_index_in, reader_in};
+ghost use Rattle.tcc_order.specs.private.ByKey.{AreReadingsFrom, AreReadingRows, IsTop, AreAlike, IsLikeBefore, key_index_in, reader_in};
 ghost use Rattle.tcc_clocks.specs.Spans.{AreSpans, AreBounds};
 ghost use Rattle.tcc_clocks.specs.declared.latest.TheConstants.{WIDE};
 ghost use Rattle.std.specs.List.Sorted.{IsNonDecreasing, IsPartitionPoint};
@@ -242,6 +242,7 @@ fn has_news(graph: &LargeGraph, table: &SharedRows, a: u32) -> bool
 /// The number before `c`, if it is of the same session, or else 0.
 pub(crate) fn before_in_session(owners: &[u32], c: u32) -> u32
     requires { c < length owners.now }
+    ensures low { result ≤ c }
     ensures own { (result ≡ 0) ⊎ ((result ≡ c - 1) × (slice_index owners.now result ≡ slice_index owners.now c)) }
     ensures first { result ≡ 0 → (c ≡ 0) ⊎ ((c ≡ 1) ⊎ (slice_index owners.now (c - 1) ≢ slice_index owners.now c)) }
 {
@@ -262,6 +263,70 @@ fn begin_session(run: &mut [u32], owners: &[u32], a: u32)
         return;
     }
     run.fill(0);
+}
+
+/// Whether these are readers of the same keys, and each known to have the row of the other at its index.
+fn are_alike(table: &SharedRows, readings: &[(u32, u32)], others: &[(u32, u32)]) -> bool
+    requires readers { All (λ reading. reading.0 < length table.now) readings.now }
+    requires others { All (λ reading. reading.0 < length table.now) others.now }
+    ensures { result ≡ true → AreAlike table.now readings.now others.now }
+{
+    if readings.len() != others.len() {
+        return false;
+    }
+    for index in 0..readings.len() {
+        if readings[index].1 != others[index].1 {
+            return false;
+        }
+        if !table.are_same(readings[index].0, others[index].0) {
+            return false;
+        }
+    }
+    true
+}
+
+/// Whether the readers of `a` are like those of the transaction before it in its session.
+fn is_like_before(
+    graph: &LargeGraph,
+    owners: &[u32],
+    table: &SharedRows,
+    readings: &[Row<(u32, u32)>],
+    a: u32,
+) -> bool
+    requires owners { AreOwners graph.now owners.now }
+    requires long { length table.now ≡ count graph.now }
+    requires readings { AreReadingRows graph.now readings.now }
+    requires below { a < count graph.now }
+    ensures { result ≡ true → IsLikeBefore owners.now table.now readings.now a }
+{
+    let before = before_in_session(owners, a);
+    if before == 0 {
+        return false;
+    }
+    let from_a = readings[a as usize].as_slice();
+    let from_before = readings[before as usize].as_slice();
+    are_alike(table, from_a, from_before)
+}
+
+/// Whether more may have to stand before `a` than what its clock holds, and than what has to stand before the transaction before
+/// it in its session.
+fn has_more(
+    graph: &LargeGraph,
+    owners: &[u32],
+    table: &SharedRows,
+    readings: &[Row<(u32, u32)>],
+    a: u32,
+) -> bool
+    requires owners { AreOwners graph.now owners.now }
+    requires long { length table.now ≡ count graph.now }
+    requires readings { AreReadingRows graph.now readings.now }
+    requires below { a < count graph.now }
+    ensures { result ≡ false → TellsNothing graph.now table.now a ⊎ IsLikeBefore owners.now table.now readings.now a }
+{
+    if is_like_before(graph, owners, table, readings, a) {
+        return false;
+    }
+    has_news(graph, table, a)
 }
 
 /// Keeps the numbers that are greater than those of the clock and those of the run: what the run holds is kept already, into an
@@ -310,7 +375,7 @@ fn keep_block(
     find_spans(&mut spans, graph, bounds)?;
     for a in 0..graph.count() {
         begin_session(&mut run, owners, a);
-        if has_news(graph, table, a) {
+        if has_more(graph, owners, table, readings, a) {
             let from_a = readings[a as usize].as_slice();
             needed(
                 &mut need, graph, owners, from, bounds, &spans, table, from_a, a,

@@ -1,5 +1,5 @@
 -- Who reads from each transaction, those of one key together; and what their clocks hold.
-use Rattle.std.specs.Prelude.{ℕ, ◌<◌, ◌≤◌, ◌≡◌, ◌⊎◌, ◌↔◌, max, List, length, slice_index, slice_index_or, All, Contains}
+use Rattle.std.specs.Prelude.{ℕ, ◌<◌, ◌≤◌, ◌-◌, ◌≡◌, ◌⊎◌, ◌↔◌, max, List, length, slice_index, slice_index_or, All, Contains}
 use Rattle.tcc_reads.specs.History.{History, count}
 use Rattle.tcc_graph.specs.Relations.{IsReadsPair}
 use Rattle.tcc_graph.specs.Keys.{keys, key_at}
@@ -36,3 +36,16 @@ key_index_in readings k = (slice_index_or readings k (0, 0)).1
 pub record IsTop (table : List (List ℕ)) (readings : List (ℕ × ℕ)) (start : ℕ) (end : ℕ) (known : List ℕ) (k : ℕ) (top : ℕ) : Type 0 where
   pub attained : (top ≡ 0) ⊎ ((j : ℕ) × (start ≤ j) × (j < end) × (top ≡ slice_index (row_of table (reader_in readings j)) k))
   pub greatest : (j : ℕ) → start ≤ j → j < end → slice_index (row_of table (reader_in readings j)) k ≤ max top (slice_index known k)
+
+-- at each index stand the same key and readers of one row
+abbrev pub AreAlike : List (List ℕ) → List (ℕ × ℕ) → List (ℕ × ℕ) → Type 0
+AreAlike table readings others =
+    (k : ℕ) → k < length readings
+    → (k < length others) × (key_index_in readings k ≡ key_index_in others k)
+    × (row_of table (reader_in readings k) ≡ row_of table (reader_in others k))
+
+-- so of a and the transaction before it in its session
+pub record IsLikeBefore (owners : List ℕ) (table : List (List ℕ)) (rows : List (List (ℕ × ℕ))) (a : ℕ) : Type 0 where
+  pub more : 1 < a
+  pub same : slice_index owners (a - 1) ≡ slice_index owners a
+  pub alike : AreAlike table (row_of rows a) (row_of rows (a - 1))

@@ -43,9 +43,9 @@ abbrev pub lifted_by : List ℕ → ℕ → List ℕ → ℕ → ℕ → ℕ →
 lifted_by owners from clock a b k latest =
     if (nat_lt 0 b && not (b == a)) && ((slice_index owners b == from + k) && nat_le b (slice_index clock k)) then max b latest else latest
 
--- a link from d is kept into a, or into an earlier transaction of its session
+-- a link from d is kept into a, or into what reaches it
 abbrev pub IsKeptUpTo : History → List (List ℕ) → ℕ → ℕ → Type 0
-IsKeptUpTo h kept a d = (e : ℕ) × Contains (row_of kept e) d × ((e ≡ a) ⊎ IsSessionPair h e a)
+IsKeptUpTo h kept a d = (e : ℕ) × Contains (row_of kept e) d × ((e ≡ a) ⊎ IsReached h e a)
 
 -- b stands before a by what is kept: a later one of its session, or itself, is kept so or reaches a
 abbrev pub IsCovered : History → List (List ℕ) → ℕ → ℕ → Type 0

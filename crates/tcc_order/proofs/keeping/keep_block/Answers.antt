@@ -6,10 +6,11 @@ use Rattle.tcc_graph.specs.Tables.{row_of}
 use Rattle.tcc_clocks.specs.Clocks.{IsBefore, AreLatestOf}
 use Rattle.tcc_clocks.specs.declared.latest.TheConstants.{WIDE}
 use Rattle.tcc_order.specs.private.Keeping.{AreLatestPast, AreRuns, IsOverwritten, KeepsNews}
-use Rattle.tcc_order.proofs.Needing.{IsUpTo, kept_derived, kept_enough, passed_enough, runs_begun, runs_kept, runs_passed}
+use Rattle.tcc_order.proofs.Needing.{IsUpTo, kept_derived, kept_enough, runs_begun, runs_kept, runs_passed}
+use Rattle.tcc_order.proofs.ByKey.{none_more}
 use Rattle.tcc_clocks.proofs.SpanLemmas.{owners_rise}
 use Rattle.tcc_order.proofs.keeping.keep_block.Goals as goal
-use Rattle.tcc_order.proofs.keeping.keep_block.Goals.{then-has_news+in_ok-keep, else-has_news}
+use Rattle.tcc_order.proofs.keeping.keep_block.Goals.{then-has_more+in_ok-keep, else-has_more}
 
 pub loop-a-init : goal.loop-a-init
 loop-a-init c =
@@ -64,8 +65,8 @@ loop-a-preserved c =
     let wide : length run ≡ WIDE = c.begin_session.ensures.same ∙ inv.1 in
     let runs : AreRuns h kept from a (owner h a) run
     = runs_begun h numbered kept from a c.args.owners.now c.requires.owners low c.loop-a.run run wide inv.5 c.begin_session.ensures.begun in
-    elim c.if-has_news.branch [
-      | then-has_news+in_ok-keep w ↦ (
+    elim c.if-has_more.branch [
+      | then-has_more+in_ok-keep w ↦ (
           let need = w.needed.new.need in
           let new = w.keep.new.kept in
           let after = w.keep.new.run in
@@ -82,12 +83,13 @@ loop-a-preserved c =
             runs_kept h numbered from a low kept all new need clock run after needs reaches keeps runs,
           )
           )
-      | else-has_news w ↦ rw (w.need-is, w.run-is, w.kept-is) (
+      | else-has_more w ↦ rw (w.need-is, w.run-is, w.kept-is) (
         inv.0,
         wide,
         inv.2,
         inv.3,
-        passed_enough h numbered from a low c.args.table.now c.requires.clocks (c.has_news.ensures w.if-has_news.false) kept inv.4,
+        none_more h numbered c.args.owners.now c.requires.owners from a low c.args.table.now c.requires.clocks c.args.readings.now c.requires.readings
+            (c.has_more.ensures w.if-has_more.false) kept inv.4,
         runs_passed h numbered kept from a run runs,
       )
     ]
