@@ -27,6 +27,7 @@ fn run_shown<W: Write>(
     slice: Option<Telling<'_, Apart>>,
     out: &mut W,
 ) -> u8 {
+    let mut certificate: Option<Telling<'_, Apart>> = None;
     let mut slice = slice;
     let mut notes = rt.stderr();
     let is_shown = is_waited_for(rt, input.stream());
@@ -41,6 +42,7 @@ fn run_shown<W: Write>(
             rt.alloc(),
             input,
             out,
+            &mut certificate,
             &mut slice,
             &mut notes,
             options,

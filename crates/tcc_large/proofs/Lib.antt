@@ -6,7 +6,11 @@
 -- Reached  what a search has reached by pairs, one more, and all of it
 -- ReasonLemmas derived links between two transactions, by what was looked at so far
 -- Retraced going back over what holds transactions back, and the links along it
+-- Needing  what a cycle needs, one more; and what is needed as a whole
+-- Retold   lists in other numbers, one item more
 pub mod Judged
+pub mod Needing
+pub mod Retold
 pub mod Carried
 pub mod Recorded
 pub mod Left

@@ -1,19 +1,16 @@
 -- What a slice has.
-use Rattle.std.specs.Prelude.{ℕ, ◌≡◌, ◌<◌, []}
+use Rattle.std.specs.Prelude.{ℕ, ◌≡◌, ◌<◌, List, [], map}
 use Rattle.tcc_txn.specs.Snapshots.{Sessions}
 use Rattle.tcc_reads.specs.Faults.{read_faults}
 use Rattle.tcc_reads.specs.History.{History, count}
 use Rattle.tcc_reads.specs.Sources.{history}
 use Rattle.tcc_graph.specs.Links.{IsLink, link_cost}
-use Rattle.tcc_graph.specs.Routes.{HasCycle}
 use Rattle.tcc_graph.specs.declared.level.Level.{Level}
 use Rattle.tcc_graph.specs.declared.link.Link.{Link}
 use Rattle.tcc_graph.specs.Renumbered.{link_by}
 use Rattle.tcc_graph.specs.Levels.{judged}
-
--- its reads are resolved, and there is a cycle at the level
-abbrev pub IsAnomalous : Level → Sessions → Type 0
-IsAnomalous level s = (read_faults s ≡ []) × HasCycle (judged (history s) level)
+use Rattle.tcc_large.specs.Cycles.{AreCycle}
+use Rattle.tcc_large.specs.Needs.{IsNothingSpare}
 
 -- by a map of numbers, which rises, each transaction of the first history has one in the second, and at each level each link of the first
 -- is a link of the second, of the same cost
@@ -24,6 +21,13 @@ pub record IsCarried (f : ℕ → ℕ) (small : History) (large : History) : Typ
   pub links : (level : Level) (l : Link) → IsLink (judged small level) l
       → IsLink (judged large level) (link_by f l) × (link_cost (link_by f l) ≡ link_cost l)
 
--- a small snapshot in which there is a cycle, and each link of which is one of the whole
-abbrev pub IsSliceOf : Level → History → Sessions → Type 0
-IsSliceOf level whole s = IsAnomalous level s × ((f : ℕ → ℕ) × IsCarried f (history s) whole)
+-- the slice of a whole by the links of a cycle: a snapshot whose reads are resolved, and each link of which is, by a map of numbers,
+-- one of the whole; by that map a cycle of it at the level is these links, and it has nothing that this cycle doesn't need
+pub record IsSliceOf (level : Level) (whole : History) (links : List Link) (s : Sessions) : Type 0 where
+  pub resolved : read_faults s ≡ []
+  pub number : ℕ → ℕ
+  pub carried : IsCarried number (history s) whole
+  pub own : List Link
+  pub cycle : AreCycle (judged (history s) level) own
+  pub same : map (link_by number) own ≡ links
+  pub needed : IsNothingSpare own s

@@ -8,7 +8,7 @@ ghost use Rattle.tcc_large.specs.private.Carrying.{carry, Fits, Keeps, KeepsRead
 use tcc_graph::{LargeGraph, Level, Link};
 
 /// The number that one has in the large history; 0 where it has none.
-fn carried(numbers: &[u32], number: u32) -> u32
+pub(crate) fn carried(numbers: &[u32], number: u32) -> u32
     ensures { result ≡ carry numbers.now number }
 {
     match numbers.get(number as usize) {

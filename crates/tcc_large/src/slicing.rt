@@ -10,7 +10,9 @@ use crate::cells::Cells;
 use crate::cutting::Whole;
 use crate::judging::is_cycle;
 use crate::leaving::is_cut;
+use crate::needed::is_nothing_spare;
 use crate::needs::Needs;
+use crate::retelling::are_told;
 use std::alloc::Global;
 use tcc_graph::{Graph, LargeGraph, Level, Link};
 use tcc_reads::{ResolveFault, resolve};
@@ -45,8 +47,8 @@ fn graph_of(alloc: Global, snapshot: &Snapshot) -> Result<Option<Graph>, NoMemor
     }
 }
 
-/// Whether the snapshot's reads are resolved, each of its links is one of the whole, and these links of the whole are a cycle
-/// in it.
+/// Whether the snapshot's reads are resolved, each of its links is one of the whole, these links of the whole are a cycle in it,
+/// and it has nothing that they don't need.
 fn is_slice(
     alloc: Global,
     snapshot: &Snapshot,
@@ -55,20 +57,26 @@ fn is_slice(
     numbers: &[u32],
     links: &[Link],
 ) -> Result<bool, NoMemory>
-    ensures { IfOk result (λ found. IsTrue found → IsSliceOf level whole.now snapshot.now) }
+    ensures { IfOk result (λ found. IsTrue found → IsSliceOf level whole.now links.now snapshot.now) }
 {
     let Some(graph) = graph_of(alloc, snapshot)? else {
         return Ok(false);
     };
-    let found = moved(alloc, &in_cut(alloc, whole.count(), numbers)?, links)?;
-    Ok(is_cycle(graph.large(), level, &found) && is_carried(graph.large(), whole, numbers))
+    let own = moved(alloc, &in_cut(alloc, whole.count(), numbers)?, links)?;
+    let is_tight = is_nothing_spare(alloc, snapshot, &own)?;
+    Ok(
+        is_tight
+            && is_cycle(graph.large(), level, &own)
+            && are_told(numbers, &own, links)
+            && is_carried(graph.large(), whole, numbers),
+    )
 }
 
-/// The slice of a snapshot by the links of a cycle: of their transactions the operations that the links need, in the order of
-/// the whole. Its reads are resolved, it has a cycle at the level, and by a map of numbers each of its links is one of the
-/// whole, so each of its anomalies is one too, of the same cost. Each session's transactions are some of its transactions in the
-/// whole, each with some of its operations, in their order. None where it would break the limits of a snapshot, and
-/// where the graph isn't the snapshot's, or the links no cycle of it.
+/// The slice of a snapshot by the links of a cycle: of their transactions the operations that the links need, and no others, in
+/// the order of the whole. Its reads are resolved, and by a map of numbers each of its links is one of the whole, so each of its
+/// anomalies is one too, of the same cost; by this map these links are a cycle of it at the level. Each session's transactions are
+/// some of its transactions in the whole, each with some of its operations, in their order. None where it would break the limits
+/// of a snapshot, and where the graph isn't the snapshot's, or the links no cycle of it.
 pub fn slice(
     alloc: Global,
     snapshot: &LargeSnapshot,
@@ -76,7 +84,7 @@ pub fn slice(
     level: Level,
     links: &[Link],
 ) -> Result<Option<Snapshot>, NoMemory>
-    ensures links { IfOk result (λ found. IfSome found (λ slice. IsSliceOf level graph.now slice)) }
+    ensures links { IfOk result (λ found. IfSome found (λ slice. IsSliceOf level graph.now links.now slice)) }
     ensures records { IfOk result (λ found. IfSome found (λ slice. IsCutOf slice snapshot.now)) }
 {
     let needs = Needs::of(alloc, links)?;

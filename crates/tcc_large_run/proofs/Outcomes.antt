@@ -1,34 +1,109 @@
 -- What is to be said of a snapshot is what is answered for it.
-use Rattle.std.proofs.Common.{◌≡◌, ap, refl, ◌∙◌, inl, inr}
+use Rattle.std.proofs.Common.{◌≡◌, ℕ, List, Option, None, Some, Result, Ok, Err, ap, refl, sym, subst, ◌∙◌, inl, inr}
 use Rattle.tcc_txn.specs.Finished.{KeepsLimits}
 use Rattle.tcc_txn.specs.Snapshots.{Sessions}
+use Rattle.tcc_reads.specs.Faults.{read_faults}
+use Rattle.std.proofs.Common.{[]}
 use Rattle.tcc_reads.specs.History.{History}
 use Rattle.tcc_reads.specs.Sources.{history}
+use Rattle.tcc_graph.specs.Levels.{judged}
 use Rattle.tcc_graph.specs.declared.level.Level.{Level}
+use Rattle.tcc_graph.specs.declared.link.Link.{Link}
+use Rattle.tcc_answer.specs.declared.answer.Answer.{Answer}
+use Rattle.tcc_answer.specs.declared.answer.Answer.TheVariants as answer
+use Rattle.tcc_large.specs.Decisions.{HasLinks, IsDecision}
 use Rattle.tcc_large.specs.Explained.{IsLargeAnswer}
 use Rattle.tcc_large.specs.declared.answer.LargeAnswer.{LargeAnswer}
 use Rattle.tcc_large.specs.declared.decision.Decision.{Decision}
 use Rattle.tcc_large.specs.declared.decision.Decision.TheVariants as decision
+use Rattle.tcc_print.specs.Courses.{Said, faults_said}
 use Rattle.tcc_print.specs.declared.options.Options.{Options}
-use Rattle.tcc_print.specs.Courses.{faults_said}
-use Rattle.tcc_large_run.specs.LargeRuns.{IsSaidOfSnapshot, IsResolvedAs, decision_said}
-use Rattle.tcc_large_run.specs.private.Stages.{IsOutcome, IsResolved, outcome_of, outcome_said}
+use Rattle.tcc_print.specs.declared.status.Status.TheVariants.{Anomaly}
+use Rattle.tcc_large_run.specs.LargeRuns.{HasSaid, IsSaidOfSnapshot, decision_said}
+use Rattle.tcc_large_run.specs.private.Stages.{IsDecided, IsOutcome, answer_links, outcome_links, outcome_of, outcome_said}
 use Rattle.tcc_large_run.specs.declared.outcome.Outcome.{Outcome}
+use Rattle.tcc_large_run.specs.declared.outcome.Outcome.TheVariants as outcome
 
 decided : (options : Options) (h : History) (d : Decision) → outcome_said options (outcome_of options.level h d) ≡ decision_said options h d
 decided options h (decision.Order order) = refl
 decided options h (decision.Least links) = refl
 decided options h (decision.Cycle links) = refl
 
-resolved_as : (options : Options) (s : Sessions) (o : Outcome) → IsResolved options.level s o → IsResolvedAs options s (outcome_said options o)
-resolved_as options s o (inl (keeps, a, is, same)) = inl (keeps, a, is, ap (outcome_said options) same)
-resolved_as options s o (inr (past, d, is, same)) = inr (past, d, is, ap (outcome_said options) same ∙ decided options (history s) d)
+-- what is said of a history that was decided
+decided_said : (options : Options) (s : Sessions) (h : History) (o : Outcome) (is : IsDecided options.level s h o)
+    → outcome_said options o ≡ decision_said options (history s) is.decided
+decided_said options s h o is =
+    ap (outcome_said options) is.outcome ∙ decided options h is.decided ∙ ap (λ (h : History). decision_said options h is.decided) is.own
+
+past_limits : (options : Options) (s : Sessions) (h : History) (o : Outcome) → IsDecided options.level s h o → IsSaidOfSnapshot options s (outcome_said options o)
+past_limits options s h o is = inl (is.resolved, inr (is.past, is.decided, is.is, decided_said options s h o is))
 
 pub said_of : (options : Options) (s : Sessions) (o : Outcome) → IsOutcome options.level s o → IsSaidOfSnapshot options s (outcome_said options o)
-said_of options s o (inl (resolved, is)) = inl (resolved, resolved_as options s o is)
-said_of options s o (inr (faulty, faults, same, all)) = inr (faulty, ap (outcome_said options) same ∙ ap (faults_said options) all)
+said_of options s (outcome.Unresolved faults) (faulty, same) = inr (faulty, ap (faults_said options) same)
+said_of options s (outcome.Small a) (resolved, keeps, is) = inl (resolved, inl (keeps, a, is, refl))
+said_of options s (outcome.Large h a) is = past_limits options s h (outcome.Large h a) is
+said_of options s (outcome.Cycle h labels links) is = past_limits options s h (outcome.Cycle h labels links) is
 
 -- past the small limits what is answered for a large snapshot is what is to be said of it
+decided_outcome : (level : Level) (s : Sessions) (h : History) (d : Decision) → read_faults s ≡ [] → (KeepsLimits s → ⊥) → h ≡ history s
+    → IsDecision (judged (history s) level) d → IsOutcome level s (outcome_of level h d)
+decided_outcome level s h (decision.Order order) none past same is =
+    record { resolved = none; past = past; own = same; decided = decision.Order order; is = is; outcome = refl }
+decided_outcome level s h (decision.Least links) none past same is =
+    record { resolved = none; past = past; own = same; decided = decision.Least links; is = is; outcome = refl }
+decided_outcome level s h (decision.Cycle links) none past same is =
+    record { resolved = none; past = past; own = same; decided = decision.Cycle links; is = is; outcome = refl }
+
 pub large_outcome : (level : Level) (s : Sessions) (a : LargeAnswer) (o : Outcome) → (KeepsLimits s → ⊥) → IsLargeAnswer s level a
     → o ≡ outcome_of level a.graph a.decision → IsOutcome level s o
-large_outcome level s a o past (none, same, is) said = inl (none, inr (past, a.decision, is, said ∙ ap (λ h. outcome_of level h a.decision) same))
+large_outcome level s a o past (none, same, is) said =
+    subst (λ (o : Outcome). IsOutcome level s o) (sym said) (decided_outcome level s a.graph a.decision none past same is)
+
+-- ---- the links of what was said
+
+nothing : {A : Type 0} (x : A) → None ≡ Some x → ⊥
+nothing x e = cc
+
+inside : {A : Type 0} (x y : A) → Some x ≡ Some y → y ≡ x
+inside x y e = cc
+
+decided_links : (level : Level) (h : History) (d : Decision) (links : List Link) → outcome_links (outcome_of level h d) ≡ Some links → HasLinks d links
+decided_links level h (decision.Order order) links e = nothing links e
+decided_links level h (decision.Least found) links e = inside found.items links e
+decided_links level h (decision.Cycle found) links e = inside found.items links e
+
+past_links : (options : Options) (s : Sessions) (h : History) (o : Outcome) (links : List Link) → IsDecided options.level s h o → outcome_links o ≡ Some links
+    → HasSaid options (history s) (outcome_said options o) links
+past_links options s h o links is e =
+    inr (
+      is.decided,
+      decided_said options s h o is,
+      decided_links options.level h is.decided links (sym (ap outcome_links is.outcome) ∙ e),
+    )
+
+small_links : (options : Options) (h : History) (a : Answer) (links : List Link) → answer_links a ≡ Some links
+    → HasSaid options h (outcome_said options (outcome.Small a)) links
+small_links options h (answer.Commit c) links e = absurd (nothing links e)
+small_links options h (answer.Anomaly a) links e = inl (a, refl, inside a.links links e)
+
+pub has_said : (options : Options) (s : Sessions) (o : Outcome) (links : List Link) → IsOutcome options.level s o → outcome_links o ≡ Some links
+    → HasSaid options (history s) (outcome_said options o) links
+has_said options s (outcome.Unresolved faults) links is e = absurd (nothing links e)
+has_said options s (outcome.Small a) links is e = small_links options (history s) a links e
+has_said options s (outcome.Large h a) links is e = past_links options s h (outcome.Large h a) links is e
+has_said options s (outcome.Cycle h labels found) links is e = past_links options s h (outcome.Cycle h labels found) links is e
+
+-- what has links is an anomaly
+decided_anomalous : (options : Options) (h : History) (d : Decision) (links : List Link) → HasLinks d links → (decision_said options h d).status ≡ Anomaly
+decided_anomalous options h (decision.Order order) links has = absurd has
+decided_anomalous options h (decision.Least found) links has = refl
+decided_anomalous options h (decision.Cycle found) links has = refl
+
+pub said_anomalous : (options : Options) (h : History) (said : Said) (links : List Link) → HasSaid options h said links → said.status ≡ Anomaly
+said_anomalous options h said links (inl (a, same, is)) = ap (λ (one : Said). one.status) same
+said_anomalous options h said links (inr (d, same, has)) = ap (λ (one : Said). one.status) same ∙ decided_anomalous options h d links has
+
+-- ---- the graph of what was said
+
+pub own_graph : (level : Level) (s : Sessions) (o : Outcome) (h : History) (a : Answer) → o ≡ outcome.Large h a → IsOutcome level s o → h ≡ history s
+own_graph level s o h a same is = (subst (λ (o : Outcome). IsOutcome level s o) same is).own

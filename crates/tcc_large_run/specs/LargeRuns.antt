@@ -1,5 +1,5 @@
 -- What is answered for the records of an input within the large limits, and what a run of explain --large does with their bytes.
-use Rattle.std.specs.Prelude.{ℕ, ◌≡◌, ◌≢◌, ◌⊎◌, List, [], length, take, Option, None}
+use Rattle.std.specs.Prelude.{ℕ, ◌≡◌, ◌≢◌, ◌⊎◌, List, [], length, take, unwrap_or, Option, None, Some}
 use Rattle.std.specs.Io.KnownBytes.{Appends}
 use Rattle.tcc_rows.specs.Answers as rows
 use Rattle.tcc_txn.specs.Finished.{KeepsLimits}
@@ -7,34 +7,37 @@ use Rattle.tcc_rows.specs.Items.{finished_in}
 use Rattle.tcc_txn.specs.Snapshots.{Sessions}
 use Rattle.tcc_txn.specs.declared.limits.Limits.TheVariants.{Large}
 use Rattle.tcc_reads.specs.Faults.{read_faults}
-use Rattle.tcc_reads.specs.History.{History}
+use Rattle.tcc_reads.specs.History.{History, count}
 use Rattle.tcc_reads.specs.Sources.{history}
 use Rattle.tcc_graph.specs.Levels.{judged}
+use Rattle.tcc_graph.specs.Links.{cost}
 use Rattle.tcc_graph.specs.declared.level.Level.{Level}
 use Rattle.tcc_graph.specs.declared.link.Link.{Link}
+use Rattle.tcc_cert.specs.LargeTexts.{large_certificate_text}
+use Rattle.tcc_cert.specs.RunsTold.{order_claim_of}
+use Rattle.tcc_cert.specs.declared.large.LargeCertificate.{LargeCertificate}
+use Rattle.tcc_cert.specs.declared.large.LargeCertificate.TheVariants as claims
+use Rattle.tcc_cert.specs.declared.large.LinksClaim.{LinksClaim}
+use Rattle.tcc_cert.specs.declared.large.Run.{Run}
 use Rattle.tcc_answer.specs.Answers.{LabelledOrder, LabelledCycle}
 use Rattle.tcc_answer.specs.Labels.{labels_of}
 use Rattle.tcc_answer.specs.declared.answer.Answer.{Answer}
 use Rattle.tcc_answer.specs.declared.answer.Answer.TheVariants as answer
 use Rattle.tcc_explain.specs.Explained.{IsAnswerOfHistory}
-use Rattle.tcc_large.specs.Decisions.{IsDecision}
+use Rattle.tcc_large.specs.Decisions.{HasLinks, IsDecision}
 use Rattle.tcc_large.specs.Cuts.{IsCutOf}
 use Rattle.tcc_large.specs.Slices.{IsSliceOf}
 use Rattle.tcc_large.specs.Texts.{records_text}
 use Rattle.tcc_large.specs.declared.decision.Decision.{Decision}
 use Rattle.tcc_large.specs.declared.decision.Decision.TheVariants as decision
-use Rattle.tcc_print.specs.Courses.{Contents, Gains, IsCourse, Said, TextFails, faults_said}
+use Rattle.tcc_print.specs.Courses.{Contents, Gains, IsCourse, Said, TextFails, answer_said, faults_said}
 use Rattle.tcc_print.specs.Large.{unproved}
 use Rattle.tcc_print.specs.Printed.{Prints, answered, device_line, memory_line}
 use Rattle.tcc_print.specs.Statuses.{answer_status, code_of}
 use Rattle.tcc_print.specs.declared.options.Options.{Options}
 use Rattle.tcc_print.specs.declared.status.Status.TheVariants.{Anomaly, Device, Memory}
 
--- ---- one answer
-
--- an answer: no certificate of it is written
-abbrev pub bare_said : Options → Answer → Said
-bare_said options a = record { text = answered options.json a; status = answer_status options.required a; certificate = None }
+-- ---- one answer past the small limits
 
 -- an order of a history, with what its text needs: it has no clocks
 abbrev pub bare_order : Level → History → List ℕ → LabelledOrder
@@ -44,19 +47,46 @@ bare_order level h order = record { level = level; order = order; sessions = len
 abbrev pub bare_cycle : Level → History → List Link → LabelledCycle
 bare_cycle level h links = record { level = level; links = links; near = []; far = []; labels = labels_of h }
 
+-- the claim that links are a cycle, and perhaps that it is a least one
+abbrev pub links_claim : Level → History → List Link → Option (List Run) → LinksClaim
+links_claim level h links least =
+    record { level = level; transactions = count h; links = links; cost = cost links; least = least }
+
+-- what is claimed of a history by what is decided of it: its order, told by runs; the links of a least cycle, with which no runs
+-- are needed; or those of a cycle of which no more is known
+abbrev pub claim_of : Level → History → Decision → LargeCertificate
+claim_of level h (decision.Order order) = claims.Order (order_claim_of level h order.items)
+claim_of level h (decision.Least links) = claims.Cycle (links_claim level h links.items (Some []))
+claim_of level h (decision.Cycle links) = claims.Cycle (links_claim level h links.items None)
+
+-- an answer as it is said of a small history, with the certificate of what is claimed
+abbrev pub claimed : Options → Answer → LargeCertificate → Said
+claimed options a claim = record {
+  text = answered options.json a;
+  status = answer_status options.required a;
+  certificate = Some (large_certificate_text claim);
+}
+
 -- what is decided of a large history: an order or a least cycle, as it is said of a small one; or a cycle that isn't known to be a
 -- least one
 abbrev pub decision_said : Options → History → Decision → Said
-decision_said options h (decision.Order order) = bare_said options (answer.Commit (bare_order options.level h order.items))
-decision_said options h (decision.Least links) = bare_said options (answer.Anomaly (bare_cycle options.level h links.items))
-decision_said options h (decision.Cycle links) =
-    record { text = unproved options.json (labels_of h) links.items; status = Anomaly; certificate = None }
+decision_said options h (decision.Order order) =
+    claimed options (answer.Commit (bare_order options.level h order.items)) (claim_of options.level h (decision.Order order))
+decision_said options h (decision.Least links) =
+    claimed options (answer.Anomaly (bare_cycle options.level h links.items)) (claim_of options.level h (decision.Least links))
+decision_said options h (decision.Cycle links) = record {
+  text = unproved options.json (labels_of h) links.items;
+  status = Anomaly;
+  certificate = Some (large_certificate_text (claim_of options.level h (decision.Cycle links)));
+}
+
+-- ---- one answer
 
 -- what is said of a snapshot whose reads all have sources: within the small limits its first answer, which is what is said
 -- without --large; past them what is decided of its history
 abbrev pub IsResolvedAs : Options → Sessions → Said → Type 0
 IsResolvedAs options s said =
-    (KeepsLimits s × (a : Answer) × IsAnswerOfHistory (judged (history s) options.level) a × (said ≡ bare_said options a))
+    (KeepsLimits s × (a : Answer) × IsAnswerOfHistory (judged (history s) options.level) a × (said ≡ answer_said options a))
     ⊎ ((KeepsLimits s → ⊥) × (d : Decision) × IsDecision (judged (history s) options.level) d × (said ≡ decision_said options (history s) d))
 
 -- what is said of a snapshot; all its read faults, where there are some
@@ -64,6 +94,12 @@ abbrev pub IsSaidOfSnapshot : Options → Sessions → Said → Type 0
 IsSaidOfSnapshot options s said =
     ((read_faults s ≡ []) × IsResolvedAs options s said)
     ⊎ ((read_faults s ≢ []) × (said ≡ faults_said options (read_faults s)))
+
+-- what was said of a history is an anomaly of these links
+abbrev pub HasSaid : Options → History → Said → List Link → Type 0
+HasSaid options h said links =
+    ((a : LabelledCycle) × (said ≡ answer_said options (answer.Anomaly a)) × (links ≡ a.links))
+    ⊎ ((d : Decision) × (said ≡ decision_said options h d) × HasLinks d links)
 
 -- ---- a run
 
@@ -84,39 +120,71 @@ finished bytes = finished_in (answers_of bytes).items
 abbrev pub Finishes : List ℕ → Sessions → Type 0
 Finishes text s = ((rows.answers_of text).fault ≡ None) × (finished_in (rows.answers_of text).items ≡ s)
 
--- the text has the records of a small history, session by session, and nothing else: of a slice of the whole, which has an
--- anomaly at the level, and each link of which is a link of the whole, of the same cost; and which is the whole with
--- transactions and operations left out
-abbrev pub IsSliceText : Level → Sessions → List ℕ → Type 0
-IsSliceText level whole text =
-    (slice : Sessions) × (text ≡ records_text slice) × Finishes text slice × IsSliceOf level (history whole) slice × IsCutOf slice whole
+-- the text has the records of a small history, session by session, and nothing else: of the slice of the whole by these links,
+-- which is the whole with transactions and operations left out
+abbrev pub IsSliceText : Level → Sessions → List Link → List ℕ → Type 0
+IsSliceText level whole links text =
+    (slice : Sessions) × (text ≡ records_text slice) × Finishes text slice × IsSliceOf level (history whole) links slice × IsCutOf slice whole
 
--- where the last answer is an anomaly, the records of a slice of the whole go into the file, or nothing; else nothing
-abbrev pub IsSliced : Level → Sessions → Said → Contents → Contents → Type 0
-IsSliced level whole last file file' =
-    Gains file file' []
-    ⊎ ((last.status ≡ Anomaly) × (slice : List ℕ) × IsSliceText level whole slice × Gains file file' slice)
+-- the text is that of the slice by the links that were said last
+abbrev pub IsSliceOfLast : Options → Sessions → Said → List ℕ → Type 0
+IsSliceOfLast options whole last text =
+    (links : List Link) × HasSaid options (history whole) last links × IsSliceText options.level whole links text
+
+-- where the last answer is an anomaly, the records of its slice go into the file, or nothing; else nothing
+abbrev pub IsSliced : Options → Sessions → Said → Contents → Contents → Type 0
+IsSliced options whole last file file' =
+    Gains file file' [] ⊎ ((slice : List ℕ) × IsSliceOfLast options whole last slice × Gains file file' slice)
 
 -- ---- what goes out
 
--- the texts went out, and then the slice, if there is one: the status is that of the last
-abbrev pub AllGoesOut : Options → Sessions → Option (List ℕ) → Option (List ℕ) → Contents → Contents → List ℕ → Said → ℕ → Type 0
-AllGoesOut options whole before after file file' text last code =
-    Appends before after text × IsSliced options.level whole last file file' × (code ≡ code_of last.status)
+-- the contents of the two files that may be given, that of the certificate and that of the slice
+pub record Files : Type 0 where
+  pub certificate : Contents
+  pub slice : Contents
 
--- after the texts, of which the last is an anomaly, a write of the slice failed: a part of it, from its front, went out, and the
--- line for the device comes behind the texts; or memory was out, and the line for that comes behind them
-abbrev pub SliceFails : Options → Sessions → Option (List ℕ) → Option (List ℕ) → Contents → Contents → List ℕ → Said → ℕ → Type 0
-SliceFails options whole before after file file' text last code =
-    (last.status ≡ Anomaly) × (between : Option (List ℕ)) × Appends before between text
-    × (((slice : List ℕ) × (n : ℕ) × IsSliceText options.level whole slice × Gains file file' (take n slice)
-    × Prints between after (device_line options.json) Device code)
-    ⊎ (Gains file file' [] × Prints between after (memory_line options.json) Memory code))
+-- the whole certificate of the last answer goes into its file; nothing where it has none
+abbrev pub IsCertified : Said → Files → Files → Type 0
+IsCertified last before after = Gains before.certificate after.certificate (unwrap_or last.certificate [])
 
--- what a run does with the bytes: its texts go out one after the other, and behind them, into the file that is given for it,
--- where the last is an anomaly, the records of a slice of all that was finished; the status is that of the last
-abbrev pub IsLargeRun : Options → List ℕ → Option (List ℕ) → Option (List ℕ) → Contents → Contents → ℕ → Type 0
-IsLargeRun options bytes before after file file' code =
+-- the texts went out, and then the certificate, and the slice, if there is one: the status is that of the last
+abbrev pub AllGoesOut : Options → Sessions → Option (List ℕ) → Option (List ℕ) → Files → Files → List ℕ → Said → ℕ → Type 0
+AllGoesOut options whole before after files files' text last code =
+    Appends before after text × IsCertified last files files' × IsSliced options whole last files.slice files'.slice
+    × (code ≡ code_of last.status)
+
+-- behind what was written a write of the certificate failed: a part of it, from its front, went out, and then comes the line for
+-- the device; or, of a version 3, memory was out, and the line for that comes
+abbrev pub CertificateStops : Options → Said → Option (List ℕ) → Option (List ℕ) → Contents → Contents → ℕ → Type 0
+CertificateStops options last before after file file' code =
+    ((text : List ℕ) × (last.certificate ≡ Some text) × ((n : ℕ) × Gains file file' (take n text) × (file ≢ None))
+    × Prints before after (device_line options.json) Device code)
+    ⊎ ((claim : LargeCertificate) × (last.certificate ≡ Some (large_certificate_text claim)) × (Gains file file' [] × (file ≢ None))
+    × Prints before after (memory_line options.json) Memory code)
+
+-- so with the slice
+abbrev pub SliceStops : Options → Sessions → Said → Option (List ℕ) → Option (List ℕ) → Contents → Contents → ℕ → Type 0
+SliceStops options whole last before after file file' code =
+    ((slice : List ℕ) × (n : ℕ) × IsSliceOfLast options whole last slice × Gains file file' (take n slice)
+    × Prints before after (device_line options.json) Device code)
+    ⊎ ((last.status ≡ Anomaly) × Gains file file' [] × Prints before after (memory_line options.json) Memory code)
+
+-- after the texts the certificate of the last stopped, and its slice wasn't begun; or after the certificate the slice stopped
+abbrev pub Stops : Options → Sessions → Said → Option (List ℕ) → Option (List ℕ) → Files → Files → ℕ → Type 0
+Stops options whole last before after files files' code =
+    (CertificateStops options last before after files.certificate files'.certificate code × Gains files.slice files'.slice [])
+    ⊎ (IsCertified last files files' × SliceStops options whole last before after files.slice files'.slice code)
+
+abbrev pub FileFails : Options → Sessions → Option (List ℕ) → Option (List ℕ) → Files → Files → List ℕ → Said → ℕ → Type 0
+FileFails options whole before after files files' text last code =
+    (between : Option (List ℕ)) × Appends before between text × Stops options whole last between after files files' code
+
+-- what a run does with the bytes: its texts go out one after the other, and behind them, into the files that are given, the
+-- certificate of the last and, where it is an anomaly, the records of its slice of all that was finished; the status is that of
+-- the last
+abbrev pub IsLargeRun : Options → List ℕ → Option (List ℕ) → Option (List ℕ) → Files → Files → ℕ → Type 0
+IsLargeRun options bytes before after files files' code =
     IsCourse Large (IsSaidOfSnapshot options) options bytes
-    (λ text last. AllGoesOut options (finished bytes) before after file file' text last code
-    ⊎ (TextFails before after file file' text code ⊎ SliceFails options (finished bytes) before after file file' text last code))
+    (λ text last. AllGoesOut options (finished bytes) before after files files' text last code
+    ⊎ ((TextFails before after files.certificate files'.certificate text code × Gains files.slice files'.slice [])
+    ⊎ FileFails options (finished bytes) before after files files' text last code))

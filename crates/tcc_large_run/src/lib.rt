@@ -2,6 +2,8 @@
 //! that the runs end with. Nothing here knows of command lines or files.
 #![tactic(auto)]
 
+mod certifying;
+mod claims;
 mod outcome;
 mod running;
 mod slicing;

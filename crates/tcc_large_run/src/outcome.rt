@@ -1,14 +1,13 @@
 //! What is said of a snapshot: what is known of its history, or all its read faults.
-ghost use Rattle.std.specs.Prelude.{◌≡◌, ℕ, IfErr, IfOk, IfSome, OnOk};
+ghost use Rattle.std.specs.Prelude.{◌≡◌, IfErr, IfOk, IfSome, OnOk, Some};
 ghost use Rattle.std.specs.Io.KnownBytes.{Appends};
 ghost use Rattle.tcc_txn.specs.Finished.{KeepsLimits};
-ghost use Rattle.tcc_graph.specs.Links.{cost};
 ghost use Rattle.tcc_answer.specs.declared.answer.Answer.TheVariants as answer;
 ghost use Rattle.tcc_print.specs.Printed.{EndsIn};
-ghost use Rattle.tcc_print.specs.declared.status.Status.TheVariants as status;
 ghost use Rattle.tcc_large_run.specs.LargeRuns.{bare_cycle, bare_order};
-ghost use Rattle.tcc_large_run.specs.private.Stages.{IsOutcome, outcome_of, outcome_status, outcome_text};
+ghost use Rattle.tcc_large_run.specs.private.Stages.{IsOutcome, outcome_links, outcome_of, outcome_status, outcome_text};
 
+use crate::claims::steps_of;
 use std::alloc::Global;
 use std::io::Write;
 use std::thread::Threads;
@@ -30,11 +29,19 @@ use tcc_txn::{LargeSnapshot, NoMemory, Snapshot};
 pub(crate) enum Outcome {
     /// All its read faults.
     Unresolved(Vec<ReadFault>),
-    /// Within the small limits its first answer; past them its first commit order, as an answer without clocks, or a least cycle, as one
-    /// without distances.
-    Answered(Answer),
-    /// Past the small limits: a cycle that isn't known to be a least one, and the names of the transactions.
-    Cycle { labels: Labels, links: Vec<Link> },
+    /// Within the small limits: its first answer.
+    Small(Answer),
+    /// Past them: its graph, and its first commit order, as an answer without clocks, or a least cycle, as one without distances.
+    Large {
+        graph: LargeGraph,
+        answer: Answer,
+    },
+    /// Past them: its graph, and a cycle that isn't known to be a least one, with the names of the transactions.
+    Cycle {
+        graph: LargeGraph,
+        labels: Labels,
+        links: Vec<Link>,
+    },
 }
 
 /// The order of a large history as an answer without clocks.
@@ -50,24 +57,6 @@ fn order_answer(
     let sessions = graph.sessions().len() as u32;
     let clocks = Table::new(Vec::new(alloc));
     Ok(Answer::Commit(Commit::new(level, Numbers::new(order), sessions, clocks, labels)))
-}
-
-/// How many steps the links have together.
-fn steps_of(links: &[Link]) -> Result<u32, NoMemory>
-    ensures { IfOk result (λ steps. steps ≡ cost links.now) }
-{
-    let mut steps: u32 = 0;
-    for link in links {
-        // So many steps are those of no least cycle.
-        let Ok(cost) = u32::try_from(link.cost()) else {
-            return Err(NoMemory);
-        };
-        let Some(more) = steps.checked_add(cost) else {
-            return Err(NoMemory);
-        };
-        steps = more;
-    }
-    Ok(steps)
 }
 
 /// A least cycle of a large history as an answer without distances.
@@ -109,7 +98,7 @@ impl Outcome {
             options.workers,
             run.gate,
         ) {
-            Ok(answer) => Ok(Outcome::Answered(answer)),
+            Ok(answer) => Ok(Outcome::Small(answer)),
             Err(ExplainFault::Reads(faults)) => Ok(Outcome::Unresolved(faults)),
             Err(ExplainFault::NoMemory) => Err(NoMemory),
         }
@@ -122,14 +111,20 @@ impl Outcome {
         let LargeAnswer { graph, decision } = answer;
         match decision {
             Decision::Order(order) => {
-                Ok(Outcome::Answered(order_answer(alloc, &graph, level, order)?))
+                let answer = order_answer(alloc, &graph, level, order)?;
+                Ok(Outcome::Large { graph, answer })
             }
             Decision::Least(links) => {
-                Ok(Outcome::Answered(cycle_answer(alloc, &graph, level, links)?))
+                let answer = cycle_answer(alloc, &graph, level, links)?;
+                Ok(Outcome::Large { graph, answer })
             }
             Decision::Cycle(links) => {
                 let labels = Labels::of_large(alloc, &graph)?;
-                Ok(Outcome::Cycle { labels, links })
+                Ok(Outcome::Cycle {
+                    graph,
+                    labels,
+                    links,
+                })
             }
         }
     }
@@ -159,8 +154,9 @@ impl Outcome {
     {
         match self {
             Outcome::Unresolved(faults) => send_unresolved(alloc, faults, json, out),
-            Outcome::Answered(answer) => send_answer(alloc, answer, json, out),
-            Outcome::Cycle { labels, links } => send_unproved(alloc, labels, links, json, out),
+            Outcome::Small(answer) => send_answer(alloc, answer, json, out),
+            Outcome::Large { answer, .. } => send_answer(alloc, answer, json, out),
+            Outcome::Cycle { labels, links, .. } => send_unproved(alloc, labels, links, json, out),
         }
     }
 
@@ -177,17 +173,22 @@ impl Outcome {
     {
         match self {
             Outcome::Unresolved(_) => Status::ReadFaults,
-            Outcome::Answered(answer) => answer_status(answer, required),
+            Outcome::Small(answer) => answer_status(answer, required),
+            Outcome::Large { answer, .. } => answer_status(answer, required),
             Outcome::Cycle { .. } => Status::Anomaly,
         }
     }
 
     /// The links of the cycle, where it has one.
     pub(crate) fn links(&self) -> Option<&[Link]>
-        ensures { IfSome result (λ _. (required : ℕ) → outcome_status required self.now ≡ status.Anomaly) }
+        ensures { IfSome result (λ links. outcome_links self.now ≡ Some links.now) }
     {
         match self {
-            Outcome::Answered(Answer::Anomaly(anomaly)) => Some(anomaly.links()),
+            Outcome::Small(Answer::Anomaly(anomaly)) => Some(anomaly.links()),
+            Outcome::Large {
+                answer: Answer::Anomaly(anomaly),
+                ..
+            } => Some(anomaly.links()),
             Outcome::Cycle { links, .. } => Some(links),
             _ => None,
         }
@@ -196,7 +197,11 @@ impl Outcome {
     /// The answer, where it is one.
     pub(crate) fn into_answer(self) -> Option<Answer> {
         match self {
-            Outcome::Answered(answer) => Some(answer),
+            Outcome::Small(answer) => Some(answer),
+            Outcome::Large { graph, answer } => {
+                drop(graph);
+                Some(answer)
+            }
             _ => None,
         }
     }

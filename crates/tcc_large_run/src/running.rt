@@ -9,9 +9,10 @@ ghost use Rattle.tcc_rows.specs.Recordings.{FailsBehind, IsRecording, TakesMomen
 ghost use Rattle.tcc_rows.specs.declared.rows.Item.{Item};
 ghost use Rattle.tcc_txn.specs.declared.limits.Limits.TheVariants.{Large};
 ghost use Rattle.tcc_large_run.specs.LargeRuns.{IsLargeRun, answers_of, finished, records_of};
-ghost use Rattle.tcc_print.specs.private.Courses.{AllAnswered, EndsAnswering, EndsEarly, SaysLast};
-ghost use Rattle.tcc_large_run.specs.private.Stages.{Concludes, SendsSlice, WritesSlice, course, outcome_said};
+ghost use Rattle.tcc_print.specs.private.Courses.{AllAnswered, EndsAnswering, EndsEarly, IsStill, SaysLast};
+ghost use Rattle.tcc_large_run.specs.private.Stages.{Concludes, IsOutcome, SendsSlice, WritesFiles, WritesSlice, course, outcome_said};
 
+use crate::certifying::write_certificate;
 use crate::outcome::Outcome;
 use crate::slicing::slice_text;
 use crate::watching::{Stage, Watcher};
@@ -52,6 +53,33 @@ fn say<T: Threads + Sync, W: Write, N: Write, G: Watcher>(
     })
 }
 
+/// Says at a seal what is to be said of the snapshot, and keeps it: what was said last, if nothing was finished since. Else the run
+/// ends with this number.
+fn say_again<T: Threads + Sync, W: Write, N: Write, G: Watcher>(
+    run: &Run<T, G>,
+    snapshot: &LargeSnapshot,
+    last: Option<Last<Outcome>>,
+    out: &mut W,
+    notes: &mut N,
+) -> Result<Last<Outcome>, u8>
+    ensures { IsStill (course run.now.options.now) snapshot.now last
+        → MatchResult result (SaysLast (course run.now.options.now) snapshot.now (W.contents out.old) (W.contents out.new))
+        (EndsAnswering (course run.now.options.now) snapshot.now (W.contents out.old) (W.contents out.new)) }
+{
+    match again(last, snapshot.transactions()) {
+        Ok(last) => {
+            last.outcome.send(run.alloc, run.options.json, out)?;
+            last.outcome.note(run.alloc, snapshot, notes);
+            Ok(last)
+        }
+        Err(earlier) => {
+            // One answer is held at a time.
+            drop(earlier);
+            say(run, snapshot, out, notes)
+        }
+    }
+}
+
 /// Says at the end what is to be said of the snapshot, unless it was said last, and keeps it; else the run ends with this
 /// number.
 fn say_last<T: Threads + Sync, W: Write, N: Write, G: Watcher>(
@@ -69,7 +97,10 @@ fn say_last<T: Threads + Sync, W: Write, N: Write, G: Watcher>(
 {
     match again(last, snapshot.transactions()) {
         Ok(last) => Ok(last),
-        Err(_) => say(run, snapshot, out, notes),
+        Err(earlier) => {
+            drop(earlier);
+            say(run, snapshot, out, notes)
+        }
     }
 }
 
@@ -107,16 +138,14 @@ fn answer_all<R: Read + Drop, T: Threads + Sync, W: Write, N: Write, G: Watcher>
         → MatchResult result (AllAnswered (course run.now.options.now) bytes (W.contents out.old) (W.contents out.new))
         (EndsEarly (course run.now.options.now) bytes (W.contents out.old) (W.contents out.new)) }
     ensures finished { (bytes : List ℕ) → IsRecording Large R.remaining recording.old [] (answers_of bytes)
-        → IfOk result (λ _. recording.new.snapshot ≡ finished bytes) }
+        → IfOk result (λ last. (recording.new.snapshot ≡ finished bytes) × IsOutcome run.now.options.now.level (finished bytes) last.outcome) }
 {
     let mut last: Option<Last<Outcome>> = None;
     'moments: for _turn in 0..u64::MAX {
         match read_on(run.alloc, recording, run.gate) {
             Ok(Moment::Seal) => {
-                // One answer is held at a time.
-                drop(last);
                 let snapshot = recording.snapshot();
-                let said = say(run, snapshot, out, notes)?;
+                let said = say_again(run, snapshot, last, out, notes)?;
                 last = Some(said);
             }
             Ok(Moment::End) => {
@@ -131,20 +160,21 @@ fn answer_all<R: Read + Drop, T: Threads + Sync, W: Write, N: Write, G: Watcher>
     Err(print_memory(out, run.options.json))
 }
 
-/// Writes the slice of the anomaly, if a file is given for it and it is within the small limits; else the run ends with this
-/// number.
+/// Writes the slice by the links of what was said, if it is within the small limits; else the run ends with this number.
 fn send_slice<T, W: Write, S: Write, N: Write, G: Watcher>(
     run: &Run<T, G>,
     snapshot: &LargeSnapshot,
+    outcome: &Outcome,
     links: &[Link],
     file: &mut S,
     out: &mut W,
     notes: &mut N,
 ) -> Result<(), u8>
-    ensures { SendsSlice run.now.options.now snapshot.now result (W.contents out.old) (W.contents out.new) (S.contents file.old) (S.contents file.new) }
+    ensures { IsOutcome run.now.options.now.level snapshot.now outcome.now
+        → SendsSlice run.now.options.now snapshot.now links.now result (W.contents out.old) (W.contents out.new) (S.contents file.old) (S.contents file.new) }
 {
     run.gate.begin(Stage::Slicing);
-    let made = slice_text(run.alloc, snapshot, run.options.level, links);
+    let made = slice_text(run.alloc, snapshot, run.options.level, outcome, links);
     run.gate.end();
     match made {
         Ok(Some(text)) => match send(file, &text) {
@@ -168,34 +198,58 @@ fn write_slice<T, W: Write, S: Write, N: Write, G: Watcher>(
     out: &mut W,
     notes: &mut N,
 ) -> Result<(), u8>
-    ensures { WritesSlice run.now.options.now snapshot.now (outcome_said run.now.options.now outcome.now) result (W.contents out.old) (W.contents out.new) (option_map S.contents slice.old)
+    ensures { IsOutcome run.now.options.now.level snapshot.now outcome.now
+        → WritesSlice run.now.options.now snapshot.now (outcome_said run.now.options.now outcome.now) result (W.contents out.old) (W.contents out.new) (option_map S.contents slice.old)
         (option_map S.contents slice.new) }
 {
     let Some(links) = outcome.links() else {
         return Ok(());
     };
     match slice {
-        Some(file) => send_slice(run, snapshot, links, file, out, notes),
+        Some(file) => send_slice(run, snapshot, outcome, links, file, out, notes),
         None => Ok(()),
     }
 }
 
-/// Writes the slice of what was said last, if that is an anomaly and a file is given for it, and gives the number that the run
+/// Writes the certificate of what was said, if that is an answer and a file is given for it, and then its slice, if it is an
+/// anomaly and a file is given for that; else the run ends with this number.
+fn write_files<T, W: Write, C: Write, S: Write, N: Write, G: Watcher>(
+    run: &Run<T, G>,
+    snapshot: &LargeSnapshot,
+    outcome: &Outcome,
+    certificate: &mut Option<C>,
+    slice: &mut Option<S>,
+    out: &mut W,
+    notes: &mut N,
+) -> Result<(), u8>
+    ensures { IsOutcome run.now.options.now.level snapshot.now outcome.now
+        → WritesFiles run.now.options.now snapshot.now (outcome_said run.now.options.now outcome.now) result (W.contents out.old) (W.contents out.new)
+        (record { certificate = option_map C.contents certificate.old; slice = option_map S.contents slice.old })
+        (record { certificate = option_map C.contents certificate.new; slice = option_map S.contents slice.new }) }
+{
+    write_certificate(run.alloc, run.options, outcome, certificate, out)?;
+    write_slice(run, snapshot, outcome, slice, out, notes)
+}
+
+/// Writes the certificate and the slice of what was said last, if files are given for them, and gives the number that the run
 /// ends with. Where an order has fewer transactions than are required, this is noted.
-fn conclude<T, W: Write, S: Write, N: Write, G: Watcher>(
+fn conclude<T, W: Write, C: Write, S: Write, N: Write, G: Watcher>(
     run: &Run<T, G>,
     snapshot: &LargeSnapshot,
     last: Last<Outcome>,
+    certificate: &mut Option<C>,
     slice: &mut Option<S>,
     out: &mut W,
     notes: &mut N,
 ) -> u8
-    ensures { Concludes run.now.options.now snapshot.now (outcome_said run.now.options.now last.outcome) (W.contents out.old) (W.contents out.new) (option_map S.contents slice.old)
-        (option_map S.contents slice.new) result }
+    ensures { IsOutcome run.now.options.now.level snapshot.now last.outcome
+        → Concludes run.now.options.now snapshot.now (outcome_said run.now.options.now last.outcome) (W.contents out.old) (W.contents out.new)
+        (record { certificate = option_map C.contents certificate.old; slice = option_map S.contents slice.old })
+        (record { certificate = option_map C.contents certificate.new; slice = option_map S.contents slice.new }) result }
 {
     let required = run.options.required;
     let status = last.outcome.status(required);
-    match write_slice(run, snapshot, &last.outcome, slice, out, notes) {
+    match write_files(run, snapshot, &last.outcome, certificate, slice, out, notes) {
         Ok(()) => {
             note_last(run.alloc, &last.outcome.into_answer(), required, notes);
             status.code()
@@ -205,19 +259,38 @@ fn conclude<T, W: Write, S: Write, N: Write, G: Watcher>(
 }
 
 /// The run of a recording that has just begun.
-fn run_recording<R: Read + Drop, T: Threads + Sync, W: Write, S: Write, N: Write, G: Watcher>(
+fn run_recording<
+    R: Read + Drop,
+    T: Threads + Sync,
+    W: Write,
+    C: Write,
+    S: Write,
+    N: Write,
+    G: Watcher,
+>(
     run: &Run<T, G>,
     recording: &mut LargeRecording<R>,
     out: &mut W,
+    certificate: &mut Option<C>,
     slice: &mut Option<S>,
     notes: &mut N,
 ) -> u8
     ensures { (bytes : List ℕ) → IsRecording Large R.remaining recording.old [] (answers_of bytes) → IsWithin R.remaining recording.old.rows (records_of bytes)
         → fault_met recording.old.rows ≡ None
-        → IsLargeRun run.now.options.now bytes (W.contents out.old) (W.contents out.new) (option_map S.contents slice.old) (option_map S.contents slice.new) result }
+        → IsLargeRun run.now.options.now bytes (W.contents out.old) (W.contents out.new)
+        (record { certificate = option_map C.contents certificate.old; slice = option_map S.contents slice.old })
+        (record { certificate = option_map C.contents certificate.new; slice = option_map S.contents slice.new }) result }
 {
     match answer_all(run, recording, out, notes) {
-        Ok(last) => conclude(run, recording.snapshot(), last, slice, out, notes),
+        Ok(last) => conclude(
+            run,
+            recording.snapshot(),
+            last,
+            certificate,
+            slice,
+            out,
+            notes,
+        ),
         Err(code) => code,
     }
 }
@@ -225,24 +298,28 @@ fn run_recording<R: Read + Drop, T: Threads + Sync, W: Write, S: Write, N: Write
 /// Writes an answer at the level for what was finished before each seal of the bytes of the reader, and before their end, as
 /// text or as lines of JSON, and gives the number that the run ends with. Records are taken up to the large limits; where what
 /// was finished is within the small ones, the answer is the same as without them, and the same for every number of workers; the
-/// watcher, which is told what the run does, is their gate. Where the last answer is an anomaly, the records of a slice go into
-/// the file, if one is given: of a small history that is this one with transactions and operations left out, and has an anomaly of
-/// it; or nothing, where none is found within the small limits. What a person may want to know besides, who reads the standard
-/// error, goes to the notes.
+/// watcher, which is told what the run does, is their gate. Behind the last answer its certificate goes into the first file, if it
+/// is given: within the small limits in version 2, past them in version 3. Where the last answer is an anomaly, the records of its
+/// slice go into the second, if it is given: of a small history that is this one with transactions and operations left out, and
+/// has this anomaly and nothing that it doesn't need; or nothing, where none is found within the small limits. What a person may
+/// want to know besides, who reads the standard error, goes to the notes.
 ///
-/// The file is empty before: nothing goes into it where the last answer is no anomaly, or where the run ends by a fault.
-pub fn run_large<R: Read + Drop, W: Write, S: Write, N: Write, G: Watcher>(
+/// The files are empty before: nothing goes into them where the last answer is that reads have faults, or where the run ends by a
+/// fault.
+pub fn run_large<R: Read + Drop, W: Write, C: Write, S: Write, N: Write, G: Watcher>(
     rt: &(impl Threads + Sync),
     alloc: Global,
     reader: R,
     out: &mut W,
+    certificate: &mut Option<C>,
     slice: &mut Option<S>,
     notes: &mut N,
     options: Options,
     watcher: &G,
 ) -> u8
-    ensures { IfSome (R.remaining reader) (λ bytes. IsLargeRun options bytes (W.contents out.old) (W.contents out.new) (option_map S.contents slice.old)
-        (option_map S.contents slice.new) result) }
+    ensures { IfSome (R.remaining reader) (λ bytes. IsLargeRun options bytes (W.contents out.old) (W.contents out.new)
+        (record { certificate = option_map C.contents certificate.old; slice = option_map S.contents slice.old })
+        (record { certificate = option_map C.contents certificate.new; slice = option_map S.contents slice.new }) result) }
 {
     match LargeRecording::new(alloc, reader) {
         Ok(recording) => {
@@ -253,7 +330,7 @@ pub fn run_large<R: Read + Drop, W: Write, S: Write, N: Write, G: Watcher>(
                 options: &options,
                 gate: watcher,
             };
-            run_recording(&run, &mut recording, out, slice, notes)
+            run_recording(&run, &mut recording, out, certificate, slice, notes)
         }
         Err(NoMemory) => print_memory(out, options.json),
     }

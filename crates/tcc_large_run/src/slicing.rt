@@ -2,7 +2,9 @@
 ghost use Rattle.std.specs.Prelude.{◌≡◌, IfOk, IfSome, IsTrue};
 ghost use Rattle.tcc_reads.specs.Sources.{history};
 ghost use Rattle.tcc_large_run.specs.LargeRuns.{Finishes, IsSliceText};
+ghost use Rattle.tcc_large_run.specs.private.Stages.{IsOutcome};
 
+use crate::outcome::Outcome;
 use std::alloc::Global;
 use tcc_graph::{LargeGraph, Level, Link};
 use tcc_large::{records, slice};
@@ -33,23 +35,55 @@ fn graph_of(alloc: Global, snapshot: &LargeSnapshot) -> Result<Option<LargeGraph
     Ok(Some(LargeGraph::build(alloc, resolved)?))
 }
 
-/// The records of a slice of the snapshot, with the operations that the links of a cycle at the level need; none where it would
-/// break the small limits.
-pub(crate) fn slice_text(
+/// The records of the slice of a snapshot by the links of a cycle at the level, with the snapshot's graph; none where it would break
+/// the small limits.
+fn text_of(
     alloc: Global,
     snapshot: &LargeSnapshot,
+    graph: &LargeGraph,
     level: Level,
     links: &[Link],
 ) -> Result<Option<Vec<u8>>, NoMemory>
-    ensures { IfOk result (λ made. IfSome made (λ text. IsSliceText level snapshot.now text.items)) }
+    ensures { graph.now ≡ history snapshot.now → IfOk result (λ made. IfSome made (λ text. IsSliceText level snapshot.now links.now text.items)) }
 {
-    let Some(graph) = graph_of(alloc, snapshot)? else {
-        return Ok(None);
-    };
-    let Some(small) = slice(alloc, snapshot, &graph, level, links)? else {
+    let Some(small) = slice(alloc, snapshot, graph, level, links)? else {
         return Ok(None);
     };
     let text = records(alloc, &small)?;
     let is_whole = is_read_back(alloc, &text, &small)?;
     if is_whole { Ok(Some(text)) } else { Ok(None) }
+}
+
+/// The same where no graph is there.
+fn text_anew(
+    alloc: Global,
+    snapshot: &LargeSnapshot,
+    level: Level,
+    links: &[Link],
+) -> Result<Option<Vec<u8>>, NoMemory>
+    ensures { IfOk result (λ made. IfSome made (λ text. IsSliceText level snapshot.now links.now text.items)) }
+{
+    let Some(graph) = graph_of(alloc, snapshot)? else {
+        return Ok(None);
+    };
+    text_of(alloc, snapshot, &graph, level, links)
+}
+
+/// The records of the slice of a snapshot by the links of what was said of it: cut from the graph that was decided of, past the
+/// small limits.
+pub(crate) fn slice_text(
+    alloc: Global,
+    snapshot: &LargeSnapshot,
+    level: Level,
+    outcome: &Outcome,
+    links: &[Link],
+) -> Result<Option<Vec<u8>>, NoMemory>
+    ensures { IsOutcome level snapshot.now outcome.now
+        → IfOk result (λ made. IfSome made (λ text. IsSliceText level snapshot.now links.now text.items)) }
+{
+    match outcome {
+        Outcome::Large { graph, .. } => text_of(alloc, snapshot, graph, level, links),
+        Outcome::Cycle { graph, .. } => text_of(alloc, snapshot, graph, level, links),
+        Outcome::Small(_) | Outcome::Unresolved(_) => text_anew(alloc, snapshot, level, links),
+    }
 }

@@ -1,5 +1,5 @@
 -- How the stages of a run follow one another.
-use Rattle.std.specs.Prelude.{ℕ, ◌≡◌, ◌≢◌, ◌⊎◌, Bool, List, [], take, Option, None, Result, Ok, Err}
+use Rattle.std.specs.Prelude.{ℕ, ◌≡◌, ◌≢◌, ◌⊎◌, Bool, List, [], take, unwrap_or, Option, None, Some, Result, Ok, Err}
 use Rattle.std.specs.Io.KnownBytes.{Appends}
 use Rattle.std.specs.Global.{Vec}
 use Rattle.tcc_txn.specs.Finished.{KeepsLimits}
@@ -8,8 +8,14 @@ use Rattle.tcc_txn.specs.declared.limits.Limits.TheVariants.{Large}
 use Rattle.tcc_reads.specs.Faults.{read_faults}
 use Rattle.tcc_reads.specs.History.{History}
 use Rattle.tcc_reads.specs.Sources.{history}
-use Rattle.tcc_reads.specs.declared.fault.ReadFault.{ReadFault}
 use Rattle.tcc_graph.specs.declared.level.Level.{Level}
+use Rattle.tcc_graph.specs.declared.link.Link.{Link}
+use Rattle.tcc_cert.specs.LargeTexts.{large_certificate_text}
+use Rattle.tcc_cert.specs.RunsTold.{order_claim_of}
+use Rattle.tcc_cert.specs.Texts.{certificate_text}
+use Rattle.tcc_cert.specs.declared.large.LargeCertificate.{LargeCertificate}
+use Rattle.tcc_cert.specs.declared.large.LargeCertificate.TheVariants as claims
+use Rattle.tcc_answer.specs.Claims.{certificate_of}
 use Rattle.tcc_answer.specs.Labels.{labels_of}
 use Rattle.tcc_answer.specs.declared.answer.Answer.{Answer}
 use Rattle.tcc_answer.specs.declared.answer.Answer.TheVariants as answer
@@ -27,7 +33,7 @@ use Rattle.tcc_print.specs.declared.options.Options.{Options}
 use Rattle.tcc_print.specs.declared.status.Status.{Status}
 use Rattle.tcc_print.specs.declared.status.Status.TheVariants.{Anomaly, Device, Memory, ReadFaults}
 use Rattle.tcc_print.specs.private.Courses.{Course}
-use Rattle.tcc_large_run.specs.LargeRuns.{IsSaidOfSnapshot, IsSliceText, IsSliced, bare_cycle, bare_order}
+use Rattle.tcc_large_run.specs.LargeRuns.{CertificateStops, Files, IsCertified, IsSaidOfSnapshot, IsSliceText, IsSliced, SliceStops, Stops, bare_cycle, bare_order, links_claim}
 use Rattle.tcc_large_run.specs.declared.outcome.Outcome.{Outcome}
 use Rattle.tcc_large_run.specs.declared.outcome.Outcome.TheVariants as outcome
 
@@ -35,35 +41,69 @@ use Rattle.tcc_large_run.specs.declared.outcome.Outcome.TheVariants as outcome
 
 -- what is said of a history by what is decided of it
 abbrev pub outcome_of : Level → History → Decision → Outcome
-outcome_of level h (decision.Order order) = outcome.Answered (answer.Commit (bare_order level h order.items))
-outcome_of level h (decision.Least links) = outcome.Answered (answer.Anomaly (bare_cycle level h links.items))
-outcome_of level h (decision.Cycle links) = outcome.Cycle (labels_of h) links
+outcome_of level h (decision.Order order) = outcome.Large h (answer.Commit (bare_order level h order.items))
+outcome_of level h (decision.Least links) = outcome.Large h (answer.Anomaly (bare_cycle level h links.items))
+outcome_of level h (decision.Cycle links) = outcome.Cycle h (labels_of h) links
 
--- the first answer of a small snapshot; what is decided of a larger one
-abbrev pub IsResolved : Level → Sessions → Outcome → Type 0
-IsResolved level s o =
-    (KeepsLimits s × (a : Answer) × IsAnswerOfHistory (judged (history s) level) a × (o ≡ outcome.Answered a))
-    ⊎ ((KeepsLimits s → ⊥) × (d : Decision) × IsDecision (judged (history s) level) d × (o ≡ outcome_of level (history s) d))
+-- it is what is decided of the history of a snapshot past the small limits
+pub record IsDecided (level : Level) (s : Sessions) (h : History) (o : Outcome) : Type 0 where
+  pub resolved : read_faults s ≡ []
+  pub past : KeepsLimits s → ⊥
+  pub own : h ≡ history s
+  pub decided : Decision
+  pub is : IsDecision (judged (history s) level) decided
+  pub outcome : o ≡ outcome_of level h decided
 
 -- what is to be said of a snapshot at a level
 abbrev pub IsOutcome : Level → Sessions → Outcome → Type 0
-IsOutcome level s o =
-    ((read_faults s ≡ []) × IsResolved level s o)
-    ⊎ ((read_faults s ≢ []) × (faults : Vec ReadFault) × (o ≡ outcome.Unresolved faults) × (faults.items ≡ read_faults s))
+IsOutcome level s (outcome.Unresolved faults) = (read_faults s ≢ []) × (faults.items ≡ read_faults s)
+IsOutcome level s (outcome.Small a) = (read_faults s ≡ []) × KeepsLimits s × IsAnswerOfHistory (judged (history s) level) a
+IsOutcome level s (outcome.Large h a) = IsDecided level s h (outcome.Large h a)
+IsOutcome level s (outcome.Cycle h labels links) = IsDecided level s h (outcome.Cycle h labels links)
 
 -- how it goes out, and how a run ends whose last answer it is
 abbrev pub outcome_text : Bool → Outcome → List ℕ
 outcome_text json (outcome.Unresolved faults) = unresolved json faults.items
-outcome_text json (outcome.Answered a) = answered json a
-outcome_text json (outcome.Cycle labels links) = unproved json labels links.items
+outcome_text json (outcome.Small a) = answered json a
+outcome_text json (outcome.Large h a) = answered json a
+outcome_text json (outcome.Cycle h labels links) = unproved json labels links.items
 
 abbrev pub outcome_status : ℕ → Outcome → Status
 outcome_status required (outcome.Unresolved faults) = ReadFaults
-outcome_status required (outcome.Answered a) = answer_status required a
-outcome_status required (outcome.Cycle labels links) = Anomaly
+outcome_status required (outcome.Small a) = answer_status required a
+outcome_status required (outcome.Large h a) = answer_status required a
+outcome_status required (outcome.Cycle h labels links) = Anomaly
+
+-- what an answer past the small limits claims
+abbrev pub answer_claim : Level → History → Answer → LargeCertificate
+answer_claim level h (answer.Commit c) = claims.Order (order_claim_of level h c.order)
+answer_claim level h (answer.Anomaly a) = claims.Cycle (links_claim level h a.links (Some []))
+
+-- the text of its certificate, where it is an answer
+abbrev pub outcome_certificate : Level → Outcome → Option (List ℕ)
+outcome_certificate level (outcome.Unresolved faults) = None
+outcome_certificate level (outcome.Small a) = Some (certificate_text (certificate_of a))
+outcome_certificate level (outcome.Large h a) = Some (large_certificate_text (answer_claim level h a))
+outcome_certificate level (outcome.Cycle h labels links) =
+    Some (large_certificate_text (claims.Cycle (links_claim level h links.items None)))
 
 abbrev pub outcome_said : Options → Outcome → Said
-outcome_said options o = record { text = outcome_text options.json o; status = outcome_status options.required o; certificate = None }
+outcome_said options o = record {
+  text = outcome_text options.json o;
+  status = outcome_status options.required o;
+  certificate = outcome_certificate options.level o;
+}
+
+-- the links of its cycle, where it has one
+abbrev pub answer_links : Answer → Option (List Link)
+answer_links (answer.Commit c) = None
+answer_links (answer.Anomaly a) = Some a.links
+
+abbrev pub outcome_links : Outcome → Option (List Link)
+outcome_links (outcome.Unresolved faults) = None
+outcome_links (outcome.Small a) = answer_links a
+outcome_links (outcome.Large h a) = answer_links a
+outcome_links (outcome.Cycle h labels links) = Some links.items
 
 -- the course of a run, which keeps what was said last
 abbrev pub course : Options → Course Outcome (Last Outcome)
@@ -76,32 +116,53 @@ course options = record {
   keeps = λ last said. said ≡ outcome_said options last.outcome;
 }
 
+-- ---- the certificate
+
+-- a certificate of version 3 went into the file; or a write of it failed, or memory was out, which is said
+abbrev pub SendsClaim : {A : Type 0} → Bool → LargeCertificate → Result A ℕ → Option (List ℕ) → Option (List ℕ) → Option (List ℕ) → Option (List ℕ) → Type 0
+SendsClaim json claim (Ok done) before after file file' = (after ≡ before) × Appends file file' (large_certificate_text claim)
+SendsClaim json claim (Err code) before after file file' =
+    (((n : ℕ) × Appends file file' (take n (large_certificate_text claim))) × Prints before after (device_line json) Device code)
+    ⊎ (Appends file file' [] × Prints before after (memory_line json) Memory code)
+
+-- so with the certificate of what was said
+abbrev pub SendsCertificate : {A : Type 0} → Options → Said → Result A ℕ → Option (List ℕ) → Option (List ℕ) → Option (List ℕ) → Option (List ℕ) → Type 0
+SendsCertificate options last (Ok done) before after file file' = (after ≡ before) × Appends file file' (unwrap_or last.certificate [])
+SendsCertificate options last (Err code) before after file file' =
+    ((text : List ℕ) × (last.certificate ≡ Some text) × ((n : ℕ) × Appends file file' (take n text))
+    × Prints before after (device_line options.json) Device code)
+    ⊎ ((claim : LargeCertificate) × (last.certificate ≡ Some (large_certificate_text claim)) × Appends file file' []
+    × Prints before after (memory_line options.json) Memory code)
+
+-- and in a file that may be given
+abbrev pub WritesCertificate : {A : Type 0} → Options → Said → Result A ℕ → Option (List ℕ) → Option (List ℕ) → Contents → Contents → Type 0
+WritesCertificate options last (Ok done) before after file file' = (after ≡ before) × Gains file file' (unwrap_or last.certificate [])
+WritesCertificate options last (Err code) before after file file' = CertificateStops options last before after file file' code
+
 -- ---- the slice
 
--- a slice of an anomaly, or nothing, went into the file; or a write to it failed, or memory was out, which is said
-abbrev pub SendsSlice : {A : Type 0} → Options → Sessions → Result A ℕ → Option (List ℕ) → Option (List ℕ) → Option (List ℕ) → Option (List ℕ) → Type 0
-SendsSlice options whole (Ok done) before after file file' =
-    (after ≡ before) × (Appends file file' [] ⊎ ((slice : List ℕ) × IsSliceText options.level whole slice × Appends file file' slice))
-SendsSlice options whole (Err code) before after file file' =
-    ((slice : List ℕ) × (n : ℕ) × IsSliceText options.level whole slice × Appends file file' (take n slice)
+-- the slice by some links, or nothing, went into the file; or a write to it failed, or memory was out, which is said
+abbrev pub SendsSlice : {A : Type 0} → Options → Sessions → List Link → Result A ℕ → Option (List ℕ) → Option (List ℕ) → Option (List ℕ) → Option (List ℕ) → Type 0
+SendsSlice options whole links (Ok done) before after file file' =
+    (after ≡ before) × (Appends file file' [] ⊎ ((slice : List ℕ) × IsSliceText options.level whole links slice × Appends file file' slice))
+SendsSlice options whole links (Err code) before after file file' =
+    ((slice : List ℕ) × (n : ℕ) × IsSliceText options.level whole links slice × Appends file file' (take n slice)
     × Prints before after (device_line options.json) Device code)
     ⊎ (Appends file file' [] × Prints before after (memory_line options.json) Memory code)
 
 -- the same of a file that may be given, where it is the slice of what was said
 abbrev pub WritesSlice : {A : Type 0} → Options → Sessions → Said → Result A ℕ → Option (List ℕ) → Option (List ℕ) → Contents → Contents → Type 0
-WritesSlice options whole last (Ok done) before after file file' = (after ≡ before) × IsSliced options.level whole last file file'
-WritesSlice options whole last (Err code) before after file file' =
-    (last.status ≡ Anomaly)
-    × (((slice : List ℕ) × (n : ℕ) × IsSliceText options.level whole slice × Gains file file' (take n slice)
-    × Prints before after (device_line options.json) Device code)
-    ⊎ (Gains file file' [] × Prints before after (memory_line options.json) Memory code))
+WritesSlice options whole last (Ok done) before after file file' = (after ≡ before) × IsSliced options whole last file file'
+WritesSlice options whole last (Err code) before after file file' = SliceStops options whole last before after file file' code
 
--- nothing more is said, and the file gets a slice of the anomaly, or nothing; or a write to it fails, or memory is out, which is
--- said
-abbrev pub Concludes : Options → Sessions → Said → Option (List ℕ) → Option (List ℕ) → Contents → Contents → ℕ → Type 0
-Concludes options whole last before after file file' code =
-    ((after ≡ before) × IsSliced options.level whole last file file' × (code ≡ code_of last.status))
-    ⊎ ((last.status ≡ Anomaly)
-    × (((slice : List ℕ) × (n : ℕ) × IsSliceText options.level whole slice × Gains file file' (take n slice)
-    × Prints before after (device_line options.json) Device code)
-    ⊎ (Gains file file' [] × Prints before after (memory_line options.json) Memory code)))
+-- nothing more is said, and the files get the certificate and the slice of what was said; or one of them stops
+abbrev pub WritesFiles : {A : Type 0} → Options → Sessions → Said → Result A ℕ → Option (List ℕ) → Option (List ℕ) → Files → Files → Type 0
+WritesFiles options whole last (Ok done) before after files files' =
+    (after ≡ before) × IsCertified last files files' × IsSliced options whole last files.slice files'.slice
+WritesFiles options whole last (Err code) before after files files' = Stops options whole last before after files files' code
+
+-- so at the end of a run
+abbrev pub Concludes : Options → Sessions → Said → Option (List ℕ) → Option (List ℕ) → Files → Files → ℕ → Type 0
+Concludes options whole last before after files files' code =
+    ((after ≡ before) × IsCertified last files files' × IsSliced options whole last files.slice files'.slice × (code ≡ code_of last.status))
+    ⊎ Stops options whole last before after files files' code

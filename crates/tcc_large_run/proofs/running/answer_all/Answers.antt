@@ -1,10 +1,10 @@
 -- What comes of each moment of the recording.
 use Rattle.std.proofs.Common.{refl}
 use Rattle.tcc_print.proofs.Courses.{ends-fault, ends-seal, finished-end, says-end, says-seal, wants_memory}
-use Rattle.tcc_large_run.specs.LargeRuns.{records_of}
+use Rattle.tcc_large_run.specs.LargeRuns.{finished, records_of}
 use Rattle.tcc_large_run.specs.private.Stages.{course}
 use Rattle.tcc_large_run.proofs.Outcomes.{said_of}
-use Rattle.tcc_large_run.proofs.Runs.{kept_last}
+use Rattle.tcc_large_run.proofs.Runs.{end_finished, end_outcome, kept_last}
 use Rattle.tcc_large_run.proofs.running.answer_all.Goals as goal
 
 pub moments-preserved : goal.moments-preserved
@@ -12,7 +12,7 @@ moments-preserved g c = record {
   way = λ text recording. says-seal g.R.Read.remaining (course c.args.run.now.options.now) (said_of c.args.run.now.options.now) text
       c.moments.recording c.read_on.new.recording _ _ c.moments.last (c.moments.invariant.way text recording)
       _ c.in-Ok-Seal.ensures.moment c.snapshot-snapshot.result.now c.snapshot-snapshot.ensures.finished c.in-Ok-Seal.field-0-is
-      c.in_ok-said-in-Ok-Seal.said _ (λ still. c.in_ok-said-in-Ok-Seal.ensures);
+      c.in_ok-said-in-Ok-Seal.said _ c.in_ok-said-in-Ok-Seal.ensures;
   within = λ records within. c.in-Ok-Seal.ensures.within records (c.moments.invariant.within records within);
   going = λ none. c.in-Ok-Seal.ensures.goes_on;
 }
@@ -22,7 +22,7 @@ returns-in_err-said-in-Ok-Seal-clause-answers g c text recording within fresh =
     ends-seal g.R.Read.remaining (course c.args.run.now.options.now) (said_of c.args.run.now.options.now) text
     c.moments.recording c.read_on.new.recording _ _ c.moments.last (c.moments.invariant.way text recording)
     _ c.in-Ok-Seal.ensures.moment c.snapshot-snapshot.result.now c.snapshot-snapshot.ensures.finished c.in-Ok-Seal.field-0-is
-    c.from_residual.result c.in_err-said-in-Ok-Seal.field-0.0 _ c.from_residual.ensures.1 (λ still. c.in_err-said-in-Ok-Seal.ensures)
+    c.from_residual.result c.in_err-said-in-Ok-Seal.field-0.0 _ c.from_residual.ensures.1 c.in_err-said-in-Ok-Seal.ensures
 
 pub returns-in-Ok-End-clause-answers : goal.returns-in-Ok-End-clause-answers
 returns-in-Ok-End-clause-answers g c text recording within fresh =
@@ -34,9 +34,14 @@ returns-in-Ok-End-clause-answers g c text recording within fresh =
 
 pub returns-in-Ok-End-clause-finished : goal.returns-in-Ok-End-clause-finished
 returns-in-Ok-End-clause-finished g c text recording =
-    finished-end g.R.Read.remaining (course c.args.run.now.options.now) (said_of c.args.run.now.options.now) text
+    end_finished c.args.run.now.options.now.level c.say_last.result c.read_on.new.recording.snapshot c.snapshot.result.now (finished text)
+    c.snapshot.ensures.value
+    (finished-end g.R.Read.remaining (course c.args.run.now.options.now) (said_of c.args.run.now.options.now) text
     c.moments.recording c.read_on.new.recording _ _ c.moments.last (c.moments.invariant.way text recording)
-    _ c.in-Ok-End.ensures.moment c.snapshot.result.now c.snapshot.ensures.finished c.in-Ok-End.field-0-is c.say_last.result
+    _ c.in-Ok-End.ensures.moment c.snapshot.result.now c.snapshot.ensures.finished c.in-Ok-End.field-0-is c.say_last.result)
+    (end_outcome g.R.Read.remaining c.args.run.now.options.now text c.moments.recording c.read_on.new.recording _ _ _ c.moments.last
+    (c.moments.invariant.way text recording) _ c.in-Ok-End.ensures.moment c.snapshot.result.now c.snapshot.ensures.finished c.in-Ok-End.field-0-is
+    c.say_last.result c.say_last.ensures.said c.say_last.ensures.due)
 
 pub returns-in-Err-clause-answers : goal.returns-in-Err-clause-answers
 returns-in-Err-clause-answers g c text recording within fresh =

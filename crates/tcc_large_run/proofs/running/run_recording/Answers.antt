@@ -1,11 +1,12 @@
--- All was answered, and the slice of what was said last comes behind; or the run ended before.
+-- All was answered, and the files of what was said last come behind; or the run ended before.
 use Rattle.std.proofs.Common.{◌∙◌}
 use Rattle.tcc_large_run.proofs.Runs.{concluded, early}
 use Rattle.tcc_large_run.proofs.running.run_recording.Goals as goal
 
 pub returns-in-Ok : goal.returns-in-Ok
 returns-in-Ok g c bytes recording within fresh =
-    concluded c.args.run.now.options.now bytes _ _ _ _ _ _ c.in-Ok.last c.conclude.result (c.snapshot.ensures.value ∙ c.in-Ok.ensures.finished bytes recording)
+    let end = c.in-Ok.ensures.finished bytes recording in
+    concluded c.args.run.now.options.now bytes _ _ _ _ _ _ c.in-Ok.last c.conclude.result (c.snapshot.ensures.value ∙ end.0) end.1
     (c.in-Ok.ensures.answers bytes recording within fresh) c.conclude.ensures
 
 pub returns-in-Err : goal.returns-in-Err

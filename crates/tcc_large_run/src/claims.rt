@@ -1,0 +1,83 @@
+//! What an answer past the small limits claims: an order by its runs, a cycle by its links.
+ghost use Rattle.std.specs.Prelude.{◌≡◌, IfOk};
+ghost use Rattle.tcc_graph.specs.Links.{cost};
+ghost use Rattle.tcc_cert.specs.declared.large.LargeCertificate.TheVariants as claims;
+ghost use Rattle.tcc_large_run.specs.LargeRuns.{links_claim};
+ghost use Rattle.tcc_large_run.specs.private.Stages.{answer_claim};
+
+use std::alloc::Global;
+use tcc_answer::Answer;
+use tcc_cert::{LargeCertificate, Links, LinksClaim, Runs, order_claim};
+use tcc_graph::{LargeGraph, Level, Link};
+use tcc_txn::NoMemory;
+
+/// How many steps the links have together.
+pub(crate) fn steps_of(links: &[Link]) -> Result<u32, NoMemory>
+    ensures { IfOk result (λ steps. steps ≡ cost links.now) }
+{
+    let mut steps: u32 = 0;
+    for link in links {
+        // More steps are held by no memory.
+        let Ok(cost) = u32::try_from(link.cost()) else {
+            return Err(NoMemory);
+        };
+        let Some(more) = steps.checked_add(cost) else {
+            return Err(NoMemory);
+        };
+        steps = more;
+    }
+    Ok(steps)
+}
+
+/// Equal links.
+fn copied(alloc: Global, links: &[Link]) -> Result<Vec<Link>, NoMemory>
+    ensures { IfOk result (λ copy. copy.items ≡ links.now) }
+{
+    let mut copy = Vec::new(alloc);
+    for link in links {
+        copy.push(link.copy(alloc)?)?;
+    }
+    Ok(copy)
+}
+
+/// The claim that links are a cycle of a history at a level; and that it is a least one, where there are runs, which may be none.
+pub(crate) fn cycle_claim(
+    alloc: Global,
+    graph: &LargeGraph,
+    level: Level,
+    links: &[Link],
+    least: Option<Runs>,
+) -> Result<LargeCertificate, NoMemory>
+    ensures { IfOk result (λ claim. claim ≡ claims.Cycle (links_claim level graph.now links.now least)) }
+{
+    let cost = steps_of(links)?;
+    let links = Links::new(copied(alloc, links)?);
+    Ok(LargeCertificate::Cycle(LinksClaim {
+        level,
+        transactions: graph.count(),
+        links,
+        cost,
+        least,
+    }))
+}
+
+/// What the answer about a history claims: its order, or that its cycle is a least one, for which no runs are needed.
+pub(crate) fn answer_claim(
+    alloc: Global,
+    graph: &LargeGraph,
+    level: Level,
+    answer: &Answer,
+) -> Result<LargeCertificate, NoMemory>
+    ensures { IfOk result (λ claim. claim ≡ answer_claim level graph.now answer.now) }
+{
+    match answer {
+        Answer::Commit(commit) => {
+            let claim = order_claim(alloc, graph, level, commit.order())?;
+            Ok(LargeCertificate::Order(claim))
+        }
+        Answer::Anomaly(anomaly) => {
+            let none = Runs::new(Vec::new(alloc));
+            cycle_claim(alloc, graph, level, anomaly.links(), Some(none))
+        }
+    }
+}
