@@ -3,6 +3,7 @@ begins. None of them may take more than some times the processor time of an ordi
 
 A history is named by what there is much of. `N` and the like are counts; sessions, keys and values are made of them.
 """
+import random
 from typing import Iterable, Iterator, List, NamedTuple, Tuple
 
 
@@ -132,6 +133,17 @@ def stale_beside(stale: int, keys: int, empty: int) -> Transactions:
         yield "b", ["r,k%d,%d" % (key, n + 1) for key in range(keys)]
 
 
+def circling(transactions: int, reads: int, keys: int = 1000) -> Transactions:
+    """Each transaction, of 64 sessions, reads what many others wrote, earlier and later ones, and writes a key: pairs lead in
+    circles, and from each to nearly all others in a few steps. The first two read from one another."""
+    picked = random.Random(1)
+    for n in range(transactions):
+        others = {1 - n} if n < 2 else set()
+        others.update(picked.randrange(transactions) for _ in range(reads))
+        read = ["r,k%d,%d" % (other % keys, other + 1) for other in sorted(others - {n})]
+        yield "s%02d" % (n % 64), read + ["w,k%d,%d" % (n % keys, n + 1)]
+
+
 def ordinary(size: int) -> str:
     """A history with so many bytes at least: 32 sessions, of whose transactions each writes a key and reads the last value of
     another one."""
@@ -157,7 +169,8 @@ def hard() -> Iterator[Hard]:
     yield Hard("overwritten", atomic, records_of(overwritten(30000, 30000)), "consistent: 60002 transactions, 3 sessions\n")
     yield Hard("never written", atomic, records_of(never_written(30000, 30000)), "consistent: 60002 transactions, 3 sessions\n")
     yield Hard("crossed", atomic, records_of(crossed(250, 400)), "consistent: 650 transactions, 33 sessions\n")
-    yield Hard("written by many", large, records_of(written_by_many(1000, 4000)), "consistent: 8005 transactions, 1002 sessions\n")
-    yield Hard("gathered", large, records_of(gathered(2000, 8000)), "consistent: 18008 transactions, 2002 sessions\n")
+    yield Hard("written by many", large, records_of(written_by_many(4000, 8000)), "consistent: 24017 transactions, 4002 sessions\n")
+    yield Hard("gathered", large, records_of(gathered(4000, 30000)), "consistent: 64016 transactions, 4002 sessions\n")
     yield Hard("ring", large, records_of(ring(1000, 64, 20000)), "anomaly: ")
     yield Hard("stale beside", large, records_of(stale_beside(64, 255, 40000)), "anomaly: 3 steps, ")
+    yield Hard("circling", large, records_of(circling(4095, 100)), "anomaly: 2 steps, cyclic-causality\n")
