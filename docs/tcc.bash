@@ -21,7 +21,7 @@ _tcc() {
             *) [[ $word == -* ]] && COMPREPLY=($(compgen -W '--level --workers --json --quiet --large --slice --certificate --require --help' -- "$word")) ;;
         esac
     elif [ "$command" = check ] && [[ $word == -* ]]; then
-        COMPREPLY=($(compgen -W '--help' -- "$word"))
+        COMPREPLY=($(compgen -W '--large --help' -- "$word"))
     fi
 }
 

@@ -81,7 +81,8 @@ HELD = {
         "up to {!LARGE_TRANSACTIONS} transactions, {!LARGE_SESSIONS} sessions and {!LARGE_KEYS} keys, in place of\n"
         "{!MAX_TRANSACTIONS}, {!MAX_SESSIONS} and {!MAX_KEYS}",
         "more than {!MAX_INPUT_BYTES} bytes, with '--large' {!LARGE_INPUT_BYTES},",
-        "the history has more than {!MAX_INPUT_BYTES} bytes"),
+        "HISTORY has up to {!LARGE_TRANSACTIONS} transactions, {!LARGE_SESSIONS} sessions and {!LARGE_KEYS} keys",
+        "the history has more than {!MAX_INPUT_BYTES} bytes, with '--large' {!LARGE_INPUT_BYTES},"),
 }
 
 

@@ -10,8 +10,8 @@ use std::sync::Wait;
 use std::thread::{self, Threads};
 use std::time::Clock;
 use tcc_files::{
-    Apart, Input, Quiet, Telling, check_opened, is_waited_for, open_both, open_input, open_output,
-    print_unopened,
+    Apart, Input, Quiet, Telling, check_large_opened, check_opened, is_waited_for, open_both,
+    open_input, open_output, print_unopened,
 };
 use tcc_large_run::run_large;
 use tcc_run::{OpenGate, Options, Status, run_explain};
@@ -111,10 +111,16 @@ fn main(rt: HostRuntime) -> ExitCode {
             Request::Check {
                 history,
                 certificate,
+                large,
             },
         ) => {
             let opened = open_both(&rt, history.as_str(), certificate.as_str());
-            check_opened(rt.alloc(), opened, &mut out, &mut rt.stderr())
+            let mut notes = rt.stderr();
+            if large {
+                check_large_opened(rt.alloc(), opened, &mut out, &mut notes)
+            } else {
+                check_opened(rt.alloc(), opened, &mut out, &mut notes)
+            }
         }
         Err(code) => code,
     };

@@ -3,7 +3,7 @@
 #![tactic(auto)]
 
 use std::process::ExitCode;
-use tcc_files::{Telling, check_opened, open_both};
+use tcc_files::{Telling, check_large_opened, check_opened, open_both};
 use tcc_print::Status;
 use tcc_words::read_check;
 
@@ -12,7 +12,12 @@ fn main(rt: HostRuntime) -> ExitCode {
     let code = match read_check(&rt, &mut out) {
         Ok(files) => {
             let opened = open_both(&rt, files.history.as_str(), files.certificate.as_str());
-            check_opened(rt.alloc(), opened, &mut out, &mut rt.stderr())
+            let mut notes = rt.stderr();
+            if files.large {
+                check_large_opened(rt.alloc(), opened, &mut out, &mut notes)
+            } else {
+                check_opened(rt.alloc(), opened, &mut out, &mut notes)
+            }
         }
         Err(code) => code,
     };

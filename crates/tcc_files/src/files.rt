@@ -2,6 +2,8 @@
 ghost use Rattle.std.specs.Prelude.{◌≡◌, IfOk, IfSome, MatchResult, false};
 ghost use Rattle.std.specs.IoError.{error_kind};
 ghost use Rattle.tcc_files.specs.Files.{AreBothGiven, IsInputOf, PrintsUnopened};
+ghost use Rattle.tcc_large_check.specs.LargeChecks.{large_check};
+ghost use Rattle.tcc_verdict.specs.Checking.{IsRun, PrintsOutcome};
 ghost use Rattle.tcc_verdict.specs.Checks.{IsCheckRun, PrintsSome};
 
 use crate::input::Input;
@@ -10,6 +12,7 @@ use crate::telling::Telling;
 use std::alloc::Global;
 use std::fs::File;
 use std::io::{self, ErrorKind, Read, Write};
+use tcc_large_check::run_check_large;
 use tcc_print::printing::{print_device, print_memory};
 use tcc_verdict::run_check;
 
@@ -101,6 +104,24 @@ pub fn check_opened<H: Read + Drop, C: Read + Drop, W: Write, N: Write>(
 {
     match opened {
         Ok((history, certificate)) => run_check(alloc, history, certificate, out, notes),
+        Err(error) => print_unopened(error.kind(), false, out),
+    }
+}
+
+/// Checks a certificate of any version, within the large limits, as `check_opened` does within the small ones.
+pub fn check_large_opened<H: Read + Drop, C: Read + Drop, W: Write, N: Write>(
+    alloc: Global,
+    opened: io::Result<(H, C)>,
+    out: &mut W,
+    notes: &mut N,
+) -> u8
+    ensures run { IfOk opened (λ both. IfSome (H.remaining both.0) (λ records. IfSome (C.remaining both.1)
+        (λ text. IsRun large_check records text (W.contents out.old) (W.contents out.new) result))) }
+    ensures printed { MatchResult opened (λ _. PrintsOutcome large_check (W.contents out.old) (W.contents out.new) result)
+        (λ error. PrintsUnopened false (error_kind error) (W.contents out.old) (W.contents out.new) result) }
+{
+    match opened {
+        Ok((history, certificate)) => run_check_large(alloc, history, certificate, out, notes),
         Err(error) => print_unopened(error.kind(), false, out),
     }
 }

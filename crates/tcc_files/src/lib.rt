@@ -8,7 +8,9 @@ mod quiet;
 mod telling;
 mod terminal;
 
-pub use files::{check_opened, open_both, open_input, open_output, print_unopened};
+pub use files::{
+    check_large_opened, check_opened, open_both, open_input, open_output, print_unopened,
+};
 pub use input::Input;
 pub use opening::Apart;
 pub use quiet::Quiet;

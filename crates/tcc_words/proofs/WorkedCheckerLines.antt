@@ -18,7 +18,7 @@ is_simple_command = refl
 
 check_read : IsCheckRead checker_command (codes "tcc_checker")
 unfolding clap_on_literals
-check_read = (refl, refl, refl)
+check_read = (refl, refl, refl, refl, refl)
 
 -- nothing else is there
 none_explained : fault_of checker_command (codes "tcc_checker" ∷ codes "explain" ∷ []) ≡ UnknownArgument ∷ InvalidSubcommand ∷ []

@@ -2,7 +2,7 @@
 use Rattle.std.proofs.Common.{◌≡◌, true, List, [], ◌∷◌, map, Option, None, Some, refl, codes}
 use Rattle.std.specs.Prelude.{option_and_then, option_map}
 use Rattle.std.specs.Borrow.{Bor}
-use Rattle.clap.specs.Walk.{Row, Text, first_of}
+use Rattle.clap.specs.Walk.{Row, Text, first_of, one_of}
 use Rattle.clap.specs.Faults.{fault_of, is_simple_and_free}
 use Rattle.clap.specs.Simple.{App, is_simple, subcommand_of}
 use Rattle.clap.specs.declared.error.kind.ErrorKind.{ErrorKind}
@@ -119,17 +119,22 @@ explain_asks = refl
 abbrev check_line : List Text
 check_line = codes "check" ∷ codes "h.csv" ∷ codes "c.txt" ∷ []
 
--- the subcommand that was met, and the two paths: the first word is the history's, and the second the certificate's
-abbrev check_asks : Option (Text × List Row) → Option Text × Option Text × Option Text
+-- with the flag, wherever it stands
+abbrev large_check_line : List Text
+large_check_line = codes "check" ∷ codes "h.csv" ∷ codes "--large" ∷ codes "c.txt" ∷ []
+
+-- the subcommand that was met, the two paths, of which the first word is the history's and the second the certificate's, and the flag
+abbrev check_asks : Option (Text × List Row) → Option Text × Option Text × Option Text × Option Text
 check_asks met = (
   option_map (λ entered. entered.0) met,
   option_and_then (λ entered. first_of (codes "history") entered.1) met,
   option_and_then (λ entered. first_of (codes "certificate") entered.1) met,
+  option_and_then (λ entered. one_of (codes "large") entered.1) met,
 )
 
--- what is read of that line
-abbrev check_asked : Option Text × Option Text × Option Text
-check_asked = (Some (codes "check"), Some (codes "h.csv"), Some (codes "c.txt"))
+-- what is read of such a line, with this word for the flag
+abbrev check_asked : Text → Option Text × Option Text × Option Text × Option Text
+check_asked large = (Some (codes "check"), Some (codes "h.csv"), Some (codes "c.txt"), Some large)
 
 -- lines with something wrong, each with what that is
 abbrev check_faulty : List (List Text × List ErrorKind)
@@ -149,12 +154,14 @@ check_faulty =
 abbrev pub IsCheckRead : App → Text → Type 0
 IsCheckRead app name =
     (fault_of app (name ∷ check_line) ≡ [])
-    × (check_asks (subcommand_of app (name ∷ check_line)) ≡ check_asked)
+    × (check_asks (subcommand_of app (name ∷ check_line)) ≡ check_asked (codes "false"))
+    × (fault_of app (name ∷ large_check_line) ≡ [])
+    × (check_asks (subcommand_of app (name ∷ large_check_line)) ≡ check_asked (codes "true"))
     × (map (λ line. fault_of app (name ∷ line.0)) check_faulty ≡ map (λ line. line.1) check_faulty)
 
 check_read : IsCheckRead program (codes "tcc")
 unfolding clap_on_literals
-check_read = (refl, refl, refl)
+check_read = (refl, refl, refl, refl, refl)
 
 -- ---- explain, and what is no subcommand
 

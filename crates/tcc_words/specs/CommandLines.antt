@@ -87,10 +87,13 @@ explain_command levels =
     let sized : App = with_rule (with_rule answered (flag (codes "large"))) slice_option in
     with_rule (with_rule (with_rule sized certificate_option) require_option) (path (codes "history") false)
 
+-- check [--large] HISTORY CERTIFICATE
 abbrev pub check_command : App
-check_command = with_rule (with_rule (new_app (codes "check")) (path (codes "history") true)) (path (codes "certificate") true)
+check_command =
+    let sized : App = with_rule (new_app (codes "check")) (flag (codes "large")) in
+    with_rule (with_rule sized (path (codes "history") true)) (path (codes "certificate") true)
 
--- tcc explain [OPTIONS] [FILE], or tcc check HISTORY CERTIFICATE: the program's name and version, and its subcommands, one of
+-- tcc explain [OPTIONS] [FILE], or tcc check [--large] HISTORY CERTIFICATE: the program's name and version, and its subcommands, one of
 -- which has to be given
 abbrev pub tcc_command : Words → App
 tcc_command levels =
@@ -168,20 +171,21 @@ AsksExplain met (Explain options history certificate large slice quiet) =
     × (option_map string_bytes certificate ≡ certificate_path met)
     × IsFlag (flag_text (codes "large") met) large × (option_map string_bytes slice ≡ slice_path met)
     × IsFlag (flag_text (codes "quiet") met) quiet
-AsksExplain met (Check history certificate) = ⊥
+AsksExplain met (Check history certificate large) = ⊥
 
--- the paths are those that clap finds
+-- the paths are those that clap finds, and it is within the large limits by the flag
 abbrev pub AsksCheck : List Row → Request → Type 0
 AsksCheck rows (Explain options history certificate large slice quiet) = ⊥
-AsksCheck rows (Check history certificate) =
+AsksCheck rows (Check history certificate large) =
     (first_of (codes "history") rows ≡ Some (string_bytes history)) × (first_of (codes "certificate") rows ≡ Some (string_bytes certificate))
+    × IsFlag (one_of (codes "large") rows) large
 
 -- what the subcommand that was met asks for: a check by its name with its two paths; else answers
 abbrev pub AsksBy : Option (Text × List Row) → Request → Type 0
 AsksBy met (Explain options history certificate large slice quiet) =
     (option_map (λ entered. entered.0) met ≢ Some (codes "check")) × AsksExplain met (Explain options history certificate large slice quiet)
-AsksBy None (Check history certificate) = ⊥
-AsksBy (Some entered) (Check history certificate) = (entered.0 ≡ codes "check") × AsksCheck entered.1 (Check history certificate)
+AsksBy None (Check history certificate large) = ⊥
+AsksBy (Some entered) (Check history certificate large) = (entered.0 ≡ codes "check") × AsksCheck entered.1 (Check history certificate large)
 
 abbrev pub Asks : App → List Text → Request → Type 0
 Asks app words request = AsksBy (subcommand_of app words) request
@@ -190,7 +194,7 @@ Asks app words request = AsksBy (subcommand_of app words) request
 abbrev pub GoesTogether : Request → Type 0
 GoesTogether (Explain options history certificate large slice quiet) =
     (large ≡ true → certificate ≡ None) × (large ≡ false → slice ≡ None) × (quiet ≡ true → options.json ≡ false)
-GoesTogether (Check history certificate) = Unit {0}
+GoesTogether (Check history certificate large) = Unit {0}
 
 -- a text, or the line `memory` in its place, goes out with its status
 abbrev pub PrintsHelp : Option (List ℕ) → Option (List ℕ) → ℕ → Type 0

@@ -18,6 +18,8 @@ pub struct Files {
     pub history: String,
     /// The path of the certificate's text.
     pub certificate: String,
+    /// Whether records are taken up to the large limits, and certificates of any version.
+    pub large: bool,
 }
 
 /// The command by which words are read.
@@ -46,9 +48,11 @@ fn files_of(alloc: Global, matches: &ArgMatches) -> Result<Files, Error>
         Request::Check {
             history,
             certificate,
+            large,
         } => Ok(Files {
             history,
             certificate,
+            large,
         }),
         Request::Explain { .. } => unreachable!(),
     }

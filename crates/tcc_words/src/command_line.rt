@@ -47,6 +47,8 @@ pub enum Request {
         history: String,
         /// The path of the certificate's text.
         certificate: String,
+        /// Whether records are taken up to the large limits, and certificates of any version.
+        large: bool,
     },
 }
 
@@ -204,6 +206,11 @@ fn path<'a>(alloc: Global, id: &'a str, name: &'a str, help: &'a str, needed: bo
 pub(crate) fn check_command<'a>(alloc: Global) -> Result<Command<'a>, AllocError>
     ensures { IfOk result (λ made. app_of made ≡ check_command) }
 {
+    let large = flag(
+        alloc,
+        "large",
+        "Takes up to 1048575 transactions of 65535 sessions, and a certificate of any version",
+    );
     let history = path(alloc, "history", "HISTORY", "The file of the records", true);
     let certificate = path(
         alloc,
@@ -212,11 +219,12 @@ pub(crate) fn check_command<'a>(alloc: Global) -> Result<Command<'a>, AllocError
         "The file of the certificate",
         true,
     );
-    let half = Command::new(alloc, "check")
+    let first = Command::new(alloc, "check")
         .about("Says whether a certificate proves its claim about a history")
         .after_help(help::CHECK)
-        .arg(history)?;
-    half.arg(certificate)
+        .arg(large)?;
+    let second = first.arg(history)?;
+    second.arg(certificate)
 }
 
 /// The command by which words are read, with these words for levels.
@@ -365,15 +373,17 @@ fn options_of(alloc: Global, matches: &ArgMatches) -> Result<Request, Error>
     })
 }
 
-/// The two files to check.
+/// The two files to check, and within which limits.
 pub(crate) fn paths_of(alloc: Global, matches: &ArgMatches) -> Result<Request, Error>
     ensures asked { IfOk result (AsksCheck (rows_of (found_of matches.now))) }
     ensures fails { IfErr result (λ e. kind_of e ≡ OutOfMemory) }
 {
+    let large = matches.get_flag("large");
     match (matches.get_str("history"), matches.get_str("certificate")) {
         (Some(history), Some(certificate)) => Ok(Request::Check {
             history: history.to_string(alloc)?,
             certificate: certificate.to_string(alloc)?,
+            large,
         }),
         // Words without both are a fault by clap, so only memory can be wanting.
         _ => Err(Error::from(AllocError)),

@@ -70,6 +70,14 @@ level of its first line; 'tcc explain --certificate PATH' writes one of version 
                             end
 At 'tcc-certificate 2 atomic' an order has no clocks. Version 1 is read as well.
 
+With '--large' HISTORY has up to 1048575 transactions, 65535 sessions and 1048576 keys, and CERTIFICATE
+may be of version 3, which has no tables; one of version 1 or 2 is rejected past the limits without it:
+  tcc-certificate 3 causal  tcc-certificate 3 causal
+  order N S R               cycle N M L
+  (R lines: session, count) (the M links)
+  end                       least R  (where that is claimed, and R lines)
+                            end
+
 Example: one transaction of one session, which stands after the initial one.
   $ printf 'a,begin\\na,w,x,1\\na,commit\\n' > history.csv
   $ printf 'tcc-certificate 2 causal\\norder 2 1\\n0 1\\nclocks\\n0\\n0\\nend\\n' > certificate.txt
@@ -82,7 +90,8 @@ Statuses:
   3   a record breaks a rule, or the history ends inside a transaction
   4   the records are past a limit
   5   out of memory
-  6   a file can't be opened or read, the history has more than 134217728 bytes, or writing failed
+  6   a file can't be opened or read, the history has more than 134217728 bytes, with '--large' 1073741824,
+      or writing failed
   7   rejected: the certificate breaks a rule, named with its place
   8   the text of the certificate has a fault, named with its line
   64  the command line is wrong
