@@ -3,6 +3,7 @@
 //! each search stops at a limit of work.
 use crate::back_edges::back_edges;
 use crate::breadth_first::BreadthFirst;
+use crate::closings::{between, closings};
 use crate::judging::ends;
 use crate::linking::Linker;
 use crate::pairs::{Pair, Pairs, span};
@@ -17,6 +18,9 @@ use tcc_txn::NoMemory;
 
 /// So many links are tried, at most, of each kind.
 const TRIES: usize = 64;
+
+/// So many transactions of a cycle are looked at, at most, whether it is cheaper without them.
+const SHORTCUTS: usize = 256;
 
 /// A search may look at so much, and at so much more for each transaction and read.
 const WORK: u64 = 1 << 21;
@@ -76,6 +80,32 @@ fn has_links(kept: &[Row<u32>]) -> bool {
         }
     }
     false
+}
+
+/// The transactions at which the links begin.
+fn starts(alloc: Global, links: &[Link]) -> Result<Vec<u32>, AllocError> {
+    let mut found = Vec::new(alloc);
+    for link in links {
+        found.push(ends(link).0)?;
+    }
+    Ok(found)
+}
+
+/// The index behind one of so many, of which the first is behind the last.
+fn following(count: usize, index: usize) -> usize {
+    let next = index.saturating_add(1);
+    if next < count { next } else { 0 }
+}
+
+/// All of these numbers but the one at an index.
+fn without(alloc: Global, numbers: &[u32], index: usize) -> Result<Vec<u32>, AllocError> {
+    let mut kept = Vec::new(alloc);
+    for (at, number) in numbers.iter().enumerate() {
+        if at != index {
+            kept.push(*number)?;
+        }
+    }
+    Ok(kept)
 }
 
 impl<'a> Finder<'a> {
@@ -226,6 +256,76 @@ impl<'a> Finder<'a> {
         Ok(())
     }
 
+    /// The cycle of a closing and of two pairs, or of two closings.
+    fn try_closing(
+        &mut self,
+        alloc: Global,
+        closings: &[(u32, u32)],
+        closing: (u32, u32),
+    ) -> Result<(), Halt> {
+        let (from, to) = closing;
+        self.work.take(self.pairs.reads(from).len())?;
+        if let Some(middle) = between(self.pairs, to, from) {
+            return self.along(alloc, &[to, middle, from]);
+        }
+        if closings.binary_search(&(to, from)).is_ok() {
+            self.along(alloc, &[to, from])?;
+        }
+        Ok(())
+    }
+
+    /// Such cycles.
+    fn through_closings(&mut self, alloc: Global, among: &Trimmed<'_>) -> Result<(), Halt> {
+        let closings = closings(alloc, &mut self.work, among)?;
+        for closing in &closings {
+            if !self.goes_on() {
+                break;
+            }
+            self.try_closing(alloc, &closings, *closing)?;
+        }
+        Ok(())
+    }
+
+    /// Leaves the transaction behind a link of the cheapest cycle out, where a link past it costs less than the two that lead
+    /// through it, and says whether it was so.
+    fn shortcut(&mut self, alloc: Global, index: usize) -> Result<bool, Halt> {
+        let Some(links) = &self.cheapest.links else {
+            return Ok(false);
+        };
+        let next = following(links.len(), index);
+        let (Some(before), Some(behind)) = (links.get(index), links.get(next)) else {
+            return Ok(false);
+        };
+        let circle = without(alloc, &starts(alloc, links)?, next)?;
+        if circle.len() < 2 {
+            return Ok(false);
+        }
+        let most = before
+            .cost()
+            .saturating_add(behind.cost())
+            .saturating_sub(1);
+        let past = (ends(before).0, ends(behind).1);
+        let work = &mut self.work;
+        let link = self.linker.link(alloc, work, self.pairs, past, most)?;
+        if link.is_none() {
+            return Ok(false);
+        }
+        let below = self.cheapest.below;
+        self.along(alloc, &circle)?;
+        Ok(self.cheapest.below < below)
+    }
+
+    /// Shortens the cheapest cycle by such links.
+    fn shorten(&mut self, alloc: Global) -> Result<(), Halt> {
+        let mut index = 0;
+        for _turn in 0..SHORTCUTS {
+            if !self.shortcut(alloc, index)? {
+                index = index.saturating_add(1);
+            }
+        }
+        Ok(())
+    }
+
     /// Cycles of pairs.
     fn by_pairs(&mut self, alloc: Global, placed: &[u64]) -> Result<(), NoMemory> {
         let relation = Relation::of(alloc, self.pairs, &[])?;
@@ -245,7 +345,14 @@ impl<'a> Finder<'a> {
         unless_spent(self.through_reads(alloc, &reads))?;
         let back = back_edges(alloc, among)?;
         self.allow();
-        unless_spent(self.through(alloc, among, &back))
+        unless_spent(self.through(alloc, among, &back))?;
+        self.allow();
+        unless_spent(self.shorten(alloc))?;
+        self.allow();
+        if self.goes_on() {
+            unless_spent(self.through_closings(alloc, among))?;
+        }
+        Ok(())
     }
 
     /// Cycles of pairs and kept links, where pairs alone are in no circle.

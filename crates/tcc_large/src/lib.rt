@@ -9,6 +9,7 @@ mod backwards;
 mod breadth_first;
 mod carrying;
 mod cells;
+mod closings;
 mod covering;
 mod cutting;
 mod deciding;
