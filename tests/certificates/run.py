@@ -1,26 +1,33 @@
 #!/usr/bin/env python3
-"""Checks certificates that were altered: each digit of a text replaced by each other digit, and the text cut after each
-byte but the last.
+"""Checks certificates, right ones and altered ones, against a slow test of the text and the rules.
 
-    run.py [--tcc PATH]
+    run.py [--tcc PATH] [--count N] [--seed N]
 
-What `tcc check` has to answer of each is worked out by `definitions.py`, a slow test of the text and the rules. The
-certificates are those that the program writes, and the same in version 1. Each difference is one line; the last line
-is `N passed, M failed`.
+Of small examples each digit of a text is replaced by each other digit, and the text is cut after each byte but the last: of the
+texts that the program writes in version 2, and of the same claims in versions 1 and 3. Of random histories orders and cycles of
+version 3 are made by the definitions (`claims.py`), claimed as they are and with numbers altered and lines changed. What
+`tcc check`, or `tcc check --large`, has to answer of each is worked out from docs/FORMATS.md and docs/MODEL.md alone (`texts.py`,
+`definitions.py`, `rules.py`).
+
+Each difference is one line; the last line is `N passed, M failed`.
 """
 import argparse
 import concurrent.futures
 import os
 import pathlib
+import random
 import subprocess
 import sys
 import tempfile
 
-from definitions import History, outcome, read
-
 TOP = pathlib.Path(__file__).resolve().parent.parent.parent
 sys.path.insert(0, str(TOP / "tests"))
+from claims import altered, claims, own_claim  # noqa: E402
 from counted import status_of  # noqa: E402
+from definitions import History  # noqa: E402
+from drawn import small_history, text_of  # noqa: E402
+from rules import outcome  # noqa: E402
+from texts import read  # noqa: E402
 
 EXAMPLES = TOP / "examples"
 STALE, FORK, CONFLICT, CROSSED = ((EXAMPLES / (name + ".csv")).read_text()
@@ -44,23 +51,34 @@ c,commit
 ASKED = [
     (STALE, "causal", 1),
     (STALE, "causal", 2),
+    (STALE, "causal", 3),
     (STALE, "atomic", 2),
     (FORK, "causal", 2),
     (FORK, "atomic", 1),
+    (FORK, "atomic", 3),
     (CONFLICT, "causal", 1),
+    (CONFLICT, "causal", 3),
     (CONFLICT, "atomic", 2),
     (CROSSED, "causal", 2),
+    (CROSSED, "causal", 3),
     (RELAYED, "causal", 2),
+    (RELAYED, "causal", 3),
     (RELAYED, "atomic", 2),
+    (RELAYED, "atomic", 3),
 ]
 FIRST_LINES = {"causal": b"tcc-certificate 1", "atomic": b"tcc-certificate 1 atomic"}
+LEVELS = ("causal", "atomic")
+SMALL, ANY = (1, 2), (1, 2, 3)
+ALTERED = 8
+# Sessions of aborted transactions alone: more than the small limits have room for, and of no other weight.
+MANY_SESSIONS = "".join("%s%d,begin\n%s%d,abort\n" % (2 * (name, number)) for name in "0z" for number in range(33))
 
 
-def certificate(tcc, records, level, folder):
-    """The certificate that the program writes for the answer, in version 2."""
+def written(tcc, records, level, folder):
+    """The certificate that the program writes."""
     path = os.path.join(folder, "written")
-    subprocess.run([tcc, "explain", "--level", level, "--certificate", path], input=records.encode(),
-                   stdout=subprocess.DEVNULL, timeout=60, check=False)
+    subprocess.run([tcc, "explain", "--level", level, "--certificate", path], input=records.encode(), stdout=subprocess.DEVNULL,
+                   timeout=60, check=False)
     return pathlib.Path(path).read_bytes()
 
 
@@ -69,7 +87,7 @@ def in_version_1(history, level, text):
     said, lines = read(text), text.split(b"\n")
     lines[0] = FIRST_LINES[level]
     if said["kind"] == "cycle":
-        costs, least = history.costs(level), said["least"]
+        costs, least = history.costs(level), said["cost"]
         rows = lines.index(b"far") + 1
         for s in history.all():
             row = (min(costs.get((s, v), least), least) for v in history.all())
@@ -77,8 +95,8 @@ def in_version_1(history, level, text):
     return b"\n".join(lines)
 
 
-def altered(text):
-    """The text, and all texts that are altered, each with what was done."""
+def with_each_digit(text):
+    """The text, all texts with another digit, and its fronts, each with what was done."""
     yield "as it is", text
     for at, byte in enumerate(text):
         digit = text[at:at + 1]
@@ -89,43 +107,74 @@ def altered(text):
         yield "cut after %d bytes" % length, text[:length]
 
 
-def answered(tcc, history, text, folder):
-    """What the program says of a certificate: its line and its status."""
-    with tempfile.NamedTemporaryFile(dir=folder, buffering=0) as file:
-        file.write(text)
-        run = subprocess.run([tcc, "check", history, file.name], capture_output=True, timeout=60, check=False)
-    return run.stdout.decode(errors="backslashreplace"), run.returncode
+class Judge:
+    """The program's check, beside the slow one, of texts about one history."""
+
+    def __init__(self, tcc, records, versions, folder, pool):
+        self.words = [tcc, "check", *(["--large"] if versions == ANY else [])]
+        self.history, self.versions, self.folder, self.pool = History(records), versions, folder, pool
+        with tempfile.NamedTemporaryFile("w", dir=folder, delete=False) as file:
+            file.write(records)
+        self.records, self.path = records, file.name
+
+    def answer(self, text):
+        """What the program says of a certificate: its line and its status."""
+        with tempfile.NamedTemporaryFile(dir=self.folder, buffering=0) as file:
+            file.write(text)
+            run = subprocess.run([*self.words, self.path, file.name], capture_output=True, timeout=60, check=False)
+        return run.stdout.decode(errors="backslashreplace"), run.returncode
+
+    def differences(self, cases):
+        """For each text what was done to it, and what is wrong with the program's answer, or None."""
+        cases = list(cases)
+        for (what, text), answer in zip(cases, self.pool.map(self.answer, (text for _, text in cases))):
+            wanted = outcome(self.history, text, self.versions)
+            if what == "as it is" and wanted[1] != 0:
+                yield what, "no certificate was written, but %r" % text
+            else:
+                yield what, None if answer == wanted else "wanted %r, got %r, of %r" % (wanted, answer, text)
 
 
-def differences(tcc, records, level, version, folder, pool):
-    """For each text what was done to it, and what is wrong with the program's answer, or None."""
-    history, path = History(records), os.path.join(folder, "history")
-    pathlib.Path(path).write_text(records)
-    text = certificate(tcc, records, level, folder)
-    if version == 1:
-        text = in_version_1(history, level, text)
-    cases = list(altered(text))
-    got = pool.map(lambda case: answered(tcc, path, case[1], folder), cases)
-    for (what, case), answer in zip(cases, got):
-        wanted = outcome(history, case)
-        if what == "as it is" and wanted[1] != 0:
-            yield what, "no certificate was written, but %r" % case
-        else:
-            yield what, None if answer == wanted else "wanted %r, got %r" % (wanted, answer)
+def with_digits(tcc, folder, pool):
+    """The altered texts of the examples."""
+    for records, level, version in ASKED:
+        records += MANY_SESSIONS if version == 3 else ""
+        judge = Judge(tcc, records, ANY if version == 3 else SMALL, folder, pool)
+        text = own_claim(judge.history, level) if version == 3 else written(tcc, records, level, folder)
+        if version == 1:
+            text = in_version_1(judge.history, level, text)
+        for what, wrong in judge.differences(with_each_digit(text)):
+            yield "version %d, %s: %s" % (version, level, what), wrong
 
 
-def outcomes(tcc):
+def of_random(tcc, number, dice, folder, pool):
+    """The claims of a random history, as they are and altered."""
+    records = text_of(small_history(dice, 10))
+    if dice.random() < 0.5:
+        records += MANY_SESSIONS
+    judge = Judge(tcc, records, ANY, folder, pool)
+    for level in LEVELS:
+        cases = [("%s, %s" % (what, done), other) for what, text in claims(judge.history, level, dice)
+                 for done, other in [("as claimed", text), *altered(text, ALTERED, dice)]]
+        yield from (("history %d, %s: %s" % (number, level, what), wrong) for what, wrong in judge.differences(cases))
+
+
+def outcomes(tcc, count, seed):
     """What was done to each certificate, each with what is wrong, or None."""
     with tempfile.TemporaryDirectory() as folder, concurrent.futures.ThreadPoolExecutor(os.cpu_count()) as pool:
-        for records, level, version in ASKED:
-            for what, wrong in differences(tcc, records, level, version, folder, pool):
-                yield "version %d, %s: %s" % (version, level, what), wrong
+        yield from with_digits(tcc, folder, pool)
+        dice = random.Random(seed)
+        for number in range(count):
+            yield from of_random(tcc, number, dice, folder, pool)
 
 
 def main():
-    ask = argparse.ArgumentParser(description="Checks altered certificates.")
+    ask = argparse.ArgumentParser(description="Checks certificates, right ones and altered ones.")
     ask.add_argument("--tcc", default=str(TOP / "crates" / "tcc" / "out" / "tcc"), help="another program than the built one")
-    return status_of(outcomes(os.path.abspath(ask.parse_args().tcc)))
+    ask.add_argument("--count", type=int, default=100, metavar="N", help="so many random histories")
+    ask.add_argument("--seed", type=int, default=1, metavar="N", help="of the random histories")
+    asked = ask.parse_args()
+    return status_of(outcomes(os.path.abspath(asked.tcc), asked.count, asked.seed))
 
 
 if __name__ == "__main__":

@@ -144,6 +144,17 @@ def circling(transactions: int, reads: int, keys: int = 1000) -> Transactions:
         yield "s%02d" % (n % 64), read + ["w,k%d,%d" % (n % keys, n + 1)]
 
 
+def one_stale_among_many(count: int, sessions: int) -> Transactions:
+    """Sessions in turn, each of whose transactions reads the last value of any other's key and writes its own; then the first one
+    reads the first value of its own key."""
+    picked, last = random.Random(1), [0] * sessions
+    for n in range(count):
+        own, other = n % sessions, picked.randrange(sessions)
+        last[own] += 1
+        yield "s%d" % own, ["r,k%d,%d" % (other, last[other] - (other == own)), "w,k%d,%d" % (own, last[own])]
+    yield "s0", ["r,k0,1"]
+
+
 def ordinary(size: int) -> str:
     """A history with so many bytes at least: 32 sessions, of whose transactions each writes a key and reads the last value of
     another one."""
@@ -170,7 +181,10 @@ def hard() -> Iterator[Hard]:
     yield Hard("never written", atomic, records_of(never_written(30000, 30000)), "consistent: 60002 transactions, 3 sessions\n")
     yield Hard("crossed", atomic, records_of(crossed(250, 400)), "consistent: 650 transactions, 33 sessions\n")
     yield Hard("written by many", large, records_of(written_by_many(4000, 8000)), "consistent: 24017 transactions, 4002 sessions\n")
+    yield Hard("a key written by many", large, records_of(written_by_many(4000, 40000, "a")),
+               "consistent: 56017 transactions, 4002 sessions\n")
     yield Hard("gathered", large, records_of(gathered(4000, 30000)), "consistent: 64016 transactions, 4002 sessions\n")
     yield Hard("ring", large, records_of(ring(1000, 64, 20000)), "anomaly: ")
     yield Hard("stale beside", large, records_of(stale_beside(64, 255, 40000)), "anomaly: 3 steps, ")
     yield Hard("circling", large, records_of(circling(4095, 100)), "anomaly: 2 steps, cyclic-causality\n")
+    yield Hard("one stale among many", large, records_of(one_stale_among_many(60000, 4096)), "anomaly: 3 steps, overwritten-read\n")

@@ -22,7 +22,7 @@ TOP = HERE.parent.parent
 sys.path.insert(0, str(TOP / "tests"))
 from arguments import status_on_tcc  # noqa: E402
 from compared import first_difference, shown  # noqa: E402
-from histories import hard, ordinary  # noqa: E402
+from histories import gathered, hard, ordinary, records_of  # noqa: E402
 
 WRITERS, WRITES = 400, 250
 KEYS, SESSIONS = 1024, 64
@@ -99,12 +99,18 @@ def reads_of_nothing():
     return (transaction("a", ["r,x,%d" % (n * 250 + k) for k in range(1, 251)]).encode() for n in range(1000))
 
 
+def one_after_the_other():
+    """Many sessions write a key, and who knows of all of them then reads one write of another session after the other."""
+    return [records_of(gathered(4000, 20000)).encode()]
+
+
 # Words, records, the status, how the answer begins, and how many bytes of memory there may be for each byte of records.
 LARGE = [
     ("commas", ["explain"], lambda: all_of(b","), 3, b"row 1: FieldCount\n", 26),
     ("one field", ["explain"], lambda: all_of(b"a"), 3, b"row 1: UnknownWord\n", 4),
     ("empty lines", ["explain"], lambda: all_of(b"\n"), 0, b"consistent: 0 transactions, 0 sessions\norder: init\n", 0),
     ("faults", ["explain"], reads_of_nothing, 2, b"unresolved: 250000 faults\n", 16),
+    ("one after the other", ["explain", "--large"], one_after_the_other, 0, b"consistent: 44016 transactions, 4002 sessions\n", 40),
     ("faults as JSON", ["explain", "--json"], reads_of_nothing, 2, b'{"answer":"unresolved","faults":[', 20),
 ]
 

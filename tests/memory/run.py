@@ -96,7 +96,9 @@ clocks
 0 1 0 0
 end
 """
-FILES = {"certificate": FORK_CERTIFICATE, "two-stale-reads": TWO_STALE_READS}
+LARGE_ORDER = b"tcc-certificate 3 causal\norder 5 4 4\n0 1\n1 1\n2 1\n3 1\nend\n"
+LARGE_CYCLE = b"tcc-certificate 3 causal\ncycle 3 2 3\nS 0 1\nD 1 0 x 2 1\nS 1 2\nleast 0\nend\n"
+FILES = {"certificate": FORK_CERTIFICATE, "two-stale-reads": TWO_STALE_READS, "large-order": LARGE_ORDER, "large-cycle": LARGE_CYCLE}
 # The file of standard input, or none; the words after `tcc`, the answers, and the status. `@NAME` is one of these files.
 ANSWERS = [
     (STALE, ["explain"], STALE_READ, 1),
@@ -117,6 +119,10 @@ ANSWERS = [
     (None, ["check", EXAMPLES / "intermediate-read.csv", "@certificate"],
      b"unresolved: 1 faults\nIntermediate b/1 op 1 x 1\n", 2),
     (None, ["check", "@certificate", "@certificate"], b"row 1: UnknownWord\n", 3),
+    (None, ["check", "--large", STALE, "@large-cycle"], b"accepted: cycle, 3 steps\n", 0),
+    (None, ["check", "--large", FORK, "@large-order"], b"accepted: order\n", 0),
+    (None, ["check", "--large", FORK, "@certificate"], b"accepted: order\n", 0),
+    (None, ["check", "--large", FORK, "@large-cycle"], b"rejected: rule 1 at 0 0\n", 7),
 ]
 # The same, by one worker and by two.
 SEARCHES = [(STALE, STALE_READ, 1), (FORK, FORK_ORDER, 0), ("@two-stale-reads", STALE_READ, 1)]

@@ -1,0 +1,168 @@
+"""What a check has to say of any text, by the rules of docs/FORMATS.md, slowly."""
+from definitions import INIT, stands_before
+from texts import Fault, lowest, read
+
+STATUS = {"accepted": 0, "rejected": 7, "certificate": 8}
+# Up to this cost it is judged that no cycle costs less.
+MOST_JUDGED = 4
+
+
+def ends(link):
+    return link[1], link[2]
+
+
+def numbers_of(link):
+    if link[0] != "D":
+        return set(ends(link))
+    return {link[1], link[2], link[4]}.union(*map(ends, link[5]))
+
+
+def cost_of(link):
+    return len(link[5]) + 1 if link[0] == "D" else 1
+
+
+def is_step(history, step):
+    kind, a, b, *key = step
+    return history.is_session_pair(a, b) if kind == "S" else history.is_read_pair(a, b, *key)
+
+
+def is_link(history, level, link):
+    if link[0] != "D":
+        return is_step(history, link)
+    _, b, a, key, c, walk = link
+    return (history.may_contradict(b, a, key, c) and all(is_step(history, step) for step in walk)
+            and [step[1] for step in walk] + [c] == [b] + [step[2] for step in walk]
+            and (level == "causal" or len(walk) == 1))
+
+
+def first_of(broken):
+    return min(broken, default=None)
+
+
+def are_below(history, links):
+    return all(number < history.count for link in links for number in numbers_of(link))
+
+
+def broken_link(history, said):
+    """Where rule 2 is broken."""
+    links = said["links"]
+    begins = [ends(link)[1] for link in links[-1:] + links[:-1]]
+    wrong = [(i, 0) for i, (at, link) in enumerate(zip(begins, links), 1)
+             if ends(link)[0] != at or not is_link(history, said["level"], link)]
+    return first_of(wrong or [(0, 0)] * (sum(map(cost_of, links)) != said["cost"]))
+
+
+def cycle_rules(history, said):
+    """The rules for a cycle in order, each with where it is broken first, if it is."""
+    every, near, cost, version, level = history.all(), said["near"], said["cost"], said["version"], said["level"]
+
+    def far(s, v):
+        return said["far"][s][v - lowest(version, s)]
+
+    sizes = (said["count"] == history.count and are_below(history, said["links"])
+             and all(n <= cost for row in near + said["far"] for n in row))
+    yield 1, None if sizes else (0, 0)
+    yield 2, broken_link(history, said)
+    pairs, contradictions = history.pairs(), history.contradictions()
+    yield 3, first_of((a, b) for a, b in pairs if near[a][b] > 1)
+    yield 4, first_of((a, c) for a in every for b, c in pairs if level == "causal" and near[a][c] > near[a][b] + 1)
+    weights = [(u, v, 1) for u, v in pairs] + [(b, a, 1 + near[b][c]) for b, a, c in contradictions]
+    yield 5, first_of((s, v) for s, v, weight in weights if v >= lowest(version, s) and far(s, v) > weight)
+    yield 6, first_of((s, v) for s in every for u, v, weight in weights
+                      if min(u, v) >= lowest(version, s) and far(s, v) > far(s, u) + weight)
+    yield 7, first_of((s, s) for s in every if far(s, s) < cost)
+
+
+def order_rules(history, said):
+    """The same for an order."""
+    order, clocks, pairs = said["order"], said.get("clocks"), history.pairs()
+
+    def has(c, b):
+        owner, place = history.at[b]
+        return b == INIT or clocks[c][owner] >= place
+
+    def may_reach(b, c):
+        return history.is_pair(b, c) if clocks is None else has(c, b)
+
+    yield 1, None if said["count"] == history.count and said["sessions"] == len(history.sessions) else (0, 0)
+    kept = (sorted(order) == list(history.all()) and all(stands_before(order, a, b) for a, b in pairs)
+            and (clocks is None
+                 or all(has(c, b) and all(x <= y for x, y in zip(clocks[b], clocks[c])) for b, c in pairs)))
+    yield 8, None if kept else (0, 0)
+    yield 9, first_of((b, a) for b, a, c in history.contradictions()
+                      if may_reach(b, c) and not stands_before(order, b, a))
+
+
+def told(history, runs):
+    """The order that runs tell: `init`, and then of each run the next transactions of its session. None where one is of no session
+    or goes past its end, or where a session's runs end before it does."""
+    left = {session: history.of_session(session) for session in range(len(history.sessions))}
+    order = [INIT]
+    for session, length in runs:
+        if length > len(left.get(session, [])):
+            return None
+        order += left[session][:length]
+        left[session] = left[session][length:]
+    return None if any(left.values()) else order
+
+
+def large_order_rules(history, said):
+    """The rules of version 3 for an order."""
+    order = told(history, said["runs"])
+    sizes = said["count"] == history.count and said["sessions"] == len(history.sessions) and order is not None
+    yield 1, None if sizes else (0, 0)
+    walks, pairs = history.walks(said["level"]), history.read_pairs()
+    yield 8, first_of((a, c) for a, c in pairs if not stands_before(order, a, c))
+    yield 9, first_of((b, a) for b, a, c in history.contradictions() if (b, c) in walks and not stands_before(order, b, a))
+
+
+def large_cycle_rules(history, said):
+    """The same for a cycle."""
+    cost, least = said["cost"], said["least"]
+    needed = least is None or (least == [] if cost <= MOST_JUDGED else told(history, least) is not None)
+    yield 1, None if said["count"] == history.count and are_below(history, said["links"]) and needed else (0, 0)
+    yield 2, broken_link(history, said)
+    if least is None:
+        return
+    yield 3, first_of((a, c) for a, c in history.read_pairs() if cost in (3, 4) and is_round(history, cost, a, c))
+    yield 4, first_of((b, a) for b, a, c in history.contradictions()
+                      if cost == 4 and history.is_pair(b, c) and history.is_pair(a, b))
+    yield 6, None if cost <= MOST_JUDGED else (0, 0)
+
+
+def is_round(history, cost, a, c):
+    """Whether a pair leads from c, which reads from a, back to a, or, where the cycle that is judged costs four, to what a reads from."""
+    return history.is_pair(c, a) or (cost == 4 and any(history.is_pair(c, d) for _, d in history.reads[a]))
+
+
+RULES = {(1, "order"): order_rules, (2, "order"): order_rules, (3, "order"): large_order_rules,
+         (1, "cycle"): cycle_rules, (2, "cycle"): cycle_rules, (3, "cycle"): large_cycle_rules}
+
+
+def is_true(history, said):
+    """Whether the claim is true, whatever stands beside it."""
+    if said["kind"] == "order":
+        order = said["order"] if "order" in said else told(history, said["runs"])
+        return history.is_commit_order(order, said["level"])
+    return said.get("least", []) is None or said["cost"] == history.least_cost(said["level"])
+
+
+def claim_of(said):
+    """How an accepted claim is told."""
+    if said["kind"] == "order":
+        return "order"
+    return "cycle, %d steps" % said["cost"] + (", least not claimed" if said.get("least", []) is None else "")
+
+
+def outcome(history, text, versions=(1, 2)):
+    """The line of a check of the text, and its status."""
+    try:
+        said = read(text, versions)
+    except Fault as fault:
+        return "certificate line %d: %s\n" % fault.args, STATUS["certificate"]
+    for rule, at in RULES[said["version"], said["kind"]](history, said):
+        if at is not None:
+            return "rejected: rule %d at %d %d\n" % (rule, *at), STATUS["rejected"]
+    if not is_true(history, said):
+        raise AssertionError("the rules let a false claim through: %r" % text)
+    return "accepted: %s\n" % claim_of(said), STATUS["accepted"]

@@ -1,0 +1,50 @@
+"""Random histories, each read of which is of a last write."""
+import random
+from dataclasses import dataclass, field
+from typing import Dict, List, Tuple
+
+
+@dataclass
+class Transaction:
+    """A committed transaction: its session and place, and what it reads before it writes."""
+
+    session: str
+    place: int
+    reads: List[Tuple[str, int]] = field(default_factory=list)  # a key, and the value read
+    writes: List[Tuple[str, int]] = field(default_factory=list)
+
+
+def history_of(dice: random.Random, sessions: int, count: int) -> List[Transaction]:
+    """A random history: each session's transactions in order, with values that are read from anywhere."""
+    keys = ["k%d" % number for number in range(dice.randrange(1, 4))]
+    places: Dict[str, int] = {}
+    history = []
+    for number in range(count):
+        session = "s%03d" % dice.randrange(sessions)
+        places[session] = places.get(session, 0) + 1
+        writes = [(key, number * 10 + index + 1) for index, key in enumerate(keys) if dice.random() < 0.5]
+        history.append(Transaction(session, places[session], writes=writes))
+    late = dice.choice((3, 8, count))  # how far back or forth values are read from
+    for number, one in enumerate(history):
+        near = history[max(0, number - late):number] if dice.random() < 0.97 else history
+        for key in keys:
+            values = [0] + [value for other in near if other is not one for at, value in other.writes if at == key]
+            one.reads += [(key, dice.choice(values)) for _ in range(dice.choice((0, 1, 1, 2)))]
+    return history
+
+
+def small_history(dice: random.Random, most: int = 14) -> List[Transaction]:
+    """One of a few sessions, with fewer transactions than this."""
+    sessions = dice.randrange(1, 6)
+    return history_of(dice, sessions, dice.randrange(1, most))
+
+
+def text_of(history: List[Transaction]) -> str:
+    """The records."""
+    lines = []
+    for one in history:
+        lines.append("%s,begin" % one.session)
+        lines += ["%s,r,%s,%d" % (one.session, key, value) for key, value in one.reads]
+        lines += ["%s,w,%s,%d" % (one.session, key, value) for key, value in one.writes]
+        lines.append("%s,commit" % one.session)
+    return "\n".join(lines) + "\n"
