@@ -5,3 +5,4 @@ pub mod MarkLemmas
 pub mod Grown
 pub mod MeetingLemmas
 pub mod PricedLemmas
+pub mod BackLemmas

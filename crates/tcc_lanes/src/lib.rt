@@ -2,6 +2,7 @@
 //! for each transaction. For N transactions and R reads a level takes N + R steps, whatever the lanes.
 #![tactic(auto)]
 
+pub mod laws;
 mod marking;
 mod pricing;
 mod spreading;
