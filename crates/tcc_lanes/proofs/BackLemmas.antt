@@ -1,0 +1,123 @@
+-- Cycles where all pairs rise.
+use Rattle.std.proofs.Common.{◌≡◌, ◌≢◌, ◌<◌, ◌≤◌, ◌+◌, ◌-◌, ◌⊎◌, inl, inr, ℕ, List, [], ◌∷◌, ◌++◌, length, take, drop, refl, sym, ap, subst, ◌∙◌, arith}
+use Rattle.std.specs.List.{Contains}
+use Rattle.std.proofs.lemmas.Bool.{cases_lt}
+use Rattle.std.proofs.lemmas.List.{drop_more, take-append-drop}
+use Rattle.tcc_graph.specs.Levels.{Judged}
+use Rattle.tcc_graph.specs.Links.{IsLink, IsReason, cost, link_from, link_to}
+use Rattle.tcc_graph.specs.Routes.{IsCycle, IsRoute, LinksLead}
+use Rattle.tcc_graph.specs.declared.link.Link.{Link}
+use Rattle.tcc_graph.specs.declared.link.Link.TheVariants as link
+use Rattle.tcc_graph.specs.declared.step.Step.{Step}
+use Rattle.tcc_graph.proofs.Linking.{cost_append, cost_around, derived_cost, lead_append, lead_split, route_on}
+use Rattle.tcc_least.specs.LeadingBack.{HasLinkBack, Rises}
+use Rattle.tcc_least.specs.Shapes.{NoneBelow}
+use Rattle.tcc_least.proofs.LeadingBack.{link_back}
+use Rattle.tcc_lanes.specs.Contradicted.{HasCheaper, IsContradicted, IsSpanned}
+
+-- links up to one of them, and behind it
+record Parted (links : List Link) (l : Link) : Type 0 where
+  front : List Link
+  behind : List Link
+  is : links ≡ front ++ l ∷ behind
+
+parted : (links : List Link) (l : Link) → Contains links l → Parted links l
+parted links l (k, inside, at) = record {
+  front = take k links;
+  behind = drop (k + 1) links;
+  is =
+      sym (take-append-drop k links)
+      ∙ ap (λ rest. take k links ++ rest) (drop_more links k l inside ∙ ap (λ m. m ∷ drop (k + 1) links) at);
+}
+
+module _ (j : Judged) (rank : ℕ → ℕ) (rises : Rises j.history rank) where
+  -- a cycle by one of its derived links: what leads to it, and what leads on from it
+  record Turned (s : ℕ) (links : List Link) (b : ℕ) (a : ℕ) (x : List ℕ) (c : ℕ) (walk : List Step) : Type 0 where
+    front : List Link
+    behind : List Link
+    comes : LinksLead j s b front
+    reason : IsReason j b a x c walk
+    goes : LinksLead j a s behind
+    costs : cost links ≡ cost front + ((length walk + 1) + cost behind)
+
+  turned : (s : ℕ) (links : List Link) (b a : ℕ) (x : List ℕ) (c : ℕ) (walk : List Step) → IsCycle j s links → Contains links (link.Derived b a x c walk)
+      → Turned s links b a x c walk
+  turned s links b a x c walk cycle there =
+      let p = parted links (link.Derived b a x c walk) there in
+      let (m, front, later) = lead_split j s s p.front (link.Derived b a x c walk ∷ p.behind) (subst (LinksLead j s s) p.is cycle.1) in
+      record {
+        front = p.front;
+        behind = p.behind;
+        comes = subst (λ (z : ℕ). LinksLead j s z p.front) (sym later.0) front;
+        reason = later.1;
+        goes = later.2;
+        costs = omega (arith, ap cost p.is, cost_around p.front (link.Derived b a x c walk) p.behind, derived_cost b a x c walk);
+      }
+
+  some_route : (a b : ℕ) (links : List Link) → b ≢ a → LinksLead j a b links → IsRoute j a b links
+  some_route a b [] other lead = absurd (other (sym lead))
+  some_route a b (l ∷ links) other lead = (omega arith, lead)
+
+  pub cheaper_none : (n : ℕ) → NoneBelow j n → (a : ℕ) (x : List ℕ) (c : ℕ) → IsContradicted j rank a x c → HasCheaper j n a x c → ⊥
+  cheaper_none n none a x c contradicted (b, walk, links, route, reason, cheap) =
+      let longer = route_on j a b a links (link.Derived b a x c walk) route refl refl reason in
+      omega (arith, none a (links ++ link.Derived b a x c walk ∷ []) longer.0, longer.1, derived_cost b a x c walk, cheap)
+
+  pub none_cheaper : (n : ℕ) → ((a : ℕ) (x : List ℕ) (c : ℕ) → IsContradicted j rank a x c → HasCheaper j n a x c → ⊥) → NoneBelow j n
+  none_cheaper n none s links cycle = go (cases_lt (cost links) n)
+    where
+      by : cost links < n → HasLinkBack rank links → ⊥
+      by few (b, a, x, c, walk, there, low) =
+          let w = turned s links b a x c walk cycle there in
+          none a x c (b, walk, w.reason, low) (
+            b,
+            walk,
+            w.behind ++ w.front,
+            some_route a b (w.behind ++ w.front) w.reason.0.0 (lead_append j a s b w.behind w.front w.goes w.comes),
+            w.reason,
+            omega (arith, few, w.costs, cost_append w.behind w.front),
+          )
+
+      go : (cost links < n) ⊎ (n ≤ cost links) → n ≤ cost links
+      go (inr much) = much
+      go (inl few) = absurd (by few (link_back j rank rises s links cycle))
+
+  -- a derived link leads down over a rank
+  abbrev Crossed : ℕ → Type 0
+  Crossed q = (b : ℕ) × (a : ℕ) × (x : List ℕ) × (c : ℕ) × (walk : List Step) × IsReason j b a x c walk × (rank a ≤ q) × (q < rank b)
+
+  -- what leads down over it has one that does
+  crossing : (u v q : ℕ) (links : List Link) → LinksLead j u v links → q < rank u → rank v ≤ q
+      → Crossed q
+  crossing u v q [] lead high low = absurd (omega (arith, high, low, ap rank lead))
+  crossing u v q (l ∷ links) lead high low = go (λ still. crossing (link_to l) v q links lead.2 still low) (cases_lt q (rank (link_to l)))
+    where
+      from : q < rank (link_from l)
+      from = subst (λ (z : ℕ). q < rank z) (sym lead.0) high
+
+      over : (l : Link) → IsLink j l → q < rank (link_from l) → rank (link_to l) ≤ q
+          → Crossed q
+      over (link.Session a b) is up down = absurd (omega (arith, rises a b (inl is), up, down))
+      over (link.Reads a b x) is up down = absurd (omega (arith, rises a b (inr (x, is)), up, down))
+      over (link.Derived b a x c walk) is up down = (b, a, x, c, walk, is, down, up)
+
+      go : (q < rank (link_to l) → Crossed q) → (q < rank (link_to l)) ⊎ (rank (link_to l) ≤ q) → Crossed q
+      go later (inl still) = later still
+      go later (inr down) = over l lead.1 from down
+
+  pub spanned : (v : ℕ) (links : List Link) → IsCycle j v links → IsSpanned j rank v
+  spanned v links cycle = by (link_back j rank rises v links cycle)
+    where
+      by : HasLinkBack rank links → IsSpanned j rank v
+      by (b, a, x, c, walk, there, low) = go (cases_lt (rank v) (rank a)) (cases_lt (rank b) (rank v))
+        where
+          w : Turned v links b a x c walk
+          w = turned v links b a x c walk cycle there
+
+          go : (rank v < rank a) ⊎ (rank a ≤ rank v) → (rank b < rank v) ⊎ (rank v ≤ rank b) → IsSpanned j rank v
+          go (inr below) (inr above) = (b, a, x, c, walk, w.reason, below, above)
+          go (inl high) q =
+              let (d, e, y, f, other, is, down, up) = crossing a v (rank v) w.behind w.goes high (omega arith) in (d, e, y, f, other, is, down, omega (arith, up))
+          go (inr p) (inl late) =
+              let (d, e, y, f, other, is, down, up) = crossing v b (rank v - 1) w.front w.comes (omega (arith, late)) (omega (arith, late)) in
+              (d, e, y, f, other, is, omega (arith, down), omega (arith, up))

@@ -1,0 +1,57 @@
+-- Words of marks: what is joined, what two have in common, and one mark more.
+use Rattle.std.proofs.Common.{◌≡◌, ◌≢◌, ◌<◌, ◌↔◌, ◌⊎◌, inl, inr, ℕ, sym, subst, ◌∙◌, arith, w64, ◌*◌, ◌%◌, ◌^◌}
+use Rattle.std.specs.Prelude.{bit_and, bit_or}
+use Rattle.std.specs.Int.{bit_at, bit_not}
+use Rattle.std.proofs.lemmas.Bool.{cases_eq}
+use Rattle.std.proofs.lemmas.Nat.Bits.{bit_at-lt, bit_at_or, bit_at_and, bit_at_not, bit_at-zero, bit_at_set_same, bit_at_set_other}
+use Rattle.tcc_lanes.specs.private.Marks.{HasLane}
+
+-- a mark is a 1, and none a 0
+bit_cases : (word i : ℕ) → (bit_at word i ≡ 1) ⊎ (bit_at word i ≡ 0)
+bit_cases word i = go (cases_eq (bit_at word i) 1)
+  where
+    go : (bit_at word i ≡ 1) ⊎ (bit_at word i ≢ 1) → (bit_at word i ≡ 1) ⊎ (bit_at word i ≡ 0)
+    go (inl one) = inl one
+    go (inr other) = inr (omega (arith, bit_at-lt word i))
+
+pub none_has : (i : ℕ) → HasLane 0 i → ⊥
+none_has i has = omega (arith, has, bit_at-zero i)
+
+pub either_has : (a b i : ℕ) → HasLane (bit_or a b) i ↔ (HasLane a i ⊎ HasLane b i)
+either_has a b i = (there (bit_cases a i) (bit_cases b i), back)
+  where
+    there : (bit_at a i ≡ 1) ⊎ (bit_at a i ≡ 0) → (bit_at b i ≡ 1) ⊎ (bit_at b i ≡ 0) → HasLane (bit_or a b) i → HasLane a i ⊎ HasLane b i
+    there (inl one) q has = inl one
+    there (inr none) (inl one) has = inr one
+    there (inr none) (inr other) has = absurd (omega (arith, has, bit_at_or a b i, none, other))
+
+    back : HasLane a i ⊎ HasLane b i → HasLane (bit_or a b) i
+    back (inl one) = omega (arith, bit_at_or a b i, one, bit_at-lt b i)
+    back (inr one) = omega (arith, bit_at_or a b i, one, bit_at-lt a i)
+
+pub both_have : (a b i : ℕ) → HasLane (bit_and a b) i ↔ (HasLane a i × HasLane b i)
+both_have a b i = ((λ has. (omega (arith, has, bit_at_and a b i, bit_at-lt a i), omega (arith, has, bit_at_and a b i, bit_at-lt b i))), λ w. omega (arith, bit_at_and a b i, w.0, w.1))
+
+pub lacks : (a b i : ℕ) → b < 2 ^ 64 → i < 64 → HasLane (bit_and a (bit_not w64 b)) i ↔ (HasLane a i × (HasLane b i → ⊥))
+lacks a b i small within = (there, λ w. back (bit_cases b i) w)
+  where
+    there : HasLane (bit_and a (bit_not w64 b)) i → HasLane a i × (HasLane b i → ⊥)
+    there has =
+        let w = (both_have a (bit_not w64 b) i).0 has in
+        (w.0, λ one. omega (arith, w.1, bit_at_not w64 b i small within, one))
+
+    back : (bit_at b i ≡ 1) ⊎ (bit_at b i ≡ 0) → HasLane a i × (HasLane b i → ⊥) → HasLane (bit_and a (bit_not w64 b)) i
+    back (inl one) w = absurd (w.1 one)
+    back (inr none) w = (both_have a (bit_not w64 b) i).1 (w.0, omega (arith, bit_at_not w64 b i small within, none))
+
+pub one_more : (word lane i : ℕ) → lane < 64 → i < 64 → HasLane (bit_or word (1 * 2 ^ lane % 2 ^ 64)) i ↔ (HasLane word i ⊎ (i ≡ lane))
+one_more word lane i inside within = (there (cases_eq i lane), back (cases_eq i lane))
+  where
+    there : (i ≡ lane) ⊎ (i ≢ lane) → HasLane (bit_or word (1 * 2 ^ lane % 2 ^ 64)) i → HasLane word i ⊎ (i ≡ lane)
+    there (inl same) has = inr same
+    there (inr other) has = inl (sym (bit_at_set_other w64 word lane inside i other) ∙ has)
+
+    back : (i ≡ lane) ⊎ (i ≢ lane) → HasLane word i ⊎ (i ≡ lane) → HasLane (bit_or word (1 * 2 ^ lane % 2 ^ 64)) i
+    back (inl same) w = subst (λ (k : ℕ). HasLane (bit_or word (1 * 2 ^ lane % 2 ^ 64)) k) (sym same) (bit_at_set_same w64 word lane inside)
+    back (inr other) (inl has) = bit_at_set_other w64 word lane inside i other ∙ has
+    back (inr other) (inr same) = absurd (other same)

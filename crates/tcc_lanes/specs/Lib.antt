@@ -1,0 +1,3 @@
+pub mod Contradicted
+pub mod Prices
+pub mod private

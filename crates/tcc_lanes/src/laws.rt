@@ -1,0 +1,20 @@
+//! The laws of cycles where all pairs rise, as they do by the places of an order that keeps them: which readings to look at, and
+//! which transactions.
+ghost use Rattle.std.specs.Prelude.{◌↔◌, ℕ, List};
+ghost use Rattle.tcc_graph.specs.Levels.{Judged};
+ghost use Rattle.tcc_graph.specs.Routes.{IsCycle};
+ghost use Rattle.tcc_graph.specs.declared.link.Link.{Link};
+ghost use Rattle.tcc_least.specs.LeadingBack.{Rises};
+ghost use Rattle.tcc_least.specs.Shapes.{NoneBelow};
+ghost use Rattle.tcc_lanes.specs.Contradicted.{HasCheaper, IsContradicted, IsSpanned};
+
+/// No cycle costs less than n exactly where none does that comes back by a reading that the ranks contradict.
+pub fn contradicted()
+    ensures { (j : Judged) (rank : ℕ → ℕ) → Rises j.history rank → (n : ℕ) → NoneBelow j n
+        ↔ ((a : ℕ) (x : List ℕ) (c : ℕ) → IsContradicted j rank a x c → HasCheaper j n a x c → ⊥) }
+{}
+
+/// Each transaction of a cycle stands where a derived link leads back over it.
+pub fn spanned()
+    ensures { (j : Judged) (rank : ℕ → ℕ) → Rises j.history rank → (v : ℕ) (links : List Link) → IsCycle j v links → IsSpanned j rank v }
+{}

@@ -1,0 +1,12 @@
+//! Multi-source breadth-first search (Then et al., VLDB 2014) along the pairs of a history: 64 lanes at a time, a word of marks
+//! for each transaction. For N transactions and R reads a level takes N + R steps, whatever the lanes.
+#![tactic(auto)]
+
+pub mod laws;
+mod marking;
+mod pricing;
+mod spreading;
+mod walking;
+mod words;
+
+pub use pricing::{PricedLink, priced_links};
