@@ -11,23 +11,25 @@ use std::thread::{self, Threads};
 use std::time::Clock;
 use tcc_files::{
     Apart, Input, Quiet, Telling, check_large_opened, check_opened, is_waited_for, open_both,
-    open_input, open_output, print_unopened,
+    open_input, open_outputs, print_unopened,
 };
 use tcc_large_run::run_large;
 use tcc_run::{OpenGate, Options, Status, run_explain};
 use tcc_words::{Request, read};
 use watch::Watch;
 
-/// Runs `explain --large`, with a file for a slice if one is given. At a terminal a run that takes longer shows what it is doing.
+/// Runs `explain --large`, with files for the certificate and for a slice if they are given. At a terminal a run that takes longer
+/// shows what it is doing.
 fn run_shown<W: Write>(
     rt: &HostRuntime,
     threads: &(impl Threads + Wait + Clock + Sync),
     options: Options,
     input: Telling<'_, Input>,
+    certificate: Option<Telling<'_, Apart>>,
     slice: Option<Telling<'_, Apart>>,
     out: &mut W,
 ) -> u8 {
-    let mut certificate: Option<Telling<'_, Apart>> = None;
+    let mut certificate = certificate;
     let mut slice = slice;
     let mut notes = rt.stderr();
     let is_shown = is_waited_for(rt, input.stream());
@@ -53,28 +55,32 @@ fn run_shown<W: Write>(
     })
 }
 
-/// Explains the records of the input, up to the large limits or the small ones, and gives the status of the run. If a path is
-/// given, its file is for what comes behind the answers: a slice, or a certificate.
+/// Explains the records of the input, up to the large limits or the small ones, and gives the status of the run. If paths are
+/// given, their files are for what comes behind the answers: the certificate of the last, and a slice.
 fn explain<W: Write>(
     rt: &HostRuntime,
     threads: &(impl Threads + Wait + Clock + Sync),
     options: Options,
     large: bool,
     input: Telling<'_, Input>,
-    path: &Option<String>,
+    certificate: &Option<String>,
+    slice: &Option<String>,
     out: &mut W,
 ) -> u8 {
-    match open_output(rt, path.as_deref(), input.stream()) {
-        Ok(file) if large => run_shown(rt, threads, options, input, file, out),
-        Ok(file) => {
-            let mut file = file;
+    let opened = open_outputs(rt, certificate.as_deref(), slice.as_deref(), input.stream());
+    match opened {
+        Ok((certificate, slice)) if large => {
+            run_shown(rt, threads, options, input, certificate, slice, out)
+        }
+        Ok((certificate, _slice)) => {
+            let mut certificate = certificate;
             let mut notes = rt.stderr();
             run_explain(
                 threads,
                 rt.alloc(),
                 input,
                 out,
-                &mut file,
+                &mut certificate,
                 &mut notes,
                 options,
                 &OpenGate,
@@ -101,8 +107,16 @@ fn main(rt: HostRuntime) -> ExitCode {
             out.leave_out_orders(quiet);
             match open_input(&rt, history.as_deref()) {
                 Ok(input) => {
-                    let path = if large { &slice } else { &certificate };
-                    explain(&rt, &rt, options, large, input, path, &mut out)
+                    explain(
+                        &rt,
+                        &rt,
+                        options,
+                        large,
+                        input,
+                        &certificate,
+                        &slice,
+                        &mut out,
+                    )
                 }
                 Err(error) => print_unopened(error.kind(), options.json, &mut out),
             }

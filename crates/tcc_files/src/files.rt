@@ -1,6 +1,7 @@
 //! The files that the command line names.
-ghost use Rattle.std.specs.Prelude.{◌≡◌, IfOk, IfSome, MatchResult, false};
+ghost use Rattle.std.specs.Prelude.{◌≡◌, ◌↔◌, ⊤, IfOk, IfSome, IsTrue, MatchOption, MatchResult, false};
 ghost use Rattle.std.specs.IoError.{error_kind};
+ghost use Rattle.tcc_files.specs.FileIds.{AreSame};
 ghost use Rattle.tcc_files.specs.Files.{AreBothGiven, IsInputOf, PrintsUnopened};
 ghost use Rattle.tcc_large_check.specs.LargeChecks.{large_check};
 ghost use Rattle.tcc_verdict.specs.Checking.{IsRun, PrintsOutcome};
@@ -63,6 +64,38 @@ pub fn open_output<'a>(
         }
         None => Ok(None),
     }
+}
+
+/// Whether both are given, and are the same file.
+fn are_one(one: &Option<Telling<'_, Apart>>, other: &Option<Telling<'_, Apart>>) -> bool
+    ensures { MatchOption one.now (result ≡ false) (λ a. MatchOption other.now (result ≡ false)
+        (λ b. IsTrue result ↔ AreSame a.stream.id b.stream.id)) }
+{
+    match (one, other) {
+        (Some(one), Some(other)) => one.stream().is_same(other.stream()),
+        _ => false,
+    }
+}
+
+/// Makes the file for a certificate and that for a slice, each if its path is given, as `open_output` does. They can't be one file.
+pub fn open_outputs<'a>(
+    rt: &HostRuntime,
+    certificate: Option<&'a str>,
+    slice: Option<&'a str>,
+    input: &Input,
+) -> io::Result<(Option<Telling<'a, Apart>>, Option<Telling<'a, Apart>>)>
+    ensures certificate { IfOk result (λ both. AreBothGiven certificate.entry both.0) }
+    ensures slice { IfOk result (λ both. AreBothGiven slice.entry both.1) }
+    ensures two { IfOk result (λ both. MatchOption both.0 ⊤ (λ a. MatchOption both.1 ⊤ (λ b. AreSame a.stream.id b.stream.id → ⊥))) }
+{
+    let first = open_output(rt, certificate, input)?;
+    let second = open_output(rt, slice, input)?;
+    if are_one(&first, &second) {
+        let message = "'--slice': it is the file of the certificate";
+        let _ = eprintln!(rt; "{message}");
+        return Err(io::Error::new(ErrorKind::ResourceBusy, message));
+    }
+    Ok((first, second))
 }
 
 /// Writes that a file can't be opened or made, and gives the status of the run.

@@ -9,7 +9,8 @@ mod telling;
 mod terminal;
 
 pub use files::{
-    check_large_opened, check_opened, open_both, open_input, open_output, print_unopened,
+    check_large_opened, check_opened, open_both, open_input, open_output, open_outputs,
+    print_unopened,
 };
 pub use input::Input;
 pub use opening::Apart;

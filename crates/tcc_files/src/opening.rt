@@ -146,6 +146,15 @@ impl Apart {
     }
 }
 
+impl Apart {
+    /// Whether both are the same file.
+    pub(crate) fn is_same(&self, other: &Apart) -> bool
+        ensures { IsTrue result ↔ AreSame self.now.id other.now.id }
+    {
+        is_same(self.id, other.id)
+    }
+}
+
 impl Write for Apart {
     fn write(&mut self, bytes: &[u8]) -> io::Result<usize> {
         self.file.write(bytes)

@@ -190,10 +190,10 @@ AsksBy (Some entered) (Check history certificate large) = (entered.0 ≡ codes "
 abbrev pub Asks : App → List Text → Request → Type 0
 Asks app words request = AsksBy (subcommand_of app words) request
 
--- of a large history no certificate is asked for, and of another one no slice; and JSON keeps its orders
+-- a slice is asked for only of a large history; and JSON keeps its orders
 abbrev pub GoesTogether : Request → Type 0
 GoesTogether (Explain options history certificate large slice quiet) =
-    (large ≡ true → certificate ≡ None) × (large ≡ false → slice ≡ None) × (quiet ≡ true → options.json ≡ false)
+    (large ≡ false → slice ≡ None) × (quiet ≡ true → options.json ≡ false)
 GoesTogether (Check history certificate large) = Unit {0}
 
 -- a text, or the line `memory` in its place, goes out with its status

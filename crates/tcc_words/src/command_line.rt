@@ -34,7 +34,7 @@ pub enum Request {
         history: Option<String>,
         /// The path of the file for the certificate of the last answer, if it is wanted.
         certificate: Option<String>,
-        /// Whether records are taken up to the large limits; then no certificate is wanted.
+        /// Whether records are taken up to the large limits.
         large: bool,
         /// The path of the file for the slice of the last anomaly, if it is wanted of a large history.
         slice: Option<String>,
@@ -442,7 +442,6 @@ fn refusal_of(request: &Request) -> Option<&'static str>
 {
     let Request::Explain {
         options,
-        certificate,
         large,
         slice,
         quiet,
@@ -451,11 +450,6 @@ fn refusal_of(request: &Request) -> Option<&'static str>
     else {
         return None;
     };
-    if *large && certificate.is_some() {
-        return Some(
-            "'--certificate' can't be used with '--large': take the certificate of its '--slice'",
-        );
-    }
     if !*large && slice.is_some() {
         return Some("'--slice' needs '--large'");
     }
