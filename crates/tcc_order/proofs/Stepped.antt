@@ -4,7 +4,7 @@ use Rattle.std.proofs.Common.{slice_index, refl, sym, ap, ◌∙◌, arith}
 use Rattle.std.specs.List.{All, Contains}
 use Rattle.std.proofs.lemmas.Bool.{cases_eq, cases_lt}
 use Rattle.std.proofs.lemmas.List.{take_all, take_more, get_or_at, get_or_past, get_or_append_left}
-use Rattle.std.proofs.lemmas.List.Elements.{Contains-append_right, Contains-push_cases, All-weaker}
+use Rattle.std.proofs.lemmas.List.Elements.{Contains-append_right, Contains-push_cases, All-weaker, All-contains, All-contains_itself}
 use Rattle.tcc_reads.specs.History.{History, IsBySession, count, owner}
 use Rattle.tcc_graph.specs.Relations.{IsCausalPair, IsReadsPair, IsSessionPair}
 use Rattle.tcc_graph.specs.Keys.{keys, key_at, writers}
@@ -19,10 +19,11 @@ use Rattle.tcc_bits.proofs.Lists.{one_of_taken, still_taken, last_taken, nothing
 use Rattle.tcc_clocks.specs.Parents.{HasSourcesAt, parents, previous_one, sources}
 use Rattle.tcc_clocks.specs.Clocks.{AreOwners}
 use Rattle.tcc_order.specs.private.Keeping.{IsLiftable, IsLifted, IsCovered, AreLinks, Derives}
-use Rattle.tcc_order.specs.private.Stepping.{IsOther, StepsOver, KeepsRead, KeepsSome, KeepsInto}
+use Rattle.tcc_order.specs.private.Stepping.{IsOther, StepsOver, HasParents, HaveParents, KeepsRead, KeepsSome, KeepsInto}
 use Rattle.tcc_order.proofs.Readings.{IsTaken, named_long, named_each, named_at}
 use Rattle.std.specs.Prelude.{zip}
 use Rattle.tcc_order.proofs.Needing.{same_session}
+use Rattle.tcc_clocks.proofs.Along.{parents_below}
 use Rattle.tcc_clocks.proofs.Reaching.{parent_pair, reads_source, session_rises}
 
 -- ---- the last own writer
@@ -260,3 +261,50 @@ other_new writers a b old new other put d = (λ there. to ((put d).0 there), λ 
 pub writers_inside : (h : History) (owners : List ℕ) → AreOwners h owners → (x : List ℕ) → All (λ b. b < length owners) (writers h x)
 writers_inside h owners known x =
     All-weaker (λ b. b < count h) (λ b. b < length owners) (λ b l. omega (arith, l, known.long)) (writers h x) (writers_below h x)
+
+-- ---- the parents of each, each once
+pub once_none : (numbers : List ℕ) (b : ℕ) → Contains [] b ↔ Contains (take 0 numbers) b
+once_none numbers b = (λ there. absurd (nothing_in b there), λ there. absurd (nothing_in b there))
+
+pub once_more : (numbers : List ℕ) (n : ℕ) → n < length numbers → (old new : List ℕ) → ((b : ℕ) → Contains old b ↔ Contains (take n numbers) b)
+    → ((d : ℕ) → Contains new d ↔ (Contains old d ⊎ (d ≡ get_or numbers n 0))) → (b : ℕ) → Contains new b ↔ Contains (take (n + 1) numbers) b
+once_more numbers n inside old new before put b = (λ there. forth ((put b).0 there), λ there. (put b).1 (back (one_of_taken numbers n inside b there)))
+  where
+    forth : Contains old b ⊎ (b ≡ get_or numbers n 0) → Contains (take (n + 1) numbers) b
+    forth (inl was) = still_taken numbers n inside b ((before b).0 was)
+    forth (inr same) = rw same (last_taken numbers n inside)
+
+    back : Contains (take n numbers) b ⊎ (get_or numbers n 0 ≡ b) → Contains old b ⊎ (b ≡ get_or numbers n 0)
+    back (inl was) = inl ((before b).1 was)
+    back (inr same) = inr (sym same)
+
+pub parents_none : (h : History) → HaveParents h 0 []
+parents_none h = record { long = refl; each = λ c l. absurd (omega arith) }
+
+pub parents_more : (h : History) (n : ℕ) (rows : List (List ℕ)) (row : List ℕ) → HaveParents h n rows → HasParents h n row → HaveParents h (n + 1) (rows ++ row ∷ [])
+parents_more h n rows row are is = record { long = omega (arith, are.long, length-append rows (row ∷ [])); each = λ c less. go c less (cases_eq c n) }
+  where
+    go : (c : ℕ) → c < n + 1 → (c ≡ n) ⊎ (c ≢ n) → HasParents h c (row_of (rows ++ row ∷ []) c)
+    go c less (inl same) = let at : length rows ≡ c = omega (arith, are.long, same) in rw (get_or_at rows row [] [] c at, same) is
+    go c less (inr other) = rw (get_or_append_left rows (row ∷ []) [] c (omega (arith, less, other, are.long))) (are.each c (omega (arith, less, other)))
+
+-- and what is kept by them
+pub by_parents : (h : History) (c : ℕ) (numbers mid new : List ℕ) (IsMeant : ℕ → Type 0) → HasParents h c numbers
+    → ((b : ℕ) → Contains new b ↔ (Contains mid b ⊎ (Contains numbers b × IsMeant b)))
+    → (b : ℕ) → Contains new b ↔ (Contains mid b ⊎ (Contains (parents h c) b × IsMeant b))
+by_parents h c numbers mid new IsMeant has now b = (λ there. forth ((now b).0 there), λ w. (now b).1 (back w))
+  where
+    forth : Contains mid b ⊎ (Contains numbers b × IsMeant b) → Contains mid b ⊎ (Contains (parents h c) b × IsMeant b)
+    forth (inl was) = inl was
+    forth (inr w) = inr ((has.listed b).0 w.0, w.1)
+
+    back : Contains mid b ⊎ (Contains (parents h c) b × IsMeant b) → Contains mid b ⊎ (Contains numbers b × IsMeant b)
+    back (inl was) = inl was
+    back (inr w) = inr ((has.listed b).1 w.0, w.1)
+
+pub listed_below : (h : History) → IsBySession h.entries → (c : ℕ) → c < count h → (numbers : List ℕ) → HasParents h c numbers → (n : ℕ) → n ≡ count h
+    → All (λ b. b < n) numbers
+listed_below h numbered c low numbers has n long =
+    All-weaker (Contains numbers) (λ b. b < n)
+    (λ b is. omega (arith, long, All-contains (λ (z : ℕ). z < count h) (parents h c) b (parents_below h numbered c low has.sources) ((has.listed b).0 is)))
+    numbers (All-contains_itself numbers)

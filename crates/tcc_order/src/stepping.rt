@@ -1,7 +1,7 @@
 //! The links at `Atomic` that are kept: of each read the last writer of its key that the reader's session wrote before, and
 //! the writers that the reader reads from. A number is kept once by a sparse set (Briggs and Torczon): the place at which it was
-//! put down last says at once whether it is there. For R reads, each by a transaction with S sources, among W writers of a key
-//! that takes O(R (S + log W)), and O(log W) more for each link that is kept.
+//! put down last says at once whether it is there; so each source of a reader is gone through once, however many keys are read
+//! from it. For R reads, each by a transaction with S sources, among W writers of a key that takes O(R S log W).
 ghost use Rattle.std.specs.Prelude.{◌≡◌, ◌≢◌, ◌<◌, ◌≤◌, ◌-◌, ◌+◌, ◌⊎◌, ◌↔◌, ◌∷◌, [], ℕ, true, length, slice_index, All, Contains, IfOk, OnOk, IsTrue};
 ghost use Rattle.std.specs.List.Sorted.{IsNonDecreasing};
 ghost use Rattle.tcc_reads.specs.History.{IsBySession, count};
@@ -10,7 +10,7 @@ ghost use Rattle.tcc_graph.specs.Levels.{atomically};
 ghost use Rattle.tcc_clocks.specs.Parents.{ArePrevious};
 ghost use Rattle.tcc_clocks.specs.Clocks.{AreOwners};
 ghost use Rattle.tcc_order.specs.private.Keeping.{IsLifted, AreLinks, AreOrdered};
-ghost use Rattle.tcc_order.specs.private.Stepping.{IsOther, IsReader, KeepsRead, KeepsInto};
+ghost use Rattle.tcc_order.specs.private.Stepping.{IsOther, IsReader, HaveParents, KeepsRead, KeepsInto};
 
 use crate::keeping::{before_in_session, last_up_to, lift_session};
 use std::alloc::{AllocError, Global};
@@ -139,19 +139,52 @@ fn keep_read(
     keep_others(kept, places, writers, numbers, a)
 }
 
+/// These numbers, each once.
+fn once(alloc: Global, places: &mut [usize], numbers: &[u32]) -> Result<Row<u32>, NoMemory>
+    requires inside { All (λ b. b < length places.old) numbers.now }
+    ensures same { length places.new ≡ length places.old }
+    ensures listed { IfOk result (λ row. (b : ℕ) → Contains row b ↔ Contains numbers.now b) }
+{
+    let mut row = Row::new(Vec::new(alloc));
+    for number in numbers {
+        keep_one(&mut row, places, *number)?;
+    }
+    Ok(row)
+}
+
+/// The transactions right before each one, each once.
+fn parents_of_each(
+    alloc: Global,
+    graph: &LargeGraph,
+    parents: &[u32],
+) -> Result<Vec<Row<u32>>, NoMemory>
+    requires numbered { IsBySession graph.now.entries }
+    requires parents { ArePrevious graph.now parents.now }
+    ensures { IfOk result (λ rows. HaveParents graph.now (count graph.now) rows.items) }
+{
+    let mut places = vec![in alloc; 0usize; graph.count() as usize]?;
+    let mut found = Vec::new(alloc);
+    let mut rows = Vec::new(alloc);
+    for c in 0..graph.count() {
+        find_parents(&mut found, graph, parents, c)?;
+        let row = once(alloc, &mut places, &found)?;
+        rows.push(row)?;
+    }
+    Ok(rows)
+}
+
 /// The links into a transaction that are kept.
 fn links_into(
     alloc: Global,
     places: &mut [usize],
-    found: &mut Vec<u32>,
     graph: &LargeGraph,
     owners: &[u32],
-    parents: &[u32],
+    rows: &[Row<u32>],
     a: u32,
 ) -> Result<Row<u32>, NoMemory>
     requires numbered { IsBySession graph.now.entries }
-    requires parents { ArePrevious graph.now parents.now }
     requires owners { AreOwners graph.now owners.now }
+    requires rows { HaveParents graph.now (count graph.now) rows.now }
     requires long { length places.old ≡ count graph.now }
     requires below { a < count graph.now }
     ensures same { length places.new ≡ length places.old }
@@ -160,13 +193,13 @@ fn links_into(
     let mut kept = Row::new(Vec::new(alloc));
     let (readers, key_indices) = graph.readings_at(a);
     for (index, reader) in readers.iter().enumerate() {
-        find_parents(found, graph, parents, *reader)?;
+        let before = rows[*reader as usize].as_slice();
         keep_read(
             &mut kept,
             places,
             graph,
             owners,
-            found,
+            before,
             *reader,
             key_indices[index],
             a,
@@ -186,11 +219,11 @@ pub(crate) fn atomic_links(
     ensures { IfOk result (λ kept. AreLinks (atomically graph.now) kept.items) }
 {
     let owners = owners(alloc, graph)?;
+    let rows = parents_of_each(alloc, graph, parents)?;
     let mut places = vec![in alloc; 0usize; graph.count() as usize]?;
-    let mut found = Vec::new(alloc);
     let mut kept = Vec::new(alloc);
     for a in 0..graph.count() {
-        let into = links_into(alloc, &mut places, &mut found, graph, &owners, parents, a)?;
+        let into = links_into(alloc, &mut places, graph, &owners, &rows, a)?;
         kept.push(into)?;
     }
     Ok(kept)

@@ -1,8 +1,9 @@
 -- Writers one pair before a reader, and the links that are kept by them.
-use Rattle.std.specs.Prelude.{ℕ, ◌<◌, ◌≡◌, ◌≢◌, ◌⊎◌, List, Contains}
+use Rattle.std.specs.Prelude.{ℕ, ◌<◌, ◌≡◌, ◌≢◌, ◌⊎◌, ◌↔◌, List, length, Contains}
 use Rattle.tcc_reads.specs.History.{History, IsBySession, count}
 use Rattle.tcc_graph.specs.Relations.{IsCausalPair, IsReadsPair, IsSessionPair}
 use Rattle.tcc_graph.specs.Keys.{writers}
+use Rattle.tcc_graph.specs.Tables.{row_of}
 use Rattle.tcc_clocks.specs.Parents.{HasSourcesAt, parents}
 use Rattle.tcc_clocks.specs.Clocks.{AreOwners}
 
@@ -23,13 +24,22 @@ pub record KeepsRead (h : History) (c : ℕ) (x : List ℕ) (a : ℕ) (old : Lis
   pub wider : (b : ℕ) → Contains old b → Contains new b
   pub enough : (b : ℕ) → StepsOver h c x a b → (d : ℕ) × ((b ≡ d) ⊎ IsSessionPair h b d) × Contains new d
 
+-- these are the parents of c
+pub record HasParents (h : History) (c : ℕ) (numbers : List ℕ) : Type 0 where
+  pub listed : (b : ℕ) → Contains numbers b ↔ Contains (parents h c) b
+  pub sources : HasSourcesAt h c
+
+-- so for each transaction before n
+pub record HaveParents (h : History) (n : ℕ) (rows : List (List ℕ)) : Type 0 where
+  pub long : length rows ≡ n
+  pub each : (c : ℕ) → c < n → HasParents h c (row_of rows c)
+
 -- a transaction whose reads are gone through: the sessions of all are known, and these are its parents
 pub record IsReader (h : History) (owners : List ℕ) (numbers : List ℕ) (c : ℕ) : Type 0 where
   pub numbered : IsBySession h.entries
   pub owned : AreOwners h owners
   pub below : c < count h
-  pub listed : numbers ≡ parents h c
-  pub sources : HasSourcesAt h c
+  pub before : HasParents h c numbers
 
 -- of what is kept each stands one pair before a reader of a, and of the writers that do so by some reads each is kept, or a later one
 -- of its session

@@ -1,14 +1,10 @@
-use Rattle.std.proofs.Common.{◌<◌, ◌↔◌, ◌⊎◌, ℕ, length, arith}
+use Rattle.std.proofs.Common.{◌↔◌, ◌⊎◌, ◌∙◌, ℕ, length}
 use Rattle.std.specs.Prelude.{Contains, OnOk}
-use Rattle.std.proofs.lemmas.List.Elements.{All-weaker}
 use Rattle.std.proofs.lemmas.Result.{on_ok_weaker}
-use Rattle.tcc_reads.specs.History.{count}
 use Rattle.tcc_graph.specs.Keys.{key_at, writers}
-use Rattle.tcc_clocks.specs.Parents.{parents}
-use Rattle.tcc_clocks.proofs.Along.{parents_below}
 use Rattle.tcc_clocks.proofs.SpanLemmas.{writers_rise}
 use Rattle.tcc_order.specs.private.Stepping.{IsOther}
-use Rattle.tcc_order.proofs.Stepped.{last_steps, last_covers, read_kept, writers_inside}
+use Rattle.tcc_order.proofs.Stepped.{last_steps, last_covers, read_kept, by_parents, listed_below, writers_inside}
 use Rattle.tcc_order.proofs.stepping.keep_read.Goals as goal
 
 pub last_writer-last-requires-clause-rising : goal.last_writer-last-requires-clause-rising
@@ -23,10 +19,8 @@ keep_others-requires-clause-rising c = rw c.writers_at-writers.ensures (writers_
 
 pub keep_others-requires-clause-inside : goal.keep_others-requires-clause-inside
 keep_others-requires-clause-inside c =
-    rw c.requires.reader.listed
-    (All-weaker (λ b. b < count c.args.graph.now) (λ b. b < length c.keep_last.new.places)
-    (λ b l. omega (arith, l, c.in_ok-keep_last.ensures.same, c.requires.long)) (parents c.args.graph.now c.args.c)
-    (parents_below c.args.graph.now c.requires.reader.numbered c.args.c c.requires.reader.below c.requires.reader.sources))
+    listed_below c.args.graph.now c.requires.reader.numbered c.args.c c.requires.reader.below c.args.numbers.now c.requires.reader.before
+    (length c.keep_last.new.places) (c.in_ok-keep_last.ensures.same ∙ c.requires.long)
 
 pub returns-clause-kept : goal.returns-clause-kept
 returns-clause-kept c =
@@ -41,8 +35,10 @@ returns-clause-kept c =
     let is = rw c.writers_at-writers.ensures at c.last_writer-last.ensures in
     let steps = last_steps h c.requires.reader.numbered owners c.requires.reader.owned c.args.c c.requires.reader.below x a last is in
     let covers = last_covers h c.requires.reader.numbered owners c.requires.reader.owned c.args.c c.requires.reader.below x a last is in
-    let others : OnOk c.keep_others.result ((b : ℕ) → Contains new b ↔ (Contains mid b ⊎ (Contains (parents h c.args.c) b × IsOther (writers h x) a b)))
-    = rw (c.requires.reader.listed, c.writers_at-writers.ensures) at c.keep_others.ensures.kept in
-    on_ok_weaker c.keep_others.result (λ now. read_kept h c.requires.reader.numbered c.args.c c.requires.reader.below c.requires.reader.sources x a old mid new last steps covers
-    c.in_ok-keep_last.ensures.kept now)
+    let numbers = c.args.numbers.now in
+    let others : OnOk c.keep_others.result ((b : ℕ) → Contains new b ↔ (Contains mid b ⊎ (Contains numbers b × IsOther (writers h x) a b)))
+    = rw c.writers_at-writers.ensures at c.keep_others.ensures.kept in
+    on_ok_weaker c.keep_others.result
+    (λ now. read_kept h c.requires.reader.numbered c.args.c c.requires.reader.below c.requires.reader.before.sources x a old mid new last steps covers
+    c.in_ok-keep_last.ensures.kept (by_parents h c.args.c numbers mid new (IsOther (writers h x) a) c.requires.reader.before now))
     others
