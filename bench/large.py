@@ -10,13 +10,16 @@ are more a session ends and another begins. Kinds:
     causal   consistent; a key for 10 transactions
     jepsen   consistent; 16 keys at a time, each written 32 times before another takes its place
     stale    causal, with a read near the end of a value that its session knows as overwritten
+    loose    five places, at each of which a transaction shows by itself, some much later than what came of it: many anomalies
 
-A line for each history has the processor seconds of reading, resolving, building the graph, deciding whether there is an order, and looking for a
-cycle, each by `tcc_bench_stages` and without those before it; then the peak memory, and how many steps the cycle has. By
-default histories of 10,000 and 100,000 transactions; one of 1,000,000 takes minutes and gigabytes.
+A line for each history has the processor seconds of reading, resolving, building the graph, deciding whether there is an order, and
+looking for a cycle, and from the graph on those of a survey, each by `tcc_bench_stages` and without those before it; then the peak
+memory, how many steps the cycle has, and how many reads are contradicted. By default histories of 10,000 and 100,000 transactions;
+one of 1,000,000 takes minutes and gigabytes.
 """
 import argparse
 import bisect
+import collections
 import os
 import pathlib
 import random
@@ -25,9 +28,14 @@ import tempfile
 
 from run import built
 
-KINDS = ("causal", "jepsen", "stale")
-STAGES = ("large-snapshot", "large-resolve", "large-graph", "large-order", "large-cycle")
+KINDS = ("causal", "jepsen", "stale", "loose")
+# Each stage, with the one that it goes on from.
+STAGES = {"large-snapshot": None, "large-resolve": "large-snapshot", "large-graph": "large-resolve", "large-order": "large-graph",
+          "large-cycle": "large-order", "large-survey": "large-graph"}
 OPERATIONS, LATE, AT_A_TIME, KEYS_AT_A_TIME, WRITES_A_KEY = 8, 1000, 64, 16, 32
+# At another place a transaction shows so many transactions later, or, one in so many, much later.
+SOON, MUCH_LATER, ONE_IN = 100, 600, 50
+PLACES = 5
 
 
 class Log:
@@ -79,6 +87,43 @@ class Log:
         return "s%05d" % (first + self.random.randrange(born))
 
 
+class Places(Log):
+    """The same, but each session has a place, at which the writes of each transaction show together, in any order of these."""
+
+    def __init__(self, kind, count, sessions):
+        super().__init__(kind, count, sessions)
+        self.shown = [{} for _ in range(PLACES)]  # of each key: where in the order its newest write stands, and what it is
+        self.coming = [(collections.deque(), collections.deque()) for _ in range(PLACES)]  # soon, and much later
+        self.place, self.written = 0, []
+
+    def value(self, key, length):
+        return self.shown[self.place].get(key, (0, 0))[1]
+
+    def write(self, key, position):
+        value = super().write(key, position)
+        self.written.append((key, (position, value)))
+        return value
+
+    def transaction(self, session, position):
+        self.place, self.written = int(session[1:]) % PLACES, []
+        for coming in self.coming[self.place]:
+            while coming and coming[0][0] <= position:
+                self.show(coming.popleft()[1])
+        said = super().transaction(session, position)
+        self.show(self.written)
+        for place in range(PLACES):
+            if place != self.place:
+                is_late = self.random.randrange(ONE_IN) == 0
+                self.coming[place][is_late].append((position + (MUCH_LATER if is_late else SOON), self.written))
+        return said
+
+    def show(self, written):
+        """Shows writes at the place, where no newer ones are seen."""
+        shown = self.shown[self.place]
+        for key, newest in written:
+            shown[key] = max(shown.get(key, (0, 0)), newest)
+
+
 def records(session, inside):
     """The records of a transaction with these operations."""
     return "".join("%s,%s\n" % (session, record) for record in ["begin", *inside, "commit"])
@@ -86,7 +131,7 @@ def records(session, inside):
 
 def write_history(path, kind, count, sessions):
     """Writes a history of so many transactions to a file."""
-    log = Log(kind, count, sessions)
+    log = (Places if kind == "loose" else Log)(kind, count, sessions)
     with open(path, "w") as out:
         for position in range(1, count + 1):
             out.write(log.transaction(log.session(position), position))
@@ -107,15 +152,15 @@ def spent(words, history, answer):
 
 
 def row(stages, path, answer):
-    """Processor seconds of each stage, the peak memory and what the last one says."""
-    seconds, before, peak = [], 0, 0
+    """Processor seconds of each stage, the peak memory, and what the last two say."""
+    taken, said, peak = {None: 0}, {}, 0
     for stage in STAGES:
-        now, memory, status = spent([stages, stage], path, answer)
+        taken[stage], memory, status = spent([stages, stage], path, answer)
         if status != 0:
             sys.exit("%s: the stage %s ended with status %d" % (path.name, stage, status))
-        seconds.append("%.2f" % max(0, now - before))
-        before, peak = now, max(peak, memory)
-    return seconds + ["%.0f" % peak, answer.read_text().strip()]
+        said[stage], peak = answer.read_text().strip(), max(peak, memory)
+    seconds = ["%.2f" % max(0, taken[stage] - taken[before]) for stage, before in STAGES.items()]
+    return seconds + ["%.0f" % peak, said["large-cycle"], said["large-survey"]]
 
 
 def main():
@@ -127,7 +172,7 @@ def main():
     ask.add_argument("--keep", type=pathlib.Path, help="a folder for the histories, which stay there")
     asked = ask.parse_args()
     stages = os.path.abspath(asked.stages) if asked.stages else built("tcc_bench_stages")
-    print("history  read  resolve  graph  order  cycle  MB  steps")
+    print("history  read  resolve  graph  order  cycle  survey  MB  steps  contradicted")
     with tempfile.TemporaryDirectory() as temporary:
         folder = asked.keep or pathlib.Path(temporary)
         folder.mkdir(parents=True, exist_ok=True)

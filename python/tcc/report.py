@@ -2,7 +2,7 @@
 
 The history is one of records, as `tcc explain` takes them, or one of Jepsen or Elle, EDN or JSON, as jepsen.py takes them. The
 script imports it, asks `tcc explain` for the answer (with --large where the history has to have that), lists every contradicted
-read, has the certificate checked by `tcc check` (of a large history that of its slice), and writes the page. It needs no network
+read, has the certificate checked by `tcc check`, and writes the page. It needs no network
 and no other file.
 
 The status is that of the answer: 0 consistent, 1 an anomaly, 2 reads that can't be traced to a write; 3 where the history can't be
@@ -42,7 +42,7 @@ EXAMPLE = """example: one page of the history that Jepsen left
   report.html: an anomaly, 37 contradicted reads
 """
 STATUSES = {"consistent": 0, "anomaly": 1, "unresolved": 2}
-NOT_READ, TOO_LARGE, NO_PROGRAM = 3, 4, 127
+NOT_READ, NO_PROGRAM = 3, 127
 NANOSECONDS = 1e9
 # What ends that which the nemesis began, where it isn't start-THIS and stop-THIS.
 ENDS = {"stop": ["start"], "start": ["kill"], "resume": ["pause"], "heal": ["partition", "start-partition"]}
@@ -100,7 +100,6 @@ class Findings:
     graph: Optional[Graph] = None
     is_proved: bool = False
     check: Optional[str] = None
-    certificate: str = ""
 
     @property
     def verdict(self) -> str:
@@ -189,13 +188,12 @@ def gathered(asked: argparse.Namespace, work: Work) -> Findings:
         history = read_history(file)
     notes = dict(imported.notes()) if imported else read_notes(asked.notes) if asked.notes else {}
     tcc = Program(program(asked.tcc), asked.level, is_large(history), asked.workers)
-    has_certificate = not tcc.is_large or certifies_large(tcc)
-    beside = [*(["--slice", "slice.csv"] if tcc.is_large else []), *(["--certificate", "certificate.txt"] if has_certificate else [])]
+    beside = [*(["--slice", "slice.csv"] if tcc.is_large else []), "--certificate", "certificate.txt"]
     answer = last_answer(work.run(tcc.explain(*beside, "records.csv"), "answer.json"))
     told = Findings(pathlib.Path(asked.history).name, tcc, history, notes, answer, work.commands, imported)
     if told.verdict == "anomaly":
         told.cycle = cycle_of(answer)
-    certify(told, work, has_certificate)
+    certify(told, work)
     if told.verdict != "consistent":
         list_contradicted(told, work)
     return told
@@ -214,40 +212,20 @@ def list_contradicted(told: Findings, work: Work) -> None:
     work.commands.append(Command("all.py --level %s records.csv   # every contradicted read" % told.tcc.level, 1, time.monotonic() - begun))
 
 
-def certifies_large(tcc: Program) -> bool:
-    """Whether the program writes a certificate of a large history too; where it doesn't, the words are a fault."""
-    words = [tcc.path, "explain", "--large", "--certificate", os.devnull]
-    return subprocess.run(words, stdin=subprocess.DEVNULL, capture_output=True, check=False).returncode == 0
-
-
-def certify(told: Findings, work: Work, has_certificate: bool) -> None:
-    """Has the certificate checked, where there is one; of a large anomaly the least one of its slice is shown, with that of the slice
-    where the whole has none."""
-    if has_certificate and told.verdict != "unresolved":
-        check(told, work, "records.csv", "certificate.txt")
-    if not told.tcc.is_large:
-        return
-    if told.verdict != "anomaly" or not (work.folder / "slice.csv").exists() or not (work.folder / "slice.csv").stat().st_size:
-        return
-    with open_records(str(work.folder / "slice.csv")) as file:
-        small = read_history(file)
-    places = table(told.answer, small)
-    of_slice = Program(told.tcc.path, told.tcc.level, False, told.tcc.workers)
-    least = last_answer(work.run(of_slice.explain("--certificate", "least.txt", "slice.csv"), "least.json"))
-    if least["answer"] == "anomaly":
-        told.cycle, told.is_of_slice = cycle_of(least, places), True
-        if not (told.check or "").startswith("accepted"):
-            check(told, work, "slice.csv", "least.txt")
-
-
-def check(told: Findings, work: Work, records: str, certificate: str) -> None:
-    """What `tcc check` says; of a large history it may have to be told that."""
-    ended = work.run([told.tcc.path, "check", records, certificate])
-    if told.tcc.is_large and ended.returncode == TOO_LARGE:
-        ended = work.run([told.tcc.path, "check", "--large", records, certificate])
-    told.check = ended.stdout.decode(errors="replace").strip()
-    told.certificate = records
-
+def certify(told: Findings, work: Work) -> None:
+    """Has the certificate checked, where there is one; of a large anomaly the least one of its slice is shown, where it has one."""
+    if told.verdict != "unresolved":
+        large = ["--large"] if told.tcc.is_large else []
+        ended = work.run([told.tcc.path, "check", *large, "records.csv", "certificate.txt"])
+        told.check = ended.stdout.decode(errors="replace").strip()
+    sliced = work.folder / "slice.csv"
+    if told.tcc.is_large and told.verdict == "anomaly" and sliced.exists() and sliced.stat().st_size:
+        with open_records(str(sliced)) as file:
+            small = read_history(file)
+        places = table(told.answer, small)
+        least = last_answer(work.run(Program(told.tcc.path, told.tcc.level, False, told.tcc.workers).explain("slice.csv"), "least.json"))
+        if least["answer"] == "anomaly":
+            told.cycle, told.is_of_slice = cycle_of(least, places), True
 
 # The page.
 
@@ -561,16 +539,13 @@ def not_judged(told: Findings, examples: Examples) -> Iterator[str]:
 def certificate(told: Findings) -> Iterator[str]:
     yield "<h2>Certificate</h2>"
     if told.check is None:
-        yield "<p>There is none: %s</p>" % text(
-            "what is unresolved has no certificate." if told.verdict == "unresolved" else
-            "a history past the limits without --large has none%s." % (
-                "" if told.verdict == "consistent" else ", and no slice of it is within them"))
+        yield "<p>There is none: what is unresolved has no certificate.</p>"
         return
     is_accepted = told.check.startswith("accepted")
-    of_what = "the slice's records, whose anomaly is one of the whole history" if told.certificate == "slice.csv" else "these records"
+    cycle = "the cycle that tcc explain printed" if told.is_of_slice else "the cycle above"
     claim = ("that its order explains every read" if told.verdict == "consistent" else
-             "that each link of the cycle that tcc explain printed holds in this history" if told.tcc.is_large and told.certificate == "records.csv" else
-             "that the cycle above is one of %s, and that none has fewer steps" % of_what)
+             "that each link of %s holds" % cycle if told.check.endswith("least not claimed") else
+             "that %s is one of these records, and that none has fewer steps" % cycle)
     if is_accepted:
         yield "<p>\u2713 <code>%s</code>: <code>tcc check</code> found by rules alone, without any search, %s.</p>" % (text(told.check), text(claim))
     else:

@@ -7,7 +7,8 @@ Of small examples each digit of a text is replaced by each other digit, and the 
 texts that the program writes in version 2, and of the same claims in versions 1 and 3. Of random histories orders and cycles of
 version 3 are made by the definitions (`claims.py`), claimed as they are and with numbers altered and lines changed. What
 `tcc check`, or `tcc check --large`, has to answer of each is worked out from docs/FORMATS.md and docs/MODEL.md alone (`texts.py`,
-`definitions.py`, `rules.py`).
+`definitions.py`, `rules.py`); and what `tcc explain --large` writes of these histories, past the small limits, has to be the text that
+is worked out of an order, and accepted of a cycle.
 
 Each difference is one line; the last line is `N passed, M failed`.
 """
@@ -22,7 +23,7 @@ import tempfile
 
 TOP = pathlib.Path(__file__).resolve().parent.parent.parent
 sys.path.insert(0, str(TOP / "tests"))
-from claims import altered, claims, own_claim  # noqa: E402
+from claims import altered, claims, order_text, own_claim, runs_of  # noqa: E402
 from counted import status_of  # noqa: E402
 from definitions import History  # noqa: E402
 from drawn import small_history, text_of  # noqa: E402
@@ -74,12 +75,12 @@ ALTERED = 8
 MANY_SESSIONS = "".join("%s%d,begin\n%s%d,abort\n" % (2 * (name, number)) for name in "0z" for number in range(33))
 
 
-def written(tcc, records, level, folder):
-    """The certificate that the program writes."""
+def written(tcc, records, level, folder, *more):
+    """What the program answers, and the certificate that it writes."""
     path = os.path.join(folder, "written")
-    subprocess.run([tcc, "explain", "--level", level, "--certificate", path], input=records.encode(), stdout=subprocess.DEVNULL,
-                   timeout=60, check=False)
-    return pathlib.Path(path).read_bytes()
+    run = subprocess.run([tcc, "explain", *more, "--level", level, "--certificate", path], input=records.encode(),
+                         stdout=subprocess.PIPE, timeout=60, check=False)
+    return run.stdout.decode(), pathlib.Path(path).read_bytes()
 
 
 def in_version_1(history, level, text):
@@ -140,7 +141,7 @@ def with_digits(tcc, folder, pool):
     for records, level, version in ASKED:
         records += MANY_SESSIONS if version == 3 else ""
         judge = Judge(tcc, records, ANY if version == 3 else SMALL, folder, pool)
-        text = own_claim(judge.history, level) if version == 3 else written(tcc, records, level, folder)
+        text = own_claim(judge.history, level) if version == 3 else written(tcc, records, level, folder)[1]
         if version == 1:
             text = in_version_1(judge.history, level, text)
         for what, wrong in judge.differences(with_each_digit(text)):
@@ -148,7 +149,7 @@ def with_digits(tcc, folder, pool):
 
 
 def of_random(tcc, number, dice, folder, pool):
-    """The claims of a random history, as they are and altered."""
+    """The claims of a random history, as they are and altered, and what is written of it past the small limits."""
     records = text_of(small_history(dice, 10))
     if dice.random() < 0.5:
         records += MANY_SESSIONS
@@ -157,6 +158,22 @@ def of_random(tcc, number, dice, folder, pool):
         cases = [("%s, %s" % (what, done), other) for what, text in claims(judge.history, level, dice)
                  for done, other in [("as claimed", text), *altered(text, ALTERED, dice)]]
         yield from (("history %d, %s: %s" % (number, level, what), wrong) for what, wrong in judge.differences(cases))
+        yield "history %d, %s: written" % (number, level), wrongly_written(tcc, judge, level, folder)
+
+
+def wrongly_written(tcc, judge, level, folder):
+    """What is wrong with what is written of a history past the small limits, or None."""
+    records = judge.records + ("" if MANY_SESSIONS in judge.records else MANY_SESSIONS)
+    past = Judge(tcc, records, ANY, folder, judge.pool)
+    answer, text = written(tcc, records, level, folder, "--large")
+    order, least = past.history.first_order(level), past.history.least_cost(level)
+    if (order is None) == (least is None):
+        return "by the definitions there are an order and a cycle, or neither"
+    if order is not None:
+        return None if text == order_text(past.history, level, runs_of(past.history, order)) else "of an order: %r" % text
+    wanted = outcome(past.history, text, ANY)
+    said = "least not claimed" if "least not proved" in answer else "%d steps\n" % least
+    return None if wanted[1] == 0 and said in wanted[0] and past.answer(text) == wanted else "of a cycle: %r" % text
 
 
 def outcomes(tcc, count, seed):

@@ -98,7 +98,10 @@ end
 """
 LARGE_ORDER = b"tcc-certificate 3 causal\norder 5 4 4\n0 1\n1 1\n2 1\n3 1\nend\n"
 LARGE_CYCLE = b"tcc-certificate 3 causal\ncycle 3 2 3\nS 0 1\nD 1 0 x 2 1\nS 1 2\nleast 0\nend\n"
-FILES = {"certificate": FORK_CERTIFICATE, "two-stale-reads": TWO_STALE_READS, "large-order": LARGE_ORDER, "large-cycle": LARGE_CYCLE}
+# More sessions than a small history has, all but one of aborted transactions alone.
+PAST = STALE.read_bytes() + b"".join(b"s%d,begin\ns%d,abort\n" % (number, number) for number in range(64))
+FILES = {"certificate": FORK_CERTIFICATE, "two-stale-reads": TWO_STALE_READS, "large-order": LARGE_ORDER, "large-cycle": LARGE_CYCLE,
+         "past": PAST}
 # The file of standard input, or none; the words after `tcc`, the answers, and the status. `@NAME` is one of these files.
 ANSWERS = [
     (STALE, ["explain"], STALE_READ, 1),
@@ -123,6 +126,8 @@ ANSWERS = [
     (None, ["check", "--large", FORK, "@large-order"], b"accepted: order\n", 0),
     (None, ["check", "--large", FORK, "@certificate"], b"accepted: order\n", 0),
     (None, ["check", "--large", FORK, "@large-cycle"], b"rejected: rule 1 at 0 0\n", 7),
+    # behind the answer its certificate takes memory, in whose place the line may stand
+    ("@past", ["explain", "--large", "--certificate", "/dev/null"], [STALE_READ, b""], 1),
 ]
 # The same, by one worker and by two.
 SEARCHES = [(STALE, STALE_READ, 1), (FORK, FORK_ORDER, 0), ("@two-stale-reads", STALE_READ, 1)]

@@ -264,7 +264,7 @@ def lines_of_recording(tcc: List[str]) -> Iterator[Outcome]:
     blocks = re.findall("```sh\n(.*?)```", (TOP / "docs/RECORDING.md").read_text(), re.DOTALL)
     lines = next(block for block in blocks if "--slice" in block)
     wanted: Dict[str, Tuple[int, bytes]] = {
-        "examples/stale-read.csv": (1, b"accepted: cycle, 3 steps"), "examples/long-fork.csv": (0, b""),
+        "examples/stale-read.csv": (1, b"accepted: cycle, 3 steps"), "examples/long-fork.csv": (0, b"accepted: order"),
         "examples/aborted-read.csv": (2, b""), "": (3, b"")}
     for name, (status, said) in wanted.items():
         with tempfile.TemporaryDirectory() as folder:
@@ -274,7 +274,7 @@ def lines_of_recording(tcc: List[str]) -> Iterator[Outcome]:
             path = folder + os.pathsep + os.environ["PATH"]
             done = subprocess.run(["bash", "-c", lines], cwd=folder, capture_output=True, timeout=SECONDS, check=False,
                                   env={**os.environ, "PATH": path})
-            is_so = done.returncode == status and said in done.stdout and (b"accepted" in done.stdout) == (status == 1)
+            is_so = done.returncode == status and said in done.stdout and (b"accepted" in done.stdout) == (status in (0, 1))
             yield "lines of RECORDING, %s" % (name or "no records"), None if is_so else "status %d, %r" % (
                 done.returncode, done.stdout + done.stderr)
 

@@ -264,7 +264,8 @@ def checked(tcc, run, folder, seconds):
         return None
     history = pathlib.Path(folder, "history-to-check")
     history.write_bytes(text(run["input"]))
-    words = [*tcc, "check", history, pathlib.Path(folder, "certificate")]
+    large = ["--large"] if "--large" in run["arguments"] else []
+    words = [*tcc, "check", *large, history, pathlib.Path(folder, "certificate")]
     try:
         done = subprocess.run(words, capture_output=True, timeout=seconds)
     except subprocess.TimeoutExpired:
