@@ -1,5 +1,6 @@
 pub mod Ends
-pub mod NoFloats
+mod NoFloats
+mod JsonPieces
 mod WorkedAnswers
 mod WorkedTexts
 mod WorkedJson

@@ -68,3 +68,7 @@ answer_json (answer.Anomaly c) = cycle_json c
 -- the object as one line
 abbrev pub json_line : Data → List ℕ
 json_line value = compact_text value ++ codes "\n"
+
+-- a text in quotation marks, as it stands in a line
+unfoldable pub word_text : List ℕ → List ℕ
+word_text text = compact_text (string text)

@@ -92,7 +92,7 @@ fn row_fault_json(alloc: Global, fault: &RowFault) -> Result<Value, AllocError>
 }
 
 /// The text of an object, and a line feed.
-pub(crate) fn line(alloc: Global, object: &Value) -> Result<Vec<u8>, NoMemory>
+fn line(alloc: Global, object: &Value) -> Result<Vec<u8>, NoMemory>
     requires { has_float (view object.now) ≡ false }
     ensures { IfOk result (λ line. line.items ≡ json_line (view object.now)) }
 {

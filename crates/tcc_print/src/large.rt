@@ -1,19 +1,17 @@
 //! What is printed of a large history that has no commit order, each text made as a whole before a byte of it goes out.
 ghost use Rattle.std.specs.Prelude.{◌≡◌, IfErr, IfOk, OnOk};
 ghost use Rattle.std.specs.Io.KnownBytes.{Appends};
-ghost use Rattle.serde_json.specs.View.{view};
 ghost use Rattle.tcc_graph.specs.Links.{cost, link_cost};
 ghost use Rattle.tcc_answer.specs.Json.{json_line};
 ghost use Rattle.tcc_print.specs.Large.{unproved, unproved_first, unproved_json, unproved_text};
 ghost use Rattle.tcc_print.specs.Printed.{EndsIn};
 
-use crate::json::line;
 use crate::printing::send_made;
 use crate::texts::joined;
-use serde_json::{Value, json};
-use std::alloc::{AllocError, Global};
+use std::alloc::Global;
 use std::io::Write;
-use tcc_answer::{Labels, links_json, push_links, shape_of, shape_word};
+use tcc_answer::pieces::push;
+use tcc_answer::{Labels, push_links, push_links_json, quoted, shape_of, shape_word};
 use tcc_graph::Link;
 use tcc_txn::NoMemory;
 
@@ -75,24 +73,32 @@ fn unproved_text(
     Ok(text)
 }
 
-fn unproved_json(
+/// The line of JSON of a cycle of so many steps that needn't be a least one.
+fn unproved_line(
     alloc: Global,
     labels: &Labels,
     links: &[Link],
     steps: usize,
-) -> Result<Value, AllocError>
+) -> Result<Vec<u8>, NoMemory>
     requires { steps ≡ cost links.now }
-    ensures { IfOk result (λ v. view v ≡ unproved_json labels.now links.now) }
+    ensures { IfOk result (λ line. line.items ≡ json_line (unproved_json labels.now links.now)) }
 {
-    let cycle = links_json(alloc, labels, links)?;
-    let shape = shape_word(shape_of(links));
-    json!(in alloc; {
-        "answer": "anomaly",
-        "cycle": cycle,
-        "least": false,
-        "shape": shape,
-        "steps": steps
-    })
+    let shape = quoted(alloc, shape_word(shape_of(links)))?;
+    let steps = steps.to_string(alloc)?;
+    let mut line = Vec::new(alloc);
+    push(&mut line, &[b"{\"answer\":\"anomaly\",\"cycle\":["])?;
+    push_links_json(alloc, &mut line, labels, links)?;
+    push(
+        &mut line,
+        &[
+            b",\"least\":false,\"shape\":",
+            shape.as_bytes(),
+            b",\"steps\":",
+            steps.as_bytes(),
+            b"}\n",
+        ],
+    )?;
+    Ok(line)
 }
 
 /// The text of a cycle that needn't be a least one, or its line of JSON.
@@ -106,7 +112,7 @@ fn unproved_made(
 {
     let steps = steps_of(links)?;
     if json {
-        line(alloc, &unproved_json(alloc, labels, links, steps)?)
+        unproved_line(alloc, labels, links, steps)
     } else {
         unproved_text(alloc, labels, links, steps)
     }
