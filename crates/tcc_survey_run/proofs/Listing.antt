@@ -1,0 +1,78 @@
+-- The parts of a survey's text, one after the other.
+use Rattle.std.proofs.Common.{◌≡◌, ℕ, Bool, List, ◌++◌, flat_map, length, Option, Ok, Err, subst}
+use Rattle.std.specs.Prelude.{Result, IfErr, IsErrAnd, OnOk}
+use Rattle.std.specs.Io.KnownBytes.{Appends}
+use Rattle.std.proofs.KnownBytes.{Appends-trans}
+use Rattle.std.proofs.lemmas.Result.{IfErr-weaker}
+use Rattle.tcc_reads.specs.History.{History}
+use Rattle.tcc_reads.specs.declared.fault.ReadFault.{ReadFault}
+use Rattle.tcc_print.specs.Printed.{EndsIn}
+use Rattle.tcc_survey_run.specs.Surveys.{BreaksOff, fault_lines, name_line, read_count, read_line, survey_text, total_line}
+use Rattle.tcc_survey_run.specs.declared.counting.NameCount.{NameCount}
+use Rattle.tcc_survey_run.specs.declared.told.ToldRead.{ToldRead}
+use Rattle.tcc_survey_run.proofs.Breaking.{breaks_behind, breaks_ending, breaks_first, ended_by}
+
+module _ (json : Bool) (h : History) (told : List ToldRead) (faults : List ReadFault) (names : List NameCount) where
+  abbrev reads_said : List ℕ
+  reads_said = flat_map (read_line json h) told
+
+  abbrev faults_said : List ℕ
+  faults_said = fault_lines json faults
+
+  abbrev names_said : List ℕ
+  names_said = flat_map (name_line json) names
+
+  abbrev total_said : List ℕ
+  total_said = total_line json (length told) (read_count h) (length faults)
+
+  abbrev whole : List ℕ
+  whole = survey_text json h told faults names
+
+  module _ (a : Option (List ℕ)) (some : List ToldRead) (same : some ≡ told) where
+    pub reads_break : (b : Option (List ℕ)) (code : ℕ) → BreaksOff json a b (flat_map (read_line json h) some) code
+        → {A : Type 0} (r : Result A ℕ) → IsErrAnd r (λ c. c ≡ code) → IfErr r (BreaksOff json a b whole)
+    reads_break b code breaks r is =
+        ended_by (BreaksOff json a b whole) r code is
+        (breaks_first json a b reads_said (faults_said ++ (names_said ++ total_said)) code
+        (subst (λ ts. BreaksOff json a b (flat_map (read_line json h) ts) code) same breaks))
+
+    module _ (m : Option (List ℕ)) (out : Appends a m (flat_map (read_line json h) some)) where
+      reads_out : Appends a m reads_said
+      reads_out = subst (λ ts. Appends a m (flat_map (read_line json h) ts)) same out
+
+      pub faults_break : (b : Option (List ℕ)) (code : ℕ) → BreaksOff json m b faults_said code
+          → {A : Type 0} (r : Result A ℕ) → IsErrAnd r (λ c. c ≡ code) → IfErr r (BreaksOff json a b whole)
+      faults_break b code breaks r is =
+          ended_by (BreaksOff json a b whole) r code is
+          (breaks_behind json a m b reads_said (faults_said ++ (names_said ++ total_said)) code reads_out
+          (breaks_first json m b faults_said (names_said ++ total_said) code breaks))
+
+      module _ (n : Option (List ℕ)) (faulty : Appends m n faults_said) (few : List NameCount) (alike : few ≡ names) where
+        pub names_break : (b : Option (List ℕ)) (code : ℕ) → BreaksOff json n b (flat_map (name_line json) few) code
+            → {A : Type 0} (r : Result A ℕ) → IsErrAnd r (λ c. c ≡ code) → IfErr r (BreaksOff json a b whole)
+        names_break b code breaks r is =
+            ended_by (BreaksOff json a b whole) r code is
+            (breaks_behind json a m b reads_said (faults_said ++ (names_said ++ total_said)) code reads_out
+            (breaks_behind json m n b faults_said (names_said ++ total_said) code faulty
+            (breaks_first json n b names_said total_said code
+            (subst (λ ns. BreaksOff json n b (flat_map (name_line json) ns) code) alike breaks))))
+
+        module _ (k : Option (List ℕ)) (named : Appends n k (flat_map (name_line json) few)) (text : List ℕ) (is : text ≡ total_said) where
+          names_out : Appends n k names_said
+          names_out = subst (λ ns. Appends n k (flat_map (name_line json) ns)) alike named
+
+          pub all_out : (b : Option (List ℕ)) (r : Result (Unit {0}) ℕ) → OnOk r (Appends k b text) → OnOk r (Appends a b whole)
+          all_out b (Ok done) out =
+              Appends-trans a m b reads_said (faults_said ++ (names_said ++ total_said)) reads_out
+              (Appends-trans m n b faults_said (names_said ++ total_said) faulty
+              (Appends-trans n k b names_said total_said names_out (subst (λ t. Appends k b t) is out)))
+          all_out b (Err code) out = tt
+
+          pub total_breaks : (b : Option (List ℕ)) (r : Result (Unit {0}) ℕ) → IfErr r (EndsIn json k b text) → IfErr r (BreaksOff json a b whole)
+          total_breaks b r ends =
+              IfErr-weaker r (EndsIn json k b text) (BreaksOff json a b whole)
+              (λ code end.
+              breaks_behind json a m b reads_said (faults_said ++ (names_said ++ total_said)) code reads_out
+              (breaks_behind json m n b faults_said (names_said ++ total_said) code faulty
+              (breaks_behind json n k b names_said total_said code names_out
+              (breaks_ending json k b total_said code (subst (λ t. EndsIn json k b t code) is end))))) ends

@@ -1,0 +1,7 @@
+use Rattle.std.proofs.Common.{◌∙◌, ap}
+use Rattle.serde_json.specs.Written.{has_float}
+use Rattle.tcc_survey_run.proofs.NoFloats.{in_circle}
+use Rattle.tcc_survey_run.proofs.objects.circle_object.Goals as goal
+
+pub line-requires : goal.line-requires
+line-requires c = ap has_float c.in_ok-circle_json.ensures ∙ in_circle c.args.graph.now c.args.circle.now

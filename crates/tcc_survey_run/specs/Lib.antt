@@ -1,0 +1,6 @@
+pub mod Told
+pub mod Texts
+pub mod Json
+pub mod Surveys
+pub mod Runs
+pub mod private

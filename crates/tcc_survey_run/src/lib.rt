@@ -1,0 +1,20 @@
+//! Runs of `tcc survey` from bytes to bytes: what is written of the contradicted reads of the records, and the statuses that the
+//! runs end with. Nothing here knows of command lines or files.
+#![tactic(auto)]
+
+mod counting;
+pub mod laws;
+mod lines;
+mod naming;
+mod objects;
+mod options;
+mod outgoing;
+mod recorded;
+mod running;
+mod saying;
+mod told;
+
+pub use counting::NameCount;
+pub use options::SurveyOptions;
+pub use running::run_survey;
+pub use told::ToldRead;

@@ -1,0 +1,140 @@
+//! From the bytes of records to the survey of all that they finish.
+ghost use Rattle.std.specs.Prelude.{◌≡◌, ℕ, List, [], None, IfOk, IfSome};
+ghost use Rattle.tcc_rows.specs.Ahead.{fault_met};
+ghost use Rattle.tcc_rows.specs.Answers.{answers_within, records_within};
+ghost use Rattle.tcc_rows.specs.Reached.{IsWithin};
+ghost use Rattle.tcc_rows.specs.Recordings.{IsRecording};
+ghost use Rattle.tcc_reads.specs.Faults.{read_faults};
+ghost use Rattle.tcc_reads.specs.Traced.{traced_history};
+ghost use Rattle.tcc_graph.specs.Levels.{judged};
+ghost use Rattle.tcc_survey.specs.Contradictions.{IsSurvey};
+ghost use Rattle.tcc_survey_run.specs.Runs.{IsSurveyRun, limits_of};
+ghost use Rattle.tcc_survey_run.specs.private.Saying.{SaysSurvey};
+
+use crate::options::SurveyOptions;
+use crate::saying::{say_circle, say_found};
+use std::alloc::Global;
+use std::io::{Read, Write};
+use tcc_graph::{LargeGraph, Level};
+use tcc_print::notes::note_reads;
+use tcc_print::printing::print_memory;
+use tcc_reads::{ReadFault, Traced, resolve_traced};
+use tcc_rows::RecordingWithin;
+use tcc_survey::{Surveyed, survey};
+use tcc_txn::{Bounds, LargeLimits, NoMemory, SmallLimits, SnapshotWithin};
+use tcc_verdict::stop;
+
+/// What is found in a snapshot.
+#[derive(Drop)]
+struct Examined {
+    /// Its traced history.
+    graph: LargeGraph,
+    surveyed: Surveyed,
+    faults: Vec<ReadFault>,
+}
+
+/// What is found in a snapshot at a level.
+fn examine<B: Bounds>(
+    alloc: Global,
+    snapshot: &SnapshotWithin<B>,
+    level: Level,
+) -> Result<Examined, NoMemory>
+    ensures graph { IfOk result (λ e. e.graph ≡ traced_history snapshot.now) }
+    ensures surveyed { IfOk result (λ e. IsSurvey (judged (traced_history snapshot.now) level) e.surveyed) }
+    ensures faults { IfOk result (λ e. e.faults.items ≡ read_faults snapshot.now) }
+{
+    let Traced { history, faults } = resolve_traced(alloc, snapshot)?;
+    let graph = LargeGraph::build(alloc, history)?;
+    let surveyed = survey(alloc, &graph, level)?;
+    Ok(Examined {
+        graph,
+        surveyed,
+        faults,
+    })
+}
+
+/// Says what a survey finds in a snapshot, and gives the number that the run ends with. Of the first read faults it is noted which
+/// write each of them is about.
+fn say<B: Bounds, W: Write, N: Write>(
+    alloc: Global,
+    snapshot: &SnapshotWithin<B>,
+    options: &SurveyOptions,
+    out: &mut W,
+    notes: &mut N,
+) -> u8
+    ensures { SaysSurvey options.now snapshot.now (W.contents out.old) (W.contents out.new) result }
+{
+    let Ok(examined) = examine(alloc, snapshot, options.level) else {
+        return print_memory(out, options.json);
+    };
+    let Examined {
+        graph,
+        surveyed,
+        faults,
+    } = examined;
+    match surveyed {
+        Surveyed::Listed(found) => {
+            note_reads(alloc, snapshot, &faults, notes);
+            say_found(alloc, snapshot, &graph, options, &found, &faults, out)
+        }
+        Surveyed::Circular(circle) => say_circle(alloc, &graph, options.json, &circle, out),
+    }
+}
+
+/// The run of a recording that has just begun.
+fn run_recording<R: Read + Drop, B: Bounds, W: Write, N: Write>(
+    alloc: Global,
+    recording: &mut RecordingWithin<R, B>,
+    options: &SurveyOptions,
+    out: &mut W,
+    notes: &mut N,
+) -> u8
+    requires limits { B.limits ≡ limits_of options.now }
+    ensures { (bytes : List ℕ) → IsRecording B.limits R.remaining recording.old [] (answers_within B.limits bytes)
+        → IsWithin R.remaining recording.old.rows (records_within B.limits bytes) → fault_met recording.old.rows ≡ None
+        → IsSurveyRun options.now bytes (W.contents out.old) (W.contents out.new) result }
+{
+    match recording.pass_seals(alloc) {
+        Ok(()) => say(alloc, recording.snapshot(), options, out, notes),
+        Err(fault) => stop(alloc, recording, fault, options.json, out, notes),
+    }
+}
+
+/// The run of records within the limits that `B` stands for.
+fn run_within<R: Read + Drop, B: Bounds, W: Write, N: Write>(
+    alloc: Global,
+    reader: R,
+    options: &SurveyOptions,
+    out: &mut W,
+    notes: &mut N,
+) -> u8
+    requires limits { B.limits ≡ limits_of options.now }
+    ensures { IfSome (R.remaining reader) (λ bytes. IsSurveyRun options.now bytes (W.contents out.old) (W.contents out.new) result) }
+{
+    match RecordingWithin::<R, B>::new(alloc, reader) {
+        Ok(recording) => {
+            let mut recording = recording;
+            run_recording(alloc, &mut recording, options, out, notes)
+        }
+        Err(NoMemory) => print_memory(out, options.json),
+    }
+}
+
+/// Writes the contradicted reads, at the level, of all that the records of the reader finish, whatever they seal, with all read
+/// faults and the counts of the usual names, as text or as lines of JSON, and gives the number that the run ends with. Reads that
+/// can't be traced are left out. The lines go out one by one. What to mend, where records or reads have faults, goes to the notes.
+pub fn run_survey<R: Read + Drop, W: Write, N: Write>(
+    alloc: Global,
+    reader: R,
+    out: &mut W,
+    notes: &mut N,
+    options: SurveyOptions,
+) -> u8
+    ensures { IfSome (R.remaining reader) (λ bytes. IsSurveyRun options bytes (W.contents out.old) (W.contents out.new) result) }
+{
+    if options.large {
+        run_within::<R, LargeLimits, W, N>(alloc, reader, &options, out, notes)
+    } else {
+        run_within::<R, SmallLimits, W, N>(alloc, reader, &options, out, notes)
+    }
+}
