@@ -10,15 +10,20 @@ _tcc() {
     fi
     COMPREPLY=()
     if [ "$COMP_CWORD" -eq 1 ]; then
-        COMPREPLY=($(compgen -W 'explain check help --help --version' -- "$word"))
+        COMPREPLY=($(compgen -W 'explain survey check help --help --version' -- "$word"))
     elif [ "$command" = help ]; then
-        COMPREPLY=($(compgen -W 'explain check' -- "$word"))
+        COMPREPLY=($(compgen -W 'explain survey check' -- "$word"))
     elif [ "$command" = explain ]; then
         case $before in
             --level) COMPREPLY=($(compgen -W 'causal atomic' -- "$word")) ;;
             --workers) COMPREPLY=($(compgen -W '1 2 4 8 16 32' -- "$word")) ;;
             --certificate|--slice|--require) ;;
             *) [[ $word == -* ]] && COMPREPLY=($(compgen -W '--level --workers --json --quiet --large --slice --certificate --require --help' -- "$word")) ;;
+        esac
+    elif [ "$command" = survey ]; then
+        case $before in
+            --level) COMPREPLY=($(compgen -W 'causal atomic' -- "$word")) ;;
+            *) [[ $word == -* ]] && COMPREPLY=($(compgen -W '--level --json --large --help' -- "$word")) ;;
         esac
     elif [ "$command" = check ] && [[ $word == -* ]]; then
         COMPREPLY=($(compgen -W '--large --help' -- "$word"))

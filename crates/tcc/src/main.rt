@@ -1,5 +1,5 @@
 //! `tcc explain` reads the records of a history, says whether it is consistent at a level, and gives a certificate of
-//! that; `tcc check` judges one.
+//! that; `tcc check` judges one; `tcc survey` lists the contradicted reads of a history.
 #![tactic(auto)]
 
 mod watch;
@@ -15,6 +15,7 @@ use tcc_files::{
 };
 use tcc_large_run::run_large;
 use tcc_run::{OpenGate, Options, Status, run_explain};
+use tcc_survey_run::{SurveyOptions, run_survey};
 use tcc_words::{Request, read};
 use watch::Watch;
 
@@ -90,6 +91,19 @@ fn explain<W: Write>(
     }
 }
 
+/// Lists the contradicted reads of the records at the path, or of the standard input, and gives the status of the run.
+fn survey<W: Write>(
+    rt: &HostRuntime,
+    options: SurveyOptions,
+    history: Option<&str>,
+    out: &mut W,
+) -> u8 {
+    match open_input(rt, history) {
+        Ok(input) => run_survey(rt.alloc(), input, out, &mut rt.stderr(), options),
+        Err(error) => print_unopened(error.kind(), options.json, out),
+    }
+}
+
 fn main(rt: HostRuntime) -> ExitCode {
     let told = Telling::new(rt.stdout(), "standard output", rt.stderr());
     let mut out = Quiet::new(told);
@@ -120,6 +134,17 @@ fn main(rt: HostRuntime) -> ExitCode {
                 }
                 Err(error) => print_unopened(error.kind(), options.json, &mut out),
             }
+        }
+        Ok(
+            Request::Survey {
+                level,
+                json,
+                large,
+                history,
+            },
+        ) => {
+            let options = SurveyOptions { level, json, large };
+            survey(&rt, options, history.as_deref(), &mut out)
         }
         Ok(
             Request::Check {

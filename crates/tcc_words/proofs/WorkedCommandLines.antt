@@ -114,6 +114,22 @@ explain_asks : map (λ line. asks line.0) explain_lines ≡ map (λ line. line.1
 unfolding clap_on_literals
 explain_asks = refl
 
+-- ---- survey
+
+-- what is read behind it: the subcommand that was met, level, flags and path
+abbrev survey_asks : List Text → Option Text × Option Text × Option Text × Option Text × Option Text
+survey_asks words =
+    let met = subcommand_of program (codes "tcc" ∷ codes "survey" ∷ words) in
+    (option_map (λ entered. entered.0) met, level_text met, flag_text (codes "json") met, flag_text (codes "large") met, history_path met)
+
+abbrev survey_line : List Text
+survey_line = codes "--large" ∷ codes "h.csv" ∷ codes "--level=atomic" ∷ []
+
+survey_read : (faults (codes "survey" ∷ survey_line) ≡ []) × (survey_asks survey_line
+    ≡ (Some (codes "survey"), Some (codes "atomic"), Some (codes "false"), Some (codes "true"), Some (codes "h.csv")))
+unfolding clap_on_literals
+survey_read = (refl, refl)
+
 -- ---- check, of whichever program
 
 abbrev check_line : List Text

@@ -16,7 +16,7 @@ use Rattle.clap.specs.Kinds.{IsAmong}
 use Rattle.clap.specs.declared.error.kind.ErrorKind.{ErrorKind}
 use Rattle.clap.specs.declared.error.kind.ErrorKind.TheVariants.{ArgumentConflict, DisplayHelp, DisplayVersion, OutOfMemory}
 use Rattle.tcc_words.specs.declared.command_line.Request.{Request}
-use Rattle.tcc_words.specs.declared.command_line.Request.TheVariants.{Explain, Check}
+use Rattle.tcc_words.specs.declared.command_line.Request.TheVariants.{Explain, Survey, Check}
 use Rattle.tcc_graph.specs.declared.level.Level.{Level}
 use Rattle.tcc_graph.specs.declared.level.Level.TheVariants.{Causal, Atomic}
 use Rattle.tcc_print.specs.declared.status.Status.TheVariants.{Success, Memory, Usage}
@@ -87,18 +87,24 @@ explain_command levels =
     let sized : App = with_rule (with_rule answered (flag (codes "large"))) slice_option in
     with_rule (with_rule (with_rule sized certificate_option) require_option) (path (codes "history") false)
 
+-- survey [--level LEVEL] [--json] [--large] [FILE]
+abbrev pub survey_command : Words → App
+survey_command levels =
+    let judged : App = with_rule (new_app (codes "survey")) (level_option levels) in
+    with_rule (with_rule (with_rule judged (flag (codes "json"))) (flag (codes "large"))) (path (codes "history") false)
+
 -- check [--large] HISTORY CERTIFICATE
 abbrev pub check_command : App
 check_command =
     let sized : App = with_rule (new_app (codes "check")) (flag (codes "large")) in
     with_rule (with_rule sized (path (codes "history") true)) (path (codes "certificate") true)
 
--- tcc explain [OPTIONS] [FILE], or tcc check [--large] HISTORY CERTIFICATE: the program's name and version, and its subcommands, one of
+-- tcc explain [OPTIONS] [FILE], tcc survey [OPTIONS] [FILE], or tcc check [--large] HISTORY CERTIFICATE: the program's name and version, and its subcommands, one of
 -- which has to be given
 abbrev pub tcc_command : Words → App
 tcc_command levels =
     let named : App = on_top with_subcommand_required (on_top with_version (new_app (codes "tcc"))) in
-    with_subcommand (with_subcommand named (explain_command levels).top) check_command.top
+    with_subcommand (with_subcommand (with_subcommand named (explain_command levels).top) (survey_command levels).top) check_command.top
 
 -- what clap reads of a flag in the matches of a subcommand that was met
 abbrev pub flag_text : Text → Option (Text × List Row) → Option Text
@@ -171,19 +177,32 @@ AsksExplain met (Explain options history certificate large slice quiet) =
     × (option_map string_bytes certificate ≡ certificate_path met)
     × IsFlag (flag_text (codes "large") met) large × (option_map string_bytes slice ≡ slice_path met)
     × IsFlag (flag_text (codes "quiet") met) quiet
+AsksExplain met (Survey level json large history) = ⊥
 AsksExplain met (Check history certificate large) = ⊥
+
+-- the list is in lines of JSON and within the large limits by the flags, at the level of the word; the records are those of the file
+abbrev pub AsksSurvey : Option (Text × List Row) → Request → Type 0
+AsksSurvey met (Survey level json large history) =
+    IsLevel (level_text met) level × IsFlag (flag_text (codes "json") met) json × IsFlag (flag_text (codes "large") met) large
+    × IsInput (history_path met) (option_map string_bytes history)
+AsksSurvey met (Explain options history certificate large slice quiet) = ⊥
+AsksSurvey met (Check history certificate large) = ⊥
 
 -- the paths are those that clap finds, and it is within the large limits by the flag
 abbrev pub AsksCheck : List Row → Request → Type 0
 AsksCheck rows (Explain options history certificate large slice quiet) = ⊥
+AsksCheck rows (Survey level json large history) = ⊥
 AsksCheck rows (Check history certificate large) =
     (first_of (codes "history") rows ≡ Some (string_bytes history)) × (first_of (codes "certificate") rows ≡ Some (string_bytes certificate))
     × IsFlag (one_of (codes "large") rows) large
 
--- what the subcommand that was met asks for: a check by its name with its two paths; else answers
+-- what the subcommand that was met asks for: a check by its name with its two paths; a survey by its name; else answers
 abbrev pub AsksBy : Option (Text × List Row) → Request → Type 0
 AsksBy met (Explain options history certificate large slice quiet) =
-    (option_map (λ entered. entered.0) met ≢ Some (codes "check")) × AsksExplain met (Explain options history certificate large slice quiet)
+    (option_map (λ entered. entered.0) met ≢ Some (codes "check")) × (option_map (λ entered. entered.0) met ≢ Some (codes "survey"))
+    × AsksExplain met (Explain options history certificate large slice quiet)
+AsksBy met (Survey level json large history) =
+    (option_map (λ entered. entered.0) met ≡ Some (codes "survey")) × AsksSurvey met (Survey level json large history)
 AsksBy None (Check history certificate large) = ⊥
 AsksBy (Some entered) (Check history certificate large) = (entered.0 ≡ codes "check") × AsksCheck entered.1 (Check history certificate large)
 
@@ -194,6 +213,7 @@ Asks app words request = AsksBy (subcommand_of app words) request
 abbrev pub GoesTogether : Request → Type 0
 GoesTogether (Explain options history certificate large slice quiet) =
     (large ≡ false → slice ≡ None) × (quiet ≡ true → options.json ≡ false)
+GoesTogether (Survey level json large history) = Unit {0}
 GoesTogether (Check history certificate large) = Unit {0}
 
 -- a text, or the line `memory` in its place, goes out with its status

@@ -54,7 +54,7 @@ fn files_of(alloc: Global, matches: &ArgMatches) -> Result<Files, Error>
             certificate,
             large,
         }),
-        Request::Explain { .. } => unreachable!(),
+        Request::Explain { .. } | Request::Survey { .. } => unreachable!(),
     }
 }
 

@@ -5,10 +5,10 @@ ghost use Rattle.clap.specs.Words.{FailsBy, IsUnsignedIn, app_of, fault_of, foun
 ghost use Rattle.clap.specs.declared.error.kind.ErrorKind.TheVariants.{OutOfMemory};
 ghost use Rattle.tcc_graph.specs.declared.level.Level.{Level};
 ghost use Rattle.tcc_workers.specs.declared.workers.TheConstants.{MAX_WORKERS};
-ghost use Rattle.tcc_words.specs.CommandLines.{Asks, AsksBy, AsksCheck, AsksExplain, EndsUnasked, GoesTogether, IsAsked, IsFlag, IsInput, IsRequired, WasAsked};
+ghost use Rattle.tcc_words.specs.CommandLines.{Asks, AsksBy, AsksCheck, AsksExplain, AsksSurvey, EndsUnasked, GoesTogether, IsAsked, IsFlag, IsInput, IsRequired, WasAsked};
 ghost use Rattle.tcc_words.specs.CommandLines.{IsLevel, IsWorkers, PrintsHelp, SaysWorkers, certificate_option};
 ghost use Rattle.tcc_words.specs.CommandLines.{check_command, explain_command, flag, flag_text, level_option, level_text, level_word, option_text};
-ghost use Rattle.tcc_words.specs.CommandLines.{history_path, require_option, required_text, slice_option};
+ghost use Rattle.tcc_words.specs.CommandLines.{history_path, require_option, required_text, slice_option, survey_command};
 ghost use Rattle.tcc_words.specs.CommandLines.{path, path_option, tcc_command, valued_option, workers_option, workers_text};
 
 use crate::help;
@@ -40,6 +40,17 @@ pub enum Request {
         slice: Option<String>,
         /// Whether the lines of orders are left out; then no JSON is wanted.
         quiet: bool,
+    },
+    /// List the contradicted reads of records.
+    Survey {
+        /// The level to judge at.
+        level: Level,
+        /// Whether lines of JSON are wanted.
+        json: bool,
+        /// Whether records are taken up to the large limits.
+        large: bool,
+        /// The path of the records; without it they are those of the standard input.
+        history: Option<String>,
     },
     /// Judge a certificate for a history.
     Check {
@@ -227,11 +238,39 @@ pub(crate) fn check_command<'a>(alloc: Global) -> Result<Command<'a>, AllocError
     second.arg(certificate)
 }
 
+/// The subcommand that surveys, at one of these levels.
+fn survey_command<'a>(alloc: Global, levels: &'a [&'a str]) -> Result<Command<'a>, AllocError>
+    ensures { IfOk result (λ made. app_of made ≡ survey_command levels.entry) }
+{
+    let level = level_option(alloc, levels);
+    let json = flag(alloc, "json", "Lists in lines of JSON");
+    let large = flag(
+        alloc,
+        "large",
+        "Takes up to 1048575 transactions of 65535 sessions",
+    );
+    let history = path(
+        alloc,
+        "history",
+        "FILE",
+        "The file of the records; '-', or none, is standard input",
+        false,
+    );
+    let first = Command::new(alloc, "survey")
+        .about("Reads records and lists every contradicted read with its usual name")
+        .after_help(help::SURVEY)
+        .arg(level)?;
+    let second = first.arg(json)?;
+    let third = second.arg(large)?;
+    third.arg(history)
+}
+
 /// The command by which words are read, with these words for levels.
 fn command<'a>(alloc: Global, levels: &'a [&'a str]) -> Result<Command<'a>, AllocError>
     ensures { IfOk result (λ made. app_of made ≡ tcc_command levels.entry) }
 {
     let explain = explain_command(alloc, levels)?;
+    let survey = survey_command(alloc, levels)?;
     let check = check_command(alloc)?;
     let tcc = Command::new(alloc, "tcc")
         .about("Checks and explains causal consistency of transaction histories")
@@ -239,7 +278,8 @@ fn command<'a>(alloc: Global, levels: &'a [&'a str]) -> Result<Command<'a>, Allo
         .version(help::VERSION)
         .subcommand_required(true)
         .subcommand(explain)?;
-    tcc.subcommand(check)
+    let more = tcc.subcommand(survey)?;
+    more.subcommand(check)
 }
 
 /// Whether a flag of the subcommand is set.
@@ -373,6 +413,26 @@ fn options_of(alloc: Global, matches: &ArgMatches) -> Result<Request, Error>
     })
 }
 
+/// How a survey is wanted, and where its records are.
+fn survey_of(alloc: Global, matches: &ArgMatches) -> Result<Request, Error>
+    ensures asked { IfOk result (AsksSurvey (subcommand_rows_of matches.now)) }
+    ensures fails { IfErr result (λ e. kind_of e ≡ OutOfMemory) }
+{
+    let Some(level) = level_of(matches) else {
+        // Another word is a fault by clap, so only memory can be wanting.
+        return Err(Error::from(AllocError));
+    };
+    let json = is_set(matches, "json");
+    let large = is_set(matches, "large");
+    let history = history_of(alloc, matches)?;
+    Ok(Request::Survey {
+        level,
+        json,
+        large,
+        history,
+    })
+}
+
 /// The two files to check, and within which limits.
 pub(crate) fn paths_of(alloc: Global, matches: &ArgMatches) -> Result<Request, Error>
     ensures asked { IfOk result (AsksCheck (rows_of (found_of matches.now))) }
@@ -397,6 +457,7 @@ fn asked_of(alloc: Global, matches: &ArgMatches) -> Result<Request, Error>
 {
     match matches.subcommand() {
         Some((name, check)) if name == "check" => paths_of(alloc, check),
+        Some((name, _survey)) if name == "survey" => survey_of(alloc, matches),
         _ => options_of(alloc, matches),
     }
 }

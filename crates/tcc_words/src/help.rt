@@ -5,7 +5,7 @@ pub const VERSION: &str = "0.1.0";
 
 /// Where the help on each command is.
 pub const COMMANDS: &str =
-    "'tcc explain --help' and 'tcc check --help' show what is read, an example and the statuses.
+    "'tcc explain --help', 'tcc survey --help' and 'tcc check --help' show what is read, an example and the statuses.
 'man tcc' says how to read an answer, README.md of the sources also how to record a history.";
 
 /// Where the help on the checker's command is.
@@ -51,6 +51,30 @@ Statuses, of the last answer or of the fault that ended the run:
   5   out of memory
   6   reading or writing failed, the input has more than 134217728 bytes, with '--large' 1073741824,
       or a file can't be opened or made
+  64  the command line is wrong
+
+'man tcc' says how to read an answer, docs/FORMATS.md of the sources has every text and every limit.";
+
+/// The records, an example, and the statuses of a survey.
+pub const SURVEY: &str =
+    "The records are those that 'tcc explain' reads, all of them one history; a 'seal' is passed over. Listed is
+each read whose reader knew of another writer of the key that stands behind the one it read from, by sessions
+and reads alone. A history without such a read may still have an anomaly: 'tcc explain' finds it.
+
+Example: a session writes x, and its next transaction reads the initial x.
+  $ printf 'a,begin\\na,w,x,1\\na,commit\\na,begin\\na,r,x,0\\na,commit\\n' | tcc survey
+  contradicted a/2 op 1 x 0: knew of a/1, read your writes
+  read your writes: 1
+  1 contradicted reads of 1, 0 faults
+
+Statuses:
+  0   no read is contradicted, and none can't be judged
+  1   some are contradicted, or sessions and reads alone lead round
+  2   some reads can't be traced to a write, or values were written twice, and none is contradicted
+  3   a record breaks a rule, or the input ends inside a transaction
+  4   the records are past a limit
+  5   out of memory
+  6   reading or writing failed, the input has too many bytes, or a file can't be opened
   64  the command line is wrong
 
 'man tcc' says how to read an answer, docs/FORMATS.md of the sources has every text and every limit.";
