@@ -25,10 +25,13 @@ TYPES = {"object": dict, "array": list, "string": str, "integer": int, "boolean"
 OTHERS = {str: 7, int: "7", bool: 7, list: {}, dict: [], type(None): []}
 # What a line may lack, by its answer, and be one of another part.
 MAY_LACK = {("anomaly", "least"), ("row", "session"), ("none", "session")}
+# How the lines of a program or a script begin.
+BEGINS = ('{"answer"', '{"contradicted"', '{"count"')
 ENUMS = (
-    ("row", "kind", "crates/tcc_print/src/kinds.rt", r"RowFaultKind::(\w+)[^=]*=> Told", {"NoMemory", "Unfinished"}),
-    ("fault", "kind", "crates/tcc_reads/src/fault.rt", r"#\[error\([^)]*\)\]\n    (\w+),\n", {"NoMemory"}),
-    ("anomaly", "shape", "crates/tcc_answer/src/text.rt", r'Shape::\w+ => "([a-z-]+)"', set()),
+    (("row", "properties", "kind"), "crates/tcc_print/src/kinds.rt", r"RowFaultKind::(\w+)[^=]*=> Told", {"NoMemory", "Unfinished"}),
+    (("fault", "properties", "kind"), "crates/tcc_reads/src/fault.rt", r"#\[error\([^)]*\)\]\n    (\w+),\n", {"NoMemory"}),
+    (("anomaly", "properties", "shape"), "crates/tcc_answer/src/text.rt", r'Shape::\w+ => "([a-z-]+)"', set()),
+    (("usual-name",), "crates/tcc_survey_run/src/naming.rt", r'UsualName::\w+ => "([a-z ]+)"', set()),
 )
 
 
@@ -58,12 +61,12 @@ def is_of(value: Any, schema: Json, whole: Json) -> bool:
 
 
 def lines_of(paths: Iterable[pathlib.Path]) -> List[str]:
-    """The lines of JSON with an answer that cases want whole."""
+    """The lines of JSON that cases want whole."""
     found = set()
     for path in sorted(paths):
         case = json.loads(path.read_text())
         parts = [part for run in [case, *case.get("runs", [])] for part in run.get("output", []) if isinstance(run.get("output"), list)]
-        found |= {part for part in parts if isinstance(part, str) and part.startswith('{"answer"')}
+        found |= {part for part in parts if isinstance(part, str) and part.startswith(BEGINS)}
         found |= {json.dumps(part["json"]) for part in parts if isinstance(part, dict) and "answer" in part.get("json", {})}
     return sorted(found)
 
@@ -84,7 +87,7 @@ def altered(line: str) -> Iterator[Tuple[str, Any]]:
             for name in list(at(json.loads(line), path)):
                 value = json.loads(line)
                 mine = at(value, path)
-                if how == "without" and (value["answer"], name) in MAY_LACK:
+                if how == "without" and (value.get("answer"), name) in MAY_LACK:
                     continue
                 was = mine.pop(name)
                 if how == "other":
@@ -102,11 +105,11 @@ def at(value: Any, path: Place) -> Any:
 
 
 def enums(schema: Json) -> Iterator[Outcome]:
-    """Whether the words are those of the sources."""
-    for part, name, source, pattern, others in ENUMS:
+    """Whether the words of the parts that a schema has are those of the sources."""
+    for place, source, pattern, others in (one for one in ENUMS if one[0][0] in schema["$defs"]):
         words = set(re.findall(pattern, (TOP / source).read_text())) - others
-        told = set(schema["$defs"][part]["properties"][name]["enum"])
-        yield "schema: %s of %s" % (name, part), None if told == words else "it differs from %s in %s" % (source, sorted(told ^ words))
+        told = set(at(schema["$defs"], (*place, "enum")))
+        yield "schema: words of %s" % place[0], None if told == words else "they differ from %s in %s" % (source, sorted(told ^ words))
 
 
 def outcomes_of(schema: Json, lines: List[str]) -> Iterator[Outcome]:

@@ -100,6 +100,10 @@ LARGE_ORDER = b"tcc-certificate 3 causal\norder 5 4 4\n0 1\n1 1\n2 1\n3 1\nend\n
 LARGE_CYCLE = b"tcc-certificate 3 causal\ncycle 3 2 3\nS 0 1\nD 1 0 x 2 1\nS 1 2\nleast 0\nend\n"
 # More sessions than a small history has, all but one of aborted transactions alone.
 PAST = STALE.read_bytes() + b"".join(b"s%d,begin\ns%d,abort\n" % (number, number) for number in range(64))
+SURVEYED = [b"contradicted a/2 op 1 x 0: knew of a/1, read your writes\n", b"read your writes: 1\n", b"1 contradicted reads of 1, 0 faults\n"]
+SURVEYED_FAULTS = [b"unresolved: 2 faults\nAborted b/1 op 1 x 1\nThinAir b/1 op 2 z 7\n", b"0 contradicted reads of 0, 2 faults\n"]
+SURVEYED_JSON = [b'{"contradicted":"a/2","key":"x","name":"read your writes","op":1,"value":0,"writer":"a/1"}\n',
+                 b'{"count":1,"name":"read your writes"}\n', b'{"answer":"survey","contradicted":1,"faults":0,"reads":1}\n']
 FILES = {"certificate": FORK_CERTIFICATE, "two-stale-reads": TWO_STALE_READS, "large-order": LARGE_ORDER, "large-cycle": LARGE_CYCLE,
          "past": PAST}
 # The file of standard input, or none; the words after `tcc`, the answers, and the status. `@NAME` is one of these files.
@@ -128,6 +132,10 @@ ANSWERS = [
     (None, ["check", "--large", FORK, "@large-cycle"], b"rejected: rule 1 at 0 0\n", 7),
     # behind the answer its certificate takes memory, in whose place the line may stand
     ("@past", ["explain", "--large", "--certificate", "/dev/null"], [STALE_READ, b""], 1),
+    (STALE, ["survey"], SURVEYED, 1),
+    (EXAMPLES / "aborted-read.csv", ["survey", "--large"], SURVEYED_FAULTS, 2),
+    (STALE, ["survey", "--json"], SURVEYED_JSON, 1),
+    (EXAMPLES / "causality-cycle.csv", ["survey"], b"circular: a/1 b/1\n", 1),
 ]
 # The same, by one worker and by two.
 SEARCHES = [(STALE, STALE_READ, 1), (FORK, FORK_ORDER, 0), ("@two-stale-reads", STALE_READ, 1)]
