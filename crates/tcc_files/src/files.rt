@@ -155,6 +155,6 @@ pub fn check_large_opened<H: Read + Drop, C: Read + Drop, W: Write, N: Write>(
 {
     match opened {
         Ok((history, certificate)) => run_check_large(alloc, history, certificate, out, notes),
-        Err(error) => print_unopened(error.kind(), false, out),
+        Err(unopened) => print_unopened(unopened.kind(), false, out),
     }
 }
