@@ -1,12 +1,12 @@
 -- What goes into the files behind the last answer.
-use Rattle.std.proofs.Common.{◌≡◌, ℕ, List, [], Option, None, Some, Result, Ok, Err, ap, refl, sym, subst, ◌∙◌, inl, inr}
+use Rattle.std.proofs.Common.{◌≡◌, ℕ, List, Option, None, Some, Result, Ok, Err, refl, sym, subst, ◌∙◌, inl, inr}
 use Rattle.std.specs.Prelude.{IsErrAnd}
 use Rattle.tcc_txn.specs.Snapshots.{Sessions}
 use Rattle.tcc_reads.specs.Sources.{history}
 use Rattle.tcc_graph.specs.declared.link.Link.{Link}
 use Rattle.tcc_cert.specs.LargeTexts.{large_certificate_text}
 use Rattle.tcc_cert.specs.declared.large.LargeCertificate.{LargeCertificate}
-use Rattle.tcc_print.specs.Courses.{Contents, Gains, Said}
+use Rattle.tcc_print.specs.Courses.{Contents, Said}
 use Rattle.tcc_print.specs.declared.options.Options.{Options}
 use Rattle.tcc_print.proofs.Courses.{Gains-none}
 use Rattle.tcc_large_run.specs.LargeRuns.{Files, SliceStops, Stops}

@@ -1,3 +1,4 @@
 pub mod Files
 pub mod Outcomes
+pub mod Own
 pub mod Runs

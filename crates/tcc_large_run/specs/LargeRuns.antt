@@ -1,5 +1,5 @@
 -- What is answered for the records of an input within the large limits, and what a run of explain --large does with their bytes.
-use Rattle.std.specs.Prelude.{ℕ, ◌≡◌, ◌≢◌, ◌⊎◌, List, [], length, take, unwrap_or, Option, None, Some}
+use Rattle.std.specs.Prelude.{ℕ, ◌≡◌, ◌≢◌, ◌⊎◌, nat_le, if◌then◌else◌, List, [], length, take, unwrap_or, Option, None, Some}
 use Rattle.std.specs.Io.KnownBytes.{Appends}
 use Rattle.tcc_rows.specs.Answers as rows
 use Rattle.tcc_txn.specs.Finished.{KeepsLimits}
@@ -7,7 +7,7 @@ use Rattle.tcc_rows.specs.Items.{finished_in}
 use Rattle.tcc_txn.specs.Snapshots.{Sessions}
 use Rattle.tcc_txn.specs.declared.limits.Limits.TheVariants.{Large}
 use Rattle.tcc_reads.specs.Faults.{read_faults}
-use Rattle.tcc_reads.specs.History.{History, count}
+use Rattle.tcc_reads.specs.History.{History}
 use Rattle.tcc_reads.specs.Sources.{history}
 use Rattle.tcc_graph.specs.Levels.{judged}
 use Rattle.tcc_graph.specs.Links.{cost}
@@ -17,7 +17,6 @@ use Rattle.tcc_cert.specs.LargeTexts.{large_certificate_text}
 use Rattle.tcc_cert.specs.RunsTold.{order_claim_of}
 use Rattle.tcc_cert.specs.declared.large.LargeCertificate.{LargeCertificate}
 use Rattle.tcc_cert.specs.declared.large.LargeCertificate.TheVariants as claims
-use Rattle.tcc_cert.specs.declared.large.LinksClaim.{LinksClaim}
 use Rattle.tcc_cert.specs.declared.large.Run.{Run}
 use Rattle.tcc_answer.specs.Answers.{LabelledOrder, LabelledCycle}
 use Rattle.tcc_answer.specs.Labels.{labels_of}
@@ -30,6 +29,10 @@ use Rattle.tcc_large.specs.Slices.{IsSliceOf}
 use Rattle.tcc_large.specs.Texts.{records_text}
 use Rattle.tcc_large.specs.declared.decision.Decision.{Decision}
 use Rattle.tcc_large.specs.declared.decision.Decision.TheVariants as decision
+use Rattle.tcc_judge.specs.Claims.{links_claim_of}
+use Rattle.tcc_judge.specs.Verdicts.{IsVerdictOf, rules_of}
+use Rattle.tcc_judge.specs.declared.verdict.Verdict.{Verdict}
+use Rattle.tcc_judge.specs.declared.verdict.Verdict.TheVariants as verdict
 use Rattle.tcc_print.specs.Courses.{Contents, Gains, IsCourse, Said, TextFails, answer_said, faults_said}
 use Rattle.tcc_print.specs.Large.{unproved}
 use Rattle.tcc_print.specs.Printed.{Prints, answered, device_line, memory_line}
@@ -47,17 +50,17 @@ bare_order level h order = record { level = level; order = order; sessions = len
 abbrev pub bare_cycle : Level → History → List Link → LabelledCycle
 bare_cycle level h links = record { level = level; links = links; near = []; far = []; labels = labels_of h }
 
--- the claim that links are a cycle, and perhaps that it is a least one
-abbrev pub links_claim : Level → History → List Link → Option (List Run) → LinksClaim
-links_claim level h links least =
-    record { level = level; transactions = count h; links = links; cost = cost links; least = least }
+-- the runs beside a claim that a cycle of so many steps is a least one: none are needed for four steps at most, and of more it isn't
+-- claimed
+abbrev pub short_runs : ℕ → Option (List Run)
+short_runs steps = if nat_le steps 4 then Some [] else None
 
--- what is claimed of a history by what is decided of it: its order, told by runs; the links of a least cycle, with which no runs
--- are needed; or those of a cycle of which no more is known
+-- what is claimed of a history by what is decided of it: its order, told by runs; the links of a least cycle; or those of a cycle of
+-- which no more is known
 abbrev pub claim_of : Level → History → Decision → LargeCertificate
 claim_of level h (decision.Order order) = claims.Order (order_claim_of level h order.items)
-claim_of level h (decision.Least links) = claims.Cycle (links_claim level h links.items (Some []))
-claim_of level h (decision.Cycle links) = claims.Cycle (links_claim level h links.items None)
+claim_of level h (decision.Least links) = claims.Cycle (links_claim_of level h links.items (short_runs (cost links.items)))
+claim_of level h (decision.Cycle links) = claims.Cycle (links_claim_of level h links.items None)
 
 -- an answer as it is said of a small history, with the certificate of what is claimed
 abbrev pub claimed : Options → Answer → LargeCertificate → Said
@@ -188,3 +191,11 @@ IsLargeRun options bytes before after files files' code =
     (λ text last. AllGoesOut options (finished bytes) before after files files' text last code
     ⊎ ((TextFails before after files.certificate files'.certificate text code × Gains files.slice files'.slice [])
     ⊎ FileFails options (finished bytes) before after files files' text last code))
+
+-- ---- what is accepted
+
+-- what was said has a certificate, and no verdict on what it claims of the history but `Accepted` is that of the rules
+abbrev pub IsAcceptedOf : History → Said → Type 0
+IsAcceptedOf h said =
+    (claim : LargeCertificate) × (said.certificate ≡ Some (large_certificate_text claim))
+    × ((v : Verdict) → IsVerdictOf (rules_of h claim) v → v ≡ verdict.Accepted)

@@ -2,7 +2,8 @@
 ghost use Rattle.std.specs.Prelude.{◌≡◌, IfOk};
 ghost use Rattle.tcc_graph.specs.Links.{cost};
 ghost use Rattle.tcc_cert.specs.declared.large.LargeCertificate.TheVariants as claims;
-ghost use Rattle.tcc_large_run.specs.LargeRuns.{links_claim};
+ghost use Rattle.tcc_judge.specs.Claims.{links_claim_of};
+ghost use Rattle.tcc_large_run.specs.LargeRuns.{short_runs};
 ghost use Rattle.tcc_large_run.specs.private.Stages.{answer_claim};
 
 use std::alloc::Global;
@@ -48,7 +49,7 @@ pub(crate) fn cycle_claim(
     links: &[Link],
     least: Option<Runs>,
 ) -> Result<LargeCertificate, NoMemory>
-    ensures { IfOk result (λ claim. claim ≡ claims.Cycle (links_claim level graph.now links.now least)) }
+    ensures { IfOk result (λ claim. claim ≡ claims.Cycle (links_claim_of level graph.now links.now least)) }
 {
     let cost = steps_of(links)?;
     let links = Links::new(copied(alloc, links)?);
@@ -61,7 +62,19 @@ pub(crate) fn cycle_claim(
     }))
 }
 
-/// What the answer about a history claims: its order, or that its cycle is a least one, for which no runs are needed.
+/// The runs beside a claim that a cycle of so many steps is a least one: none are needed for four steps at most, and of more it isn't
+/// claimed.
+fn short_runs(alloc: Global, steps: u32) -> Option<Runs>
+    ensures { result ≡ short_runs steps }
+{
+    if steps <= 4 {
+        Some(Runs::new(Vec::new(alloc)))
+    } else {
+        None
+    }
+}
+
+/// What the answer about a history claims: its order, or its cycle, as a least one where it has four steps at most.
 pub(crate) fn answer_claim(
     alloc: Global,
     graph: &LargeGraph,
@@ -76,8 +89,8 @@ pub(crate) fn answer_claim(
             Ok(LargeCertificate::Order(claim))
         }
         Answer::Anomaly(anomaly) => {
-            let none = Runs::new(Vec::new(alloc));
-            cycle_claim(alloc, graph, level, anomaly.links(), Some(none))
+            let least = short_runs(alloc, anomaly.cost());
+            cycle_claim(alloc, graph, level, anomaly.links(), least)
         }
     }
 }

@@ -4,6 +4,7 @@
 
 mod certifying;
 mod claims;
+pub mod laws;
 mod outcome;
 mod running;
 mod slicing;

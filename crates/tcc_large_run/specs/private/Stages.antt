@@ -1,13 +1,13 @@
 -- How the stages of a run follow one another.
 use Rattle.std.specs.Prelude.{ℕ, ◌≡◌, ◌≢◌, ◌⊎◌, Bool, List, [], take, unwrap_or, Option, None, Some, Result, Ok, Err}
 use Rattle.std.specs.Io.KnownBytes.{Appends}
-use Rattle.std.specs.Global.{Vec}
 use Rattle.tcc_txn.specs.Finished.{KeepsLimits}
 use Rattle.tcc_txn.specs.Snapshots.{Sessions}
 use Rattle.tcc_txn.specs.declared.limits.Limits.TheVariants.{Large}
 use Rattle.tcc_reads.specs.Faults.{read_faults}
 use Rattle.tcc_reads.specs.History.{History}
 use Rattle.tcc_reads.specs.Sources.{history}
+use Rattle.tcc_graph.specs.Links.{cost}
 use Rattle.tcc_graph.specs.declared.level.Level.{Level}
 use Rattle.tcc_graph.specs.declared.link.Link.{Link}
 use Rattle.tcc_cert.specs.LargeTexts.{large_certificate_text}
@@ -21,6 +21,7 @@ use Rattle.tcc_answer.specs.declared.answer.Answer.{Answer}
 use Rattle.tcc_answer.specs.declared.answer.Answer.TheVariants as answer
 use Rattle.tcc_explain.specs.Explained.{IsAnswerOfHistory}
 use Rattle.tcc_graph.specs.Levels.{judged}
+use Rattle.tcc_judge.specs.Claims.{links_claim_of}
 use Rattle.tcc_large.specs.Decisions.{IsDecision}
 use Rattle.tcc_large.specs.declared.decision.Decision.{Decision}
 use Rattle.tcc_large.specs.declared.decision.Decision.TheVariants as decision
@@ -33,7 +34,7 @@ use Rattle.tcc_print.specs.declared.options.Options.{Options}
 use Rattle.tcc_print.specs.declared.status.Status.{Status}
 use Rattle.tcc_print.specs.declared.status.Status.TheVariants.{Anomaly, Device, Memory, ReadFaults}
 use Rattle.tcc_print.specs.private.Courses.{Course}
-use Rattle.tcc_large_run.specs.LargeRuns.{CertificateStops, Files, IsCertified, IsSaidOfSnapshot, IsSliceText, IsSliced, SliceStops, Stops, bare_cycle, bare_order, links_claim}
+use Rattle.tcc_large_run.specs.LargeRuns.{CertificateStops, Files, IsCertified, IsSaidOfSnapshot, IsSliceText, IsSliced, SliceStops, Stops, bare_cycle, bare_order, short_runs}
 use Rattle.tcc_large_run.specs.declared.outcome.Outcome.{Outcome}
 use Rattle.tcc_large_run.specs.declared.outcome.Outcome.TheVariants as outcome
 
@@ -77,7 +78,7 @@ outcome_status required (outcome.Cycle h labels links) = Anomaly
 -- what an answer past the small limits claims
 abbrev pub answer_claim : Level → History → Answer → LargeCertificate
 answer_claim level h (answer.Commit c) = claims.Order (order_claim_of level h c.order)
-answer_claim level h (answer.Anomaly a) = claims.Cycle (links_claim level h a.links (Some []))
+answer_claim level h (answer.Anomaly a) = claims.Cycle (links_claim_of level h a.links (short_runs (cost a.links)))
 
 -- the text of its certificate, where it is an answer
 abbrev pub outcome_certificate : Level → Outcome → Option (List ℕ)
@@ -85,7 +86,7 @@ outcome_certificate level (outcome.Unresolved faults) = None
 outcome_certificate level (outcome.Small a) = Some (certificate_text (certificate_of a))
 outcome_certificate level (outcome.Large h a) = Some (large_certificate_text (answer_claim level h a))
 outcome_certificate level (outcome.Cycle h labels links) =
-    Some (large_certificate_text (claims.Cycle (links_claim level h links.items None)))
+    Some (large_certificate_text (claims.Cycle (links_claim_of level h links.items None)))
 
 abbrev pub outcome_said : Options → Outcome → Said
 outcome_said options o = record {

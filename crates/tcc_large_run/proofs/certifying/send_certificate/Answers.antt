@@ -1,6 +1,6 @@
 use Rattle.std.proofs.Common.{None, ap}
 use Rattle.tcc_cert.specs.declared.large.LargeCertificate.TheVariants as claims
-use Rattle.tcc_large_run.specs.LargeRuns.{links_claim}
+use Rattle.tcc_judge.specs.Claims.{links_claim_of}
 use Rattle.tcc_large_run.specs.private.Stages.{answer_claim, outcome_said}
 use Rattle.tcc_large_run.specs.declared.outcome.Outcome.{Outcome}
 use Rattle.tcc_large_run.proofs.Files.{claim_sent}
@@ -16,7 +16,7 @@ returns-in-Large g c =
 pub returns-in-Cycle : goal.returns-in-Cycle
 returns-in-Cycle g c =
     let options = c.args.options.now in
-    let claim = claims.Cycle (links_claim options.level c.in-Cycle.graph c.in-Cycle.links.items None) in
+    let claim = claims.Cycle (links_claim_of options.level c.in-Cycle.graph c.in-Cycle.links.items None) in
     claim_sent options (outcome_said options c.args.outcome.now) claim c.send_claim-in-Cycle.result _ _ _ _
     (ap (λ (o : Outcome). (outcome_said options o).certificate) c.in-Cycle.is)
     (c.send_claim-in-Cycle.ensures claim (rw c.deref.ensures.value at c.cycle_claim-made.ensures))
