@@ -11,7 +11,7 @@ use std::thread::{self, Threads};
 use std::time::Clock;
 use tcc_files::{
     Apart, Input, Quiet, Telling, check_large_opened, check_opened, is_waited_for, open_both,
-    open_input, open_outputs, print_unopened,
+    open_input, open_output, open_outputs, print_unopened,
 };
 use tcc_large_run::run_large;
 use tcc_run::{OpenGate, Options, Status, run_explain};
@@ -56,32 +56,46 @@ fn run_shown<W: Write>(
     })
 }
 
-/// Explains the records of the input, up to the large limits or the small ones, and gives the status of the run. If paths are
-/// given, their files are for what comes behind the answers: the certificate of the last, and a slice.
-fn explain<W: Write>(
+/// Explains the records of the input, up to the large limits, and gives the status of the run. If paths are given, their files are
+/// for what comes behind the answers: the certificate of the last, and a slice.
+fn explain_large<W: Write>(
     rt: &HostRuntime,
     threads: &(impl Threads + Wait + Clock + Sync),
     options: Options,
-    large: bool,
     input: Telling<'_, Input>,
     certificate: &Option<String>,
     slice: &Option<String>,
     out: &mut W,
 ) -> u8 {
-    let opened = open_outputs(rt, certificate.as_deref(), slice.as_deref(), input.stream());
-    match opened {
-        Ok((certificate, slice)) if large => {
+    match open_outputs(rt, certificate.as_deref(), slice.as_deref(), input.stream()) {
+        Ok(files) => {
+            let (certificate, slice) = files;
             run_shown(rt, threads, options, input, certificate, slice, out)
         }
-        Ok((certificate, _slice)) => {
-            let mut certificate = certificate;
+        Err(error) => print_unopened(error.kind(), options.json, out),
+    }
+}
+
+/// Explains the records of the input, up to the small limits, and gives the status of the run. If a path is given, its file is for
+/// the certificate of the last answer.
+fn explain<W: Write>(
+    rt: &HostRuntime,
+    threads: &(impl Threads + Wait + Clock + Sync),
+    options: Options,
+    input: Telling<'_, Input>,
+    certificate: &Option<String>,
+    out: &mut W,
+) -> u8 {
+    match open_output(rt, certificate.as_deref(), input.stream()) {
+        Ok(file) => {
+            let mut file = file;
             let mut notes = rt.stderr();
             run_explain(
                 threads,
                 rt.alloc(),
                 input,
                 out,
-                &mut certificate,
+                &mut file,
                 &mut notes,
                 options,
                 &OpenGate,
@@ -121,16 +135,11 @@ fn main(rt: HostRuntime) -> ExitCode {
             out.leave_out_orders(quiet);
             match open_input(&rt, history.as_deref()) {
                 Ok(input) => {
-                    explain(
-                        &rt,
-                        &rt,
-                        options,
-                        large,
-                        input,
-                        &certificate,
-                        &slice,
-                        &mut out,
-                    )
+                    if large {
+                        explain_large(&rt, &rt, options, input, &certificate, &slice, &mut out)
+                    } else {
+                        explain(&rt, &rt, options, input, &certificate, &mut out)
+                    }
                 }
                 Err(error) => print_unopened(error.kind(), options.json, &mut out),
             }
