@@ -61,7 +61,7 @@ LEVELS = (ast.Module, ast.ClassDef, ast.FunctionDef)
 ELSEWHERE = {"Vec", "String", "Option", "Result", "Ordering", "Rattle"}
 MADE = re.compile(r"(?:history|names|places|records|answer|client-|certificate)\S*|store/|.*\bNAME\b.*|.*\bout/.*")
 COMPLETED = (
-    ("tcc ", "explain check help --help --version"),
+    ("tcc ", "explain survey check help --help --version"),
     ("tcc ex", "explain"),
     ("tcc explain --level ", "causal atomic"),
     ("tcc explain --level = at", "atomic"),
