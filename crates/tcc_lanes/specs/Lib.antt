@@ -1,3 +1,4 @@
+pub mod Among
 pub mod Contradicted
 pub mod Prices
 pub mod private

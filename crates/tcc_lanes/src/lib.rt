@@ -3,10 +3,12 @@
 #![tactic(auto)]
 
 pub mod laws;
+mod limits;
 mod marking;
 mod pricing;
 mod spreading;
 mod walking;
 mod words;
 
+pub use limits::{MOST_MEMBERS, MOST_STEPS};
 pub use pricing::{PricedLink, priced_links};

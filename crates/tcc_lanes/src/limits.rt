@@ -1,0 +1,6 @@
+//! What is looked at at most.
+
+/// The transactions among which cycles are looked for.
+pub const MOST_MEMBERS: usize = 4096;
+/// The steps below which a cycle is looked for.
+pub const MOST_STEPS: u32 = 64;
