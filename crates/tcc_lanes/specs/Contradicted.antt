@@ -1,5 +1,5 @@
 -- What ranks contradict, as the places of an order that keeps all pairs, and the cycles through it.
-use Rattle.std.specs.Prelude.{ℕ, ◌<◌, ◌≤◌, ◌+◌, List, length}
+use Rattle.std.specs.Prelude.{ℕ, ◌<◌, ◌≤◌, ◌≢◌, ◌+◌, List, length}
 use Rattle.tcc_graph.specs.Levels.{Judged}
 use Rattle.tcc_graph.specs.Links.{IsReason, cost}
 use Rattle.tcc_graph.specs.Routes.{IsRoute}
@@ -19,3 +19,8 @@ HasCheaper j n a x c =
 abbrev pub IsSpanned : Judged → (ℕ → ℕ) → ℕ → Type 0
 IsSpanned j rank v =
     (b : ℕ) × (a : ℕ) × (x : List ℕ) × (c : ℕ) × (walk : List Step) × IsReason j b a x c walk × (rank a ≤ rank v) × (rank v ≤ rank b)
+
+-- so of a derived link that doesn't lead into `init`
+abbrev pub IsSpannedAside : Judged → (ℕ → ℕ) → ℕ → Type 0
+IsSpannedAside j rank v =
+    (b : ℕ) × (a : ℕ) × (x : List ℕ) × (c : ℕ) × (walk : List Step) × IsReason j b a x c walk × (a ≢ 0) × (rank a ≤ rank v) × (rank v ≤ rank b)

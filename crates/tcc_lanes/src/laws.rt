@@ -1,12 +1,13 @@
 //! The laws of cycles where all pairs rise, as they do by the places of an order that keeps them: which readings to look at, and
 //! which transactions.
-ghost use Rattle.std.specs.Prelude.{◌↔◌, ℕ, List};
+ghost use Rattle.std.specs.Prelude.{◌≢◌, ◌↔◌, ℕ, List, All};
+ghost use Rattle.tcc_graph.specs.Links.{link_from, link_to};
 ghost use Rattle.tcc_graph.specs.Levels.{Judged};
 ghost use Rattle.tcc_graph.specs.Routes.{IsCycle};
 ghost use Rattle.tcc_graph.specs.declared.link.Link.{Link};
 ghost use Rattle.tcc_least.specs.LeadingBack.{Rises};
 ghost use Rattle.tcc_least.specs.Shapes.{NoneBelow};
-ghost use Rattle.tcc_lanes.specs.Contradicted.{HasCheaper, IsContradicted, IsSpanned};
+ghost use Rattle.tcc_lanes.specs.Contradicted.{HasCheaper, IsContradicted, IsSpanned, IsSpannedAside};
 
 /// No cycle costs less than n exactly where none does that comes back by a reading that the ranks contradict.
 pub fn contradicted()
@@ -17,4 +18,12 @@ pub fn contradicted()
 /// Each transaction of a cycle stands where a derived link leads back over it.
 pub fn spanned()
     ensures { (j : Judged) (rank : ℕ → ℕ) → Rises j.history rank → (v : ℕ) (links : List Link) → IsCycle j v links → IsSpanned j rank v }
+{}
+
+/// Of a cycle that never comes to `init`, each link begins and ends where a derived link leads back over it that doesn't lead into
+/// `init` either.
+pub fn spanned_aside()
+    ensures { (j : Judged) (rank : ℕ → ℕ) → Rises j.history rank → (v : ℕ) (links : List Link) → IsCycle j v links
+        → All (λ l. link_to l ≢ 0) links
+        → All (λ l. IsSpannedAside j rank (link_from l) × IsSpannedAside j rank (link_to l)) links }
 {}
