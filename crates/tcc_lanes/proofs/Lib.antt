@@ -1,8 +1,7 @@
 pub mod WordLemmas
+pub mod Tiles
 pub mod Spread
 pub mod Walked
 pub mod MarkLemmas
-pub mod Grown
-pub mod MeetingLemmas
-pub mod PricedLemmas
+pub mod IntoInit
 pub mod BackLemmas

@@ -1,8 +1,8 @@
 -- Walks, one pair longer each time.
-use Rattle.std.proofs.Common.{◌≡◌, ◌<◌, ◌≤◌, ◌+◌, ◌↔◌, inl, inr, ℕ, List, get_or, [], ◌∷◌, length, refl, sym, subst, arith}
+use Rattle.std.proofs.Common.{◌≡◌, ◌<◌, ◌+◌, ◌↔◌, inl, inr, ℕ, List, get_or, [], ◌∷◌, length, replicate, refl, sym, subst, arith}
 use Rattle.tcc_reads.specs.History.{History, count}
 use Rattle.tcc_graph.specs.Relations.{IsCausalPair}
-use Rattle.tcc_graph.specs.Levels.{Judged, judged, IsAllowed}
+use Rattle.tcc_graph.specs.Levels.{judged, IsAllowed}
 use Rattle.tcc_graph.specs.Walks.{IsWalk, step_to}
 use Rattle.tcc_graph.specs.declared.level.Level.{Level}
 use Rattle.tcc_graph.specs.declared.level.Level.TheVariants as level
@@ -12,8 +12,8 @@ use Rattle.tcc_graph.proofs.Walking.{pair_walk, walk_on}
 use Rattle.tcc_lanes.specs.declared.words.TheConstants.{LANES}
 use Rattle.tcc_lanes.specs.private.Marks.{HasLane, IsAt, IsLedTo}
 use Rattle.tcc_lanes.specs.private.Walking.{IsUnderway, IsWalkedOn, underway_at}
-use Rattle.tcc_lanes.proofs.WordLemmas.{either_has}
-use Rattle.tcc_lanes.specs.private.Walks.{IsWalkedTo, AreWalked, AreAllWalked}
+use Rattle.tcc_lanes.specs.private.Walks.{IsWalkedTo, AreWalked}
+use Rattle.tcc_lanes.proofs.WordLemmas.{either_has, zeros_nowhere}
 
 -- ---- a walk by its last pair
 data LastPair (h : History) (b : ℕ) (c : ℕ) (walk : List Step) : Type 0 where
@@ -37,55 +37,39 @@ one_allowed : (v : Level) (walk : List Step) → length walk ≡ 1 → IsAllowed
 one_allowed level.Causal walk one = tt
 one_allowed level.Atomic walk one = one
 
-module _ (h : History) (Start : ℕ → ℕ → ℕ → Type 0) (k : ℕ) (starts reached new : List ℕ) where
-  module _ (l : Level) (started : (u i : ℕ) → u < count h → i < LANES → IsAt starts u i → (e : ℕ) × Start e u i × (e ≤ k)) where
-    first_pair : (u v i : ℕ) → i < LANES → IsCausalPair h u v → IsAt starts u i → IsWalkedTo (judged h l) Start (k + 1) v i
-    first_pair u v i lane pair at =
-        let (e, is, low) = started u i (pair_below h u v pair).0 lane at in
-        let walk = pair_walk h u v pair in
-        record { cost = e; start = u; starts = is; walk = walk.0; is = (walk.1, one_allowed l walk.0 walk.2); within = omega (arith, low, walk.2) }
+module _ (h : History) (begun reached new : List ℕ) (n : ℕ) where
+  -- from where a lane begins, and from where it has come to
+  first_pair : (l : Level) (u v i : ℕ) → IsCausalPair h u v → IsAt begun u i → IsWalkedTo (judged h l) begun (n + 1) v i
+  first_pair l u v i pair at =
+      let walk = pair_walk h u v pair in (u, walk.0, at, (walk.1, one_allowed l walk.0 walk.2), omega (arith, walk.2))
 
-  pub walked_more : (l : Level) → ((u i : ℕ) → u < count h → i < LANES → IsAt starts u i → (e : ℕ) × Start e u i × (e ≤ k)) → AreWalked (judged h l) Start k reached
-      → ((v i : ℕ) → v < count h → i < LANES → IsAt new v i → IsWalkedOn h l starts reached v i) → AreWalked (judged h l) Start (k + 1) new
-  walked_more level.Causal started w each = λ v i below lane at. go v i lane (each v i below lane at)
-    where
-      go : (v i : ℕ) → i < LANES → IsWalkedOn h level.Causal starts reached v i → IsWalkedTo (judged h level.Causal) Start (k + 1) v i
-      go v i lane (u, pair, inl at) = first_pair level.Causal started u v i lane pair at
-      go v i lane (u, pair, inr at) =
-          let old = w u i (pair_below h u v pair).0 lane at in
-          let longer = walk_on h old.start u v old.walk old.is.0 pair in
-          record { cost = old.cost; start = old.start; starts = old.starts; walk = longer.0; is = (longer.1, tt); within = omega (arith, old.within, longer.2) }
-  walked_more level.Atomic started w each = λ v i below lane at. go v i lane (each v i below lane at)
-    where
-      go : (v i : ℕ) → i < LANES → IsWalkedOn h level.Atomic starts reached v i → IsWalkedTo (judged h level.Atomic) Start (k + 1) v i
-      go v i lane (u, pair, at) = first_pair level.Atomic started u v i lane pair at
+  there : (l : Level) → AreWalked (judged h l) begun n reached → (v i : ℕ) → i < LANES → IsWalkedOn h l begun reached v i
+      → IsWalkedTo (judged h l) begun (n + 1) v i
+  there level.Causal w v i lane (u, pair, inl at) = first_pair level.Causal u v i pair at
+  there level.Causal w v i lane (u, pair, inr at) =
+      let (start, walk, from, is, within) = (w u i (pair_below h u v pair).0 lane).0 at in
+      let longer = walk_on h start u v walk is.0 pair in
+      (start, longer.0, from, (longer.1, tt), omega (arith, within, longer.2))
+  there level.Atomic w v i lane (u, pair, at) = first_pair level.Atomic u v i pair at
 
-  pub all_walked_more : (l : Level) → ((u i e : ℕ) → i < LANES → Start e u i → e ≤ k → IsAt starts u i) → AreAllWalked (judged h l) Start k reached
-      → ((v i : ℕ) → v < count h → i < LANES → IsWalkedOn h l starts reached v i → IsAt new v i) → AreAllWalked (judged h l) Start (k + 1) new
-  all_walked_more level.Causal started w each = λ v i below lane is. each v i below lane (go v i lane is (last_of h is.start v is.walk is.is.0))
-    where
-      go : (v i : ℕ) → i < LANES → (is : IsWalkedTo (judged h level.Causal) Start (k + 1) v i) → LastPair h is.start v is.walk
-          → IsWalkedOn h level.Causal starts reached v i
-      go v i lane is (alone pair one) = (is.start, pair, inl (started is.start i is.cost lane is.starts (omega (arith, is.within, one))))
-      go v i lane is (behind u front walk long pair) = (
-        u,
-        pair,
-        inr (w u i (pair_below h u v pair).0 lane
-            (record { cost = is.cost; start = is.start; starts = is.starts; walk = front; is = (walk, tt); within = omega (arith, is.within, long) })),
-      )
-  all_walked_more level.Atomic started w each = λ v i below lane is. each v i below lane (go v i lane is (last_of h is.start v is.walk is.is.0))
-    where
-      go : (v i : ℕ) → i < LANES → (is : IsWalkedTo (judged h level.Atomic) Start (k + 1) v i) → LastPair h is.start v is.walk
-          → IsWalkedOn h level.Atomic starts reached v i
-      go v i lane is (alone pair one) = (is.start, pair, started is.start i is.cost lane is.starts (omega (arith, is.within, one)))
-      go v i lane is (behind u front walk long pair) = absurd (omega (arith, walk.0, long, is.is.1))
+  back : (l : Level) → AreWalked (judged h l) begun n reached → (v i : ℕ) → i < LANES → (is : IsWalkedTo (judged h l) begun (n + 1) v i)
+      → LastPair h is.0 v is.1 → IsWalkedOn h l begun reached v i
+  back level.Causal w v i lane (start, walk, from, is, within) (alone pair one) = (start, pair, inl from)
+  back level.Atomic w v i lane (start, walk, from, is, within) (alone pair one) = (start, pair, from)
+  back level.Causal w v i lane (start, walk, from, is, within) (behind u front front_is long pair) =
+      (u, pair, inr ((w u i (pair_below h u v pair).0 lane).1 (start, front, from, (front_is, tt), omega (arith, within, long))))
+  back level.Atomic w v i lane (start, walk, from, is, within) (behind u front front_is long pair) = absurd (omega (arith, front_is.0, long, is.1))
 
-  -- no pair yet
-  pub none_walked : (j : Judged) → ((v i : ℕ) → IsAt reached v i → ⊥) → (k : ℕ) → AreWalked j Start k reached
-  none_walked j none k = λ v i below lane at. absurd (none v i at)
+  pub walked_more : (l : Level) → AreWalked (judged h l) begun n reached
+      → ((v i : ℕ) → v < count h → i < LANES → IsAt new v i ↔ IsWalkedOn h l begun reached v i) → AreWalked (judged h l) begun (n + 1) new
+  walked_more l w each = λ v i below lane. (
+    (λ at. there l w v i lane ((each v i below lane).0 at)),
+    λ is. (each v i below lane).1 (back l w v i lane is (last_of h is.0 v is.1 is.3.0)),
+  )
 
-  pub all_none_walked : (j : Judged) → AreAllWalked j Start 0 reached
-  all_none_walked j = λ v i below lane is. absurd (omega (arith, is.within, is.is.0.0))
+-- no pair yet
+pub none_walked : (h : History) (l : Level) (begun : List ℕ) (n : ℕ) → AreWalked (judged h l) begun 0 (replicate n 0)
+none_walked h l begun n = λ v i below lane. ((λ at. absurd (zeros_nowhere n v i at)), λ is. absurd (omega (arith, is.4, is.3.0.0)))
 
 -- what spreads from where lanes are underway is walked on
 under : (l : Level) (starts reached underway : List ℕ) (v i : ℕ) → get_or underway v 0 ≡ underway_at l (get_or starts v 0) (get_or reached v 0)

@@ -1,10 +1,13 @@
 -- Words of marks: what is joined, what two have in common, and one mark more.
-use Rattle.std.proofs.Common.{◌≡◌, ◌≢◌, ◌<◌, ◌↔◌, ◌⊎◌, inl, inr, ℕ, sym, subst, ◌∙◌, arith, w64, ◌*◌, ◌%◌, ◌^◌}
+use Rattle.std.proofs.Common.{◌≡◌, ◌≢◌, ◌<◌, ◌≤◌, ◌↔◌, ◌⊎◌, inl, inr, ℕ, IsTrue, not, nat_eq, replicate, sym, ap, subst, ◌∙◌, arith, w64, ◌*◌, ◌%◌, ◌^◌}
 use Rattle.std.specs.Prelude.{bit_and, bit_or}
-use Rattle.std.specs.Int.{bit_at, bit_not}
-use Rattle.std.proofs.lemmas.Bool.{cases_eq}
-use Rattle.std.proofs.lemmas.Nat.Bits.{bit_at-lt, bit_at_or, bit_at_and, bit_at_not, bit_at-zero, bit_at_set_same, bit_at_set_other}
-use Rattle.tcc_lanes.specs.private.Marks.{HasLane}
+use Rattle.std.specs.Int.{bit_at, bit_not, trailing_zeros}
+use Rattle.std.proofs.lemmas.Bool.{cases_eq, cases_lt, eq-eqb, false≢true, ne_eqb}
+use Rattle.std.proofs.lemmas.List.{get_or-replicate, get_or_past, length-replicate}
+use Rattle.std.proofs.lemmas.Nat.{and_le_l}
+use Rattle.std.proofs.lemmas.Nat.Bits.{bit_at-lt, bit_at_or, bit_at_and, bit_at_not, bit_at-zero, bit_at_set_same, bit_at_set_other, bit_at-trailing_zeros}
+use Rattle.tcc_lanes.specs.declared.words.TheConstants.{LANES}
+use Rattle.tcc_lanes.specs.private.Marks.{HasLane, IsAt}
 
 -- a mark is a 1, and none a 0
 bit_cases : (word i : ℕ) → (bit_at word i ≡ 1) ⊎ (bit_at word i ≡ 0)
@@ -55,3 +58,31 @@ one_more word lane i inside within = (there (cases_eq i lane), back (cases_eq i 
     back (inl same) w = subst (λ (k : ℕ). HasLane (bit_or word (1 * 2 ^ lane % 2 ^ 64)) k) (sym same) (bit_at_set_same w64 word lane inside)
     back (inr other) (inl has) = bit_at_set_other w64 word lane inside i other ∙ has
     back (inr other) (inr same) = absurd (other same)
+
+-- words without marks
+pub zeros_nowhere : (n v i : ℕ) → IsAt (replicate n 0) v i → ⊥
+zeros_nowhere n v i at = go (cases_lt v n)
+  where
+    go : (v < n) ⊎ (n ≤ v) → ⊥
+    go (inl l) = none_has i (subst (λ (w : ℕ). HasLane w i) (get_or-replicate {A = ℕ} n v 0 0 l) at)
+    go (inr past) = none_has i (subst (λ (w : ℕ). HasLane w i) (get_or_past (replicate n 0) v 0 (omega (arith, length-replicate {A = ℕ} n 0))) at)
+
+-- a word that isn't 0 has a mark
+pub some_has : (word : ℕ) → word < 2 ^ 64 → word ≢ 0 → (i : ℕ) × (i < 64) × HasLane word i
+some_has word fits other = let w = bit_at-trailing_zeros w64 word (omega arith) fits in (trailing_zeros w64 word, w.0, w.1)
+
+-- two words have a lane in common exactly where what they share isn't 0
+pub sharing : (a b : ℕ) → a < 2 ^ 64 → IsTrue (not (nat_eq (bit_and a b) 0)) ↔ ((i : ℕ) × (i < LANES) × HasLane a i × HasLane b i)
+sharing a b fits = (there, back)
+  where
+    fits_both : bit_and a b < 2 ^ 64
+    fits_both = omega (arith, fits, and_le_l a b)
+
+    there : IsTrue (not (nat_eq (bit_and a b) 0)) → (i : ℕ) × (i < LANES) × HasLane a i × HasLane b i
+    there is =
+        let (i, inside, has) = some_has (bit_and a b) fits_both (λ none. false≢true (sym (ap not (eq-eqb (bit_and a b) 0 none)) ∙ is)) in
+        let both = (both_have a b i).0 has in (i, inside, both.0, both.1)
+
+    back : (i : ℕ) × (i < LANES) × HasLane a i × HasLane b i → IsTrue (not (nat_eq (bit_and a b) 0))
+    back (i, inside, in_a, in_b) =
+        ap not (ne_eqb (bit_and a b) 0 (λ none. none_has i (subst (λ (w : ℕ). HasLane w i) none ((both_have a b i).1 (in_a, in_b)))))

@@ -1,4 +1,3 @@
 pub mod Among
 pub mod Contradicted
-pub mod Prices
 pub mod private

@@ -2,4 +2,4 @@
 pub mod Marks
 pub mod Walking
 pub mod Walks
-pub mod Meeting
+pub mod IntoInit

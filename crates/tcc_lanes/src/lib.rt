@@ -2,13 +2,13 @@
 //! for each transaction. For N transactions and R reads a level takes N + R steps, whatever the lanes.
 #![tactic(auto)]
 
+mod into_init;
 pub mod laws;
 mod limits;
 mod marking;
-mod pricing;
 mod spreading;
 mod walking;
 mod words;
 
+pub use into_init::has_cheaper_into_init;
 pub use limits::{MOST_MEMBERS, MOST_STEPS};
-pub use pricing::{PricedLink, priced_links};

@@ -1,13 +1,17 @@
 //! Walks from where lanes start, one pair longer each time.
-ghost use Rattle.std.specs.Prelude.{◌≡◌, ◌<◌, ◌↔◌, ℕ, length, slice_index};
+ghost use Rattle.std.specs.Prelude.{◌≡◌, ◌<◌, ◌↔◌, ℕ, length, slice_index, IfOk};
 ghost use Rattle.tcc_reads.specs.History.{IsBySession, count};
+ghost use Rattle.tcc_graph.specs.Levels.{judged};
 ghost use Rattle.tcc_clocks.specs.Parents.{ArePrevious};
 ghost use Rattle.tcc_lanes.specs.declared.words.TheConstants.{LANES};
 ghost use Rattle.tcc_lanes.specs.private.Marks.{IsAt};
 ghost use Rattle.tcc_lanes.specs.private.Walking.{IsWalkedOn, underway_at};
+ghost use Rattle.tcc_lanes.specs.private.Walks.{AreWalked};
 
 use crate::spreading::spread;
+use std::alloc::Global;
 use tcc_graph::{LargeGraph, Level};
+use tcc_txn::NoMemory;
 
 /// The lanes that start at a transaction and, where the level allows longer walks, those that have come to it.
 fn underway_at(level: Level, starts: u64, reached: u64) -> u64
@@ -53,4 +57,28 @@ pub(crate) fn walk_on(
 {
     put_underway(level, starts, reached, underway);
     spread(graph, parent_of, underway, reached);
+}
+
+/// The lanes that have come to each transaction, by walks of so many pairs at most.
+pub(crate) fn walked(
+    alloc: Global,
+    graph: &LargeGraph,
+    level: Level,
+    parent_of: &[u32],
+    begun: &[u64],
+    most: u32,
+) -> Result<Vec<u64>, NoMemory>
+    requires numbered { IsBySession graph.now.entries }
+    requires parents { ArePrevious graph.now parent_of.now }
+    requires begun { length begun.now ≡ count graph.now }
+    ensures long { IfOk result (λ reached. length reached.items ≡ count graph.now) }
+    ensures each { IfOk result (λ reached. AreWalked (judged graph.now level) begun.now most reached.items) }
+{
+    let count = graph.count() as usize;
+    let mut reached = vec![in alloc; 0; count]?;
+    let mut underway = vec![in alloc; 0; count]?;
+    for _ in 0..most {
+        walk_on(graph, level, parent_of, begun, &mut reached, &mut underway);
+    }
+    Ok(reached)
 }

@@ -20,3 +20,10 @@ pub(crate) fn with_lane(word: u64, lane: usize) -> u64
 {
     word | 1 << lane
 }
+
+/// Whether two words have a lane in common.
+pub(crate) fn shares(a: u64, b: u64) -> bool
+    ensures { IsTrue result ↔ ((i : ℕ) × (i < LANES) × HasLane a i × HasLane b i) }
+{
+    a & b != 0
+}

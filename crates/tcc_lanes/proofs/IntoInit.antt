@@ -1,0 +1,201 @@
+-- Lanes of keys: where they begin, and where they are read from `init`.
+use Rattle.std.proofs.Common.{◌≡◌, ◌≢◌, ◌<◌, ◌≤◌, ◌+◌, ◌-◌, ◌↔◌, ◌⊎◌, inl, inr, ℕ, true, List, length, get_or, set, replicate, length-set, refl, sym, ap, subst, ◌∙◌, arith}
+use Rattle.std.specs.Prelude.{bit_or}
+use Rattle.std.specs.List.{All, Contains}
+use Rattle.std.proofs.lemmas.Bool.{cases_eq, cases_lt}
+use Rattle.std.proofs.lemmas.List.{get_or-set_other, get_or-set_same, get_or_default, length-replicate}
+use Rattle.std.proofs.lemmas.List.Elements.{Contains-get_or}
+use Rattle.tcc_reads.specs.History.{History, count}
+use Rattle.tcc_graph.specs.Keys.{keys, key_at, writes}
+use Rattle.tcc_graph.specs.Levels.{Judged, judged}
+use Rattle.tcc_graph.specs.Links.{IsReason}
+use Rattle.tcc_graph.specs.Relations.{IsReadsPair}
+use Rattle.tcc_graph.specs.declared.level.Level.{Level}
+use Rattle.tcc_graph.proofs.IndexedLemmas.{one_index}
+use Rattle.tcc_graph.proofs.SortedKeys.{keys_sorted}
+use Rattle.tcc_graph.proofs.Walking.{walk_below}
+use Rattle.tcc_least.proofs.ReadLemmas.{AreReadsAt, is_read, read_is}
+use Rattle.tcc_lanes.specs.Among.{HasCheaperIntoInit}
+use Rattle.tcc_lanes.specs.declared.words.TheConstants.{LANES}
+use Rattle.tcc_lanes.specs.private.Marks.{HasLane, IsAt, AreMarksOf}
+use Rattle.tcc_lanes.specs.private.Walks.{AreWalked}
+use Rattle.tcc_lanes.specs.private.IntoInit.{AreBegun, HasIntoInit, IsIntoInit, IsMetByInit, IsReadOfInit, IsWrittenBy}
+use Rattle.tcc_lanes.proofs.Tiles.{IsTile}
+use Rattle.tcc_lanes.proofs.WordLemmas.{either_has, none_has, zeros_nowhere}
+
+-- ---- the lanes of the keys that a transaction writes
+-- a word has the lanes of the first of some keys
+abbrev pub AreJoined : List ℕ → List ℕ → ℕ → ℕ → Type 0
+AreJoined key_lanes key_indices end word = (i : ℕ) → i < LANES → HasLane word i ↔ ((n : ℕ) × (n < end) × IsAt key_lanes (get_or key_indices n 0) i)
+
+pub joined_none : (key_lanes key_indices : List ℕ) → AreJoined key_lanes key_indices 0 0
+joined_none key_lanes key_indices = λ i l. ((λ has. absurd (none_has i has)), λ w. absurd (omega (arith, w.1)))
+
+pub joined_more : (key_lanes key_indices : List ℕ) (k word : ℕ) → AreJoined key_lanes key_indices k word
+    → AreJoined key_lanes key_indices (k + 1) (bit_or word (get_or key_lanes (get_or key_indices k 0) 0))
+joined_more key_lanes key_indices k word w = λ i l. (there i l, back i l)
+  where
+    one : ℕ
+    one = get_or key_lanes (get_or key_indices k 0) 0
+
+    there : (i : ℕ) → i < LANES → HasLane (bit_or word one) i → (n : ℕ) × (n < k + 1) × IsAt key_lanes (get_or key_indices n 0) i
+    there i l has = go ((either_has word one i).0 has)
+      where
+        go : HasLane word i ⊎ HasLane one i → (n : ℕ) × (n < k + 1) × IsAt key_lanes (get_or key_indices n 0) i
+        go (inl old) = let v = (w i l).0 old in (v.0, omega (arith, v.1), v.2)
+        go (inr new) = (k, omega arith, new)
+
+    back : (i : ℕ) → i < LANES → (n : ℕ) × (n < k + 1) × IsAt key_lanes (get_or key_indices n 0) i → HasLane (bit_or word one) i
+    back i l (n, less, at) = go (cases_eq n k)
+      where
+        go : (n ≡ k) ⊎ (n ≢ k) → HasLane (bit_or word one) i
+        go (inl same) = (either_has word one i).1 (inr (subst (λ (m : ℕ). IsAt key_lanes (get_or key_indices m 0) i) same at))
+        go (inr other) = (either_has word one i).1 (inl ((w i l).1 (n, omega (arith, less, other), at)))
+
+pub joined_all : (h : History) (key_lanes key_indices : List ℕ) (v : ℕ) → All (λ k. k < length (keys h)) key_indices
+    → ((k : ℕ) → k < length (keys h) → Contains key_indices k ↔ (writes h v (key_at h k) ≡ true)) → (n word : ℕ) → length key_indices ≡ n
+    → AreJoined key_lanes key_indices n word → (i : ℕ) → i < LANES → HasLane word i ↔ IsWrittenBy h key_lanes v i
+joined_all h key_lanes key_indices v inside written n word all w = λ i l. (there i l, back i l)
+  where
+    there : (i : ℕ) → i < LANES → HasLane word i → IsWrittenBy h key_lanes v i
+    there i l has =
+        let (m, less, at) = (w i l).0 has in
+        let within = inside m 0 (omega (arith, less, all)) in
+        (get_or key_indices m 0, within, (written (get_or key_indices m 0) within).0 (Contains-get_or key_indices m 0 (omega (arith, less, all))), at)
+
+    back : (i : ℕ) → i < LANES → IsWrittenBy h key_lanes v i → HasLane word i
+    back i l (k, within, is, at) =
+        let (m, inside_m, here) = (written k within).1 is in
+        (w i l).1 (m, omega (arith, inside_m, all), subst (λ (z : ℕ). IsAt key_lanes z i) (sym (get_or_default key_indices m 0 k inside_m ∙ here)) at)
+
+-- ---- who writes them
+-- so far
+abbrev pub AreBegunTo : History → List ℕ → ℕ → List ℕ → Type 0
+AreBegunTo h key_lanes end begun =
+    (length begun ≡ count h)
+    × ((v i : ℕ) → v < count h → i < LANES → IsAt begun v i ↔ ((0 < v) × (v < end) × IsWrittenBy h key_lanes v i))
+
+pub begun_none : (h : History) (key_lanes : List ℕ) → AreBegunTo h key_lanes 1 (replicate (count h) 0)
+begun_none h key_lanes = (
+  length-replicate {A = ℕ} (count h) 0,
+  λ v i below l. ((λ at. absurd (zeros_nowhere (count h) v i at)), λ w. absurd (omega (arith, w.0, w.1))),
+)
+
+pub begun_more : (h : History) (key_lanes : List ℕ) (k word : ℕ) (begun : List ℕ) → 0 < k → k < count h
+    → ((i : ℕ) → i < LANES → HasLane word i ↔ IsWrittenBy h key_lanes k i) → AreBegunTo h key_lanes k begun → AreBegunTo h key_lanes (k + 1) (set begun k word)
+begun_more h key_lanes k word begun some below each w = (length-set begun k word ∙ w.0, λ v i l m. at v i l m (cases_eq v k))
+  where
+    at : (v i : ℕ) → v < count h → i < LANES → (v ≡ k) ⊎ (v ≢ k) → IsAt (set begun k word) v i ↔ ((0 < v) × (v < k + 1) × IsWrittenBy h key_lanes v i)
+    at v i l m (inl same) =
+        rw (same, get_or-set_same begun k word 0 (omega (arith, below, w.0))) ((λ has. (some, omega arith, (each i m).0 has)), λ is. (each i m).1 is.2)
+    at v i l m (inr other) = rw (get_or-set_other begun k v word 0 other) (
+      (λ has. let is = (w.1 v i l m).0 has in (is.0, omega (arith, is.1), is.2)),
+      λ is. (w.1 v i l m).1 (is.0, omega (arith, is.1, other), is.2),
+    )
+
+pub begun_all : (h : History) (key_lanes : List ℕ) (n : ℕ) (begun : List ℕ) → count h ≤ n → AreBegunTo h key_lanes n begun → AreBegun h key_lanes begun
+begun_all h key_lanes n begun all w = record {
+  long = w.0;
+  each = λ v i l m. ((λ has. let is = (w.1 v i l m).0 has in (is.0, is.2)), λ is. (w.1 v i l m).1 (is.0, omega (arith, l, all), is.1));
+}
+
+-- ---- where they are read from `init`
+-- one of the first reads is no such read
+abbrev pub NoneRead : List ℕ → ℕ → List (ℕ × ℕ) → ℕ → Type 0
+NoneRead key_lanes word reads end =
+    (n : ℕ) → n < end → (get_or reads n (0, 0)).1 ≡ 0 → (i : ℕ) → i < LANES → HasLane word i → IsAt key_lanes (get_or reads n (0, 0)).0 i → ⊥
+
+module _ (h : History) (key_lanes : List ℕ) (word reader : ℕ) (reads : List (ℕ × ℕ)) (are : AreReadsAt h reader reads) (below : reader < count h) where
+  pub read_there : (n : ℕ) → n < length reads → (get_or reads n (0, 0)).1 ≡ 0
+      → (i : ℕ) × (i < LANES) × HasLane word i × IsAt key_lanes (get_or reads n (0, 0)).0 i → IsReadOfInit h key_lanes word reader
+  read_there n inside initial (i, lane, has, at) =
+      let read : ℕ × ℕ = get_or reads n (0, 0) in (
+        i,
+        lane,
+        has,
+        read.0,
+        (are.within n (0, 0) inside).0,
+        subst (λ (z : ℕ). IsReadsPair h z reader (key_at h read.0)) initial (is_read h reader reads are read (Contains-get_or reads n (0, 0) inside) below),
+        at,
+      )
+
+  pub none_there : (n : ℕ) → length reads ≤ n → NoneRead key_lanes word reads n → IsReadOfInit h key_lanes word reader → ⊥
+  none_there n all none (i, lane, has, k, inside, pair, at) = go (read_is h reader reads are 0 (key_at h k) pair)
+    where
+      go : (read : ℕ × ℕ) × Contains reads read × (read.1 ≡ 0) × (key_at h read.0 ≡ key_at h k) → ⊥
+      go (read, (m, within, is), initial, key) =
+          none m (omega (arith, within, all)) (ap (λ (r : ℕ × ℕ). r.1) here ∙ initial) i lane has
+          (subst (λ (z : ℕ). IsAt key_lanes z i) (sym (ap (λ (r : ℕ × ℕ). r.0) here ∙ same)) at)
+        where
+          here : get_or reads m (0, 0) ≡ read
+          here = get_or_default reads m (0, 0) read within ∙ is
+
+          same : read.0 ≡ k
+          same =
+              one_index (keys h) (keys_sorted h) read.0 k
+              (subst (λ (r : ℕ × ℕ). r.0 < length (keys h)) here (are.within m (0, 0) within).0) inside key
+
+-- ---- some keys together
+module _ (h : History) (level : Level) (most : ℕ) (tile key_lanes begun reached : List ℕ) (inside : All (λ k. k < length (keys h)) tile) (lanes : length tile ≤ LANES)
+    (marks : AreMarksOf (length (keys h)) tile (length tile) key_lanes) (begins : AreBegun h key_lanes begun) (walked : AreWalked (judged h level) begun most reached) where
+  pub met : IsMetByInit h key_lanes reached → HasIntoInit (judged h level) most tile
+  met (reader, below, (i, lane, has, k, within, pair, at)) =
+      let (start, walk, from, is, short) = (walked reader i below lane).0 has in
+      let (some, (key, inside_key, writer, key_at_lane)) = (begins.each start i (walk_below h start reader walk is.0).0 lane).0 from in
+      let (listed, here) = (marks.each k i within lane).0 at in
+      let (_, there) = (marks.each key i inside_key lane).0 key_at_lane in (
+        i,
+        listed,
+        (
+          start,
+          reader,
+          walk,
+          (
+            (
+              omega (arith, some),
+              subst (λ (z : ℕ). IsReadsPair h 0 reader (key_at h z)) (sym here) pair,
+              ((walk_below h start reader walk is.0).0, subst (λ (z : ℕ). writes h start (key_at h z) ≡ true) (sym there) writer),
+            ),
+            is,
+          ),
+          short,
+        ),
+      )
+
+  pub is_met : HasIntoInit (judged h level) most tile → IsMetByInit h key_lanes reached
+  is_met (i, listed, (b, c, walk, reason, short)) =
+      let k = get_or tile i 0 in
+      let within = inside i 0 listed in
+      let lane : i < LANES = omega (arith, listed, lanes) in
+      let at : IsAt key_lanes k i = (marks.each k i within lane).1 (listed, refl) in
+      let from : IsAt begun b i = (begins.each b i reason.0.2.0 lane).1 (omega (arith, reason.0.0), (k, within, reason.0.2.1, at)) in
+      (c, reason.0.1.1, (i, lane, (walked c i reason.0.1.1 lane).1 (b, walk, from, reason.1, short), k, within, reason.0.1, at))
+
+-- ---- all keys
+abbrev pub NoneTo : Judged → ℕ → List ℕ → ℕ → Type 0
+NoneTo j longest key_indices end = (n : ℕ) → n < end → n < length key_indices → IsIntoInit j longest (get_or key_indices n 0) → ⊥
+
+module _ (j : Judged) (most longest : ℕ) (key_indices : List ℕ) (is : longest ≡ most - 3) where
+  cheaper : (n : ℕ) → n < length key_indices → IsIntoInit j longest (get_or key_indices n 0) → HasCheaperIntoInit j key_indices most
+  cheaper n inside (b, c, walk, reason, short) =
+      (b, get_or key_indices n 0, c, walk, Contains-get_or key_indices n 0 inside, reason, omega (arith, short, is, reason.1.0.0))
+
+  module _ (from last : ℕ) (tile : List ℕ) (tiled : IsTile key_indices from last tile) where
+    pub in_tile : HasIntoInit j longest tile → HasCheaperIntoInit j key_indices most
+    in_tile (i, inside, into) =
+        cheaper (from + i) (omega (arith, inside, tiled.long)) (subst (λ (z : ℕ). IsIntoInit j longest z) (tiled.each i inside) into)
+
+    pub none_more : (HasIntoInit j longest tile → ⊥) → NoneTo j longest key_indices from → NoneTo j longest key_indices last
+    none_more none before n less inside into = go (cases_lt n from)
+      where
+        go : (n < from) ⊎ (from ≤ n) → ⊥
+        go (inl early) = before n early inside into
+        go (inr late) =
+            let within : n - from < length tile = omega (arith, tiled.long, less, inside, late) in
+            let back : from + (n - from) ≡ n = omega (arith, late) in
+            none (n - from, within, subst (λ (z : ℕ). IsIntoInit j longest z) (sym (tiled.each (n - from) within ∙ ap (λ (m : ℕ). get_or key_indices m 0) back)) into)
+
+  pub none_left : (end : ℕ) → length key_indices ≤ end → NoneTo j longest key_indices end → HasCheaperIntoInit j key_indices most → ⊥
+  none_left end all none (b, k, c, walk, (n, inside, here), reason, cheap) =
+      none n (omega (arith, inside, all)) inside
+      (b, c, walk, subst (λ (z : ℕ). IsReason j b 0 (key_at j.history z) c walk) (sym (get_or_default key_indices n 0 k inside ∙ here)) reason, omega (arith, cheap, is))

@@ -1,0 +1,125 @@
+//! Derived links into `init`, 64 keys at a time: the lane of a key begins at who writes it, and is met where it is read from `init`.
+//! For K keys, N transactions and R reads, and walks of so many steps at most, that takes K / 64 times so many sweeps of N + R.
+ghost use Rattle.std.specs.Prelude.{◌≡◌, ◌≤◌, ◌<◌, ◌↔◌, ℕ, length, All, IfOk, IsTrue};
+ghost use Rattle.tcc_reads.specs.History.{IsBySession, count};
+ghost use Rattle.tcc_graph.specs.Keys.{keys};
+ghost use Rattle.tcc_graph.specs.Levels.{judged};
+ghost use Rattle.tcc_clocks.specs.Parents.{ArePrevious};
+ghost use Rattle.tcc_lanes.specs.declared.words.TheConstants.{LANES};
+ghost use Rattle.tcc_lanes.specs.Among.{HasCheaperIntoInit};
+ghost use Rattle.tcc_lanes.specs.private.Marks.{HasLane};
+ghost use Rattle.tcc_lanes.specs.private.IntoInit.{AreBegun, HasIntoInit, IsMetByInit, IsReadOfInit, IsWrittenBy};
+
+use crate::marking::marks_of;
+use crate::walking::walked;
+use crate::words::{LANES, shares};
+use std::alloc::Global;
+use tcc_clocks::previous_of_each;
+use tcc_graph::{LargeGraph, Level};
+use tcc_txn::NoMemory;
+
+/// The lanes whose keys a transaction writes.
+fn lanes_written(graph: &LargeGraph, key_lanes: &[u64], v: u32) -> u64
+    requires some { 0 < v }
+    requires below { v < count graph.now }
+    requires lanes { length key_lanes.now ≡ length (keys graph.now) }
+    ensures { (i : ℕ) → i < LANES → HasLane result i ↔ IsWrittenBy graph.now key_lanes.now v i }
+{
+    let mut word = 0;
+    for key_index in graph.writes_at(v) {
+        word |= key_lanes[*key_index as usize];
+    }
+    word
+}
+
+/// Each lane at who writes its key.
+fn begun_at_writers(
+    alloc: Global,
+    graph: &LargeGraph,
+    key_lanes: &[u64],
+) -> Result<Vec<u64>, NoMemory>
+    requires lanes { length key_lanes.now ≡ length (keys graph.now) }
+    ensures { IfOk result (λ begun. AreBegun graph.now key_lanes.now begun.items) }
+{
+    let mut begun = vec![in alloc; 0; graph.count() as usize]?;
+    for v in 1..graph.count() {
+        begun[v as usize] = lanes_written(graph, key_lanes, v);
+    }
+    Ok(begun)
+}
+
+/// Whether a transaction reads the key of one of these lanes from `init`.
+fn reads_initial(graph: &LargeGraph, key_lanes: &[u64], word: u64, reader: u32) -> bool
+    requires reader { reader < count graph.now }
+    requires lanes { length key_lanes.now ≡ length (keys graph.now) }
+    ensures { IsTrue result ↔ IsReadOfInit graph.now key_lanes.now word reader }
+{
+    for read in graph.reads_at(reader) {
+        if read.1 == 0 && shares(word, key_lanes[read.0 as usize]) {
+            return true;
+        }
+    }
+    false
+}
+
+/// Whether one does that such a lane has come to.
+fn is_met(graph: &LargeGraph, key_lanes: &[u64], reached: &[u64]) -> bool
+    requires reached { length reached.now ≡ count graph.now }
+    requires lanes { length key_lanes.now ≡ length (keys graph.now) }
+    ensures { IsTrue result ↔ IsMetByInit graph.now key_lanes.now reached.now }
+{
+    for reader in 0..graph.count() {
+        if reads_initial(graph, key_lanes, reached[reader as usize], reader) {
+            return true;
+        }
+    }
+    false
+}
+
+/// Whether a derived link leads into `init` by one of these keys, by a walk of so many steps at most.
+fn has_into_init(
+    alloc: Global,
+    graph: &LargeGraph,
+    level: Level,
+    parent_of: &[u32],
+    key_indices: &[u32],
+    most: u32,
+) -> Result<bool, NoMemory>
+    requires numbered { IsBySession graph.now.entries }
+    requires parents { ArePrevious graph.now parent_of.now }
+    requires lanes { length key_indices.now ≤ LANES }
+    requires inside { All (λ k. k < length (keys graph.now)) key_indices.now }
+    ensures { IfOk result (λ found. IsTrue found ↔ HasIntoInit (judged graph.now level) most key_indices.now) }
+{
+    let key_lanes = marks_of(alloc, graph.keys().len(), key_indices)?;
+    let begun = begun_at_writers(alloc, graph, &key_lanes)?;
+    let reached = walked(alloc, graph, level, parent_of, &begun, most)?;
+    Ok(is_met(graph, &key_lanes, &reached))
+}
+
+/// Whether a derived link into `init`, by a reader of one of these keys, and a pair that leads on from there cost less than `most`.
+/// Each key is told by its index.
+pub fn has_cheaper_into_init(
+    alloc: Global,
+    graph: &LargeGraph,
+    level: Level,
+    key_indices: &[u32],
+    most: u32,
+) -> Result<bool, NoMemory>
+    requires { All (λ k. k < length (keys graph.now)) key_indices.now }
+    ensures { IfOk result (λ found. IsTrue found ↔ HasCheaperIntoInit (judged graph.now level) key_indices.now most) }
+{
+    // transactions stand by session and by place, as this call says
+    graph.sessions();
+    let parent_of = previous_of_each(alloc, graph)?;
+    let longest = most.saturating_sub(3);
+    for block in 0..key_indices.len().div_ceil(LANES) {
+        let from = block * LANES;
+        let end = key_indices.len().min(from + LANES);
+        let tile = &key_indices[from..end];
+        if has_into_init(alloc, graph, level, &parent_of, tile, longest)? {
+            return Ok(true);
+        }
+    }
+    Ok(false)
+}
