@@ -24,6 +24,7 @@ pub mod CollectFacts
 pub mod OneText
 pub mod OneClaim
 pub mod Ends
+pub mod OwnLinks
 mod LargeOnward
 mod LargeReads
 pub mod LargePartFacts

@@ -1,10 +1,10 @@
 -- The rules for a claim that a cycle is least. The tables are anybody's: `near` claims to bound the lengths of walks from below, `far` the costs of routes.
-use Rattle.std.specs.Prelude.{ℕ, ◌<◌, ◌≤◌, ◌≡◌, ◌+◌, ◌⊎◌, List, [], ◌∷◌, ◌++◌, length, All}
+use Rattle.std.specs.Prelude.{ℕ, ◌<◌, ◌≤◌, ◌≡◌, ◌+◌, ◌⊎◌, List, [], ◌∷◌, ◌++◌, length, All, Option, None, Some}
 use Rattle.tcc_reads.specs.History.{History, count}
 use Rattle.tcc_graph.specs.Relations.{IsCausalPair}
 use Rattle.tcc_graph.specs.Walks.{step_from, step_to}
 use Rattle.tcc_graph.specs.Levels.{Judged}
-use Rattle.tcc_graph.specs.Links.{MayContradict, IsLink, link_from, link_to}
+use Rattle.tcc_graph.specs.Links.{MayContradict, IsLink, cost, link_from, link_to}
 use Rattle.tcc_graph.specs.declared.level.Level.{Level}
 use Rattle.tcc_graph.specs.declared.level.Level.TheVariants.{Causal}
 use Rattle.tcc_graph.specs.declared.step.Step.{Step}
@@ -53,6 +53,23 @@ pub record IsWrongFrom (j : Judged) (from : ℕ) (links : List Link) (i : ℕ) :
 -- the same, where it has to begin where the last ends
 abbrev pub IsLinkWrong : Judged → List Link → ℕ → Type 0
 IsLinkWrong j links i = IsWrongFrom j (ends_at 0 links) links i
+
+-- the links, one at least, are a cycle of this cost
+pub record AreLinksRight (j : Judged) (most : ℕ) (links : List Link) : Type 0 where
+  pub some : 0 < length links
+  pub right : (i : ℕ) → IsLinkWrong j links i → ⊥
+  pub costs : cost links ≡ most
+
+-- where they are not: at the first link that is not right, from 1, or, where all are, at 0
+abbrev pub IsLinksFault : Judged → ℕ → List Link → ℕ × ℕ → Type 0
+IsLinksFault j most links at =
+    (IsLinkWrong j links at.0 × ((at.1 ≡ 0) × ((i : ℕ) → i < at.0 → IsLinkWrong j links i → ⊥)))
+    ⊎ ((at ≡ (0, 0)) × (((i : ℕ) → IsLinkWrong j links i → ⊥) × (AreLinksRight j most links → ⊥)))
+
+-- the first of them that is not right, from 1; 0 where all are, but there are none, or they cost another sum; none where they are
+abbrev pub IsFirstWrongLink : Judged → ℕ → List Link → Option ℕ → Type 0
+IsFirstWrongLink j most links None = AreLinksRight j most links
+IsFirstWrongLink j most links (Some at) = IsLinksFault j most links (at, 0)
 
 -- causal pairs are no farther than 1
 abbrev pub BreaksNearPair : History → List (List ℕ) → ℕ × ℕ → Type 0

@@ -1,8 +1,7 @@
 -- What a certificate has to keep.
-use Rattle.std.specs.Prelude.{ℕ, ◌<◌, ◌≡◌, length}
+use Rattle.std.specs.Prelude.{ℕ}
 use Rattle.tcc_reads.specs.History.{History}
-use Rattle.tcc_graph.specs.Links.{cost}
-use Rattle.tcc_cert.specs.CycleRules.{HasRightSizes, IsLinkWrong}
+use Rattle.tcc_cert.specs.CycleRules.{AreLinksRight, HasRightSizes}
 use Rattle.tcc_cert.specs.CycleRules.{BreaksNearPair, BreaksNearStep, BreaksFarLink, BreaksFarStep}
 use Rattle.tcc_cert.specs.CycleRules.{BreaksReturn}
 use Rattle.tcc_cert.specs.OrderRules.{HasOrderSizes, KeepsPairs, BreaksAxiom}
@@ -17,10 +16,8 @@ abbrev pub HoldsEverywhere : (ℕ × ℕ → Type 0) → Type 0
 HoldsEverywhere broken = (at : ℕ × ℕ) → broken at → ⊥
 
 -- the links, one at least, are a cycle of the cost that is claimed
-pub record IsRightCycle (h : History) (k : CycleClaim) : Type 0 where
-  pub some : 0 < length k.links
-  pub right : (i : ℕ) → IsLinkWrong (judged h k.level) k.links i → ⊥
-  pub costs : cost k.links ≡ k.least
+abbrev pub IsRightCycle : History → CycleClaim → Type 0
+IsRightCycle h k = AreLinksRight (judged h k.level) k.least k.links
 
 -- the claim that a cycle is least is certified
 pub record CertifiesCycle (h : History) (k : CycleClaim) : Type 0 where

@@ -19,11 +19,10 @@ use Rattle.tcc_graph.specs.declared.link.Link.TheVariants as link
 use Rattle.tcc_cert.specs.declared.version.Version.{Version}
 use Rattle.tcc_cert.specs.declared.version.Version.TheVariants as version
 use Rattle.tcc_cert.specs.Tables.{entry, lowest, far_entry}
-use Rattle.tcc_cert.specs.CycleRules.{IsLinkRight, ends_at}
+use Rattle.tcc_cert.specs.CycleRules.{ends_at}
 use Rattle.tcc_cert.specs.Rules.{CertifiesCycle}
 use Rattle.tcc_cert.specs.declared.certificate.CycleClaim.{CycleClaim}
-use Rattle.tcc_check.proofs.Decisions.{true_at_last, link_right}
-use Rattle.tcc_cert.proofs.Ends.{ends_at-push, ends_at_some}
+use Rattle.tcc_check.proofs.RightLinks.{cycle_of_right}
 use Rattle.tcc_graph.proofs.Pairs.{step_pair, pair_below, link_below}
 use Rattle.tcc_graph.proofs.Upward.{IsTurned, turn_lowest}
 
@@ -120,41 +119,14 @@ module _ (h : History) (k : CycleClaim) (good : CertifiesCycle h k) where
       not_above _ _ (λ m. good.returns (w.lowest, w.lowest) (route_from w.lowest w.lowest w.turned w.route.0, (refl, m))) in
       omega (arith, back, far_route w.lowest w.lowest w.turned w.route, w.costs)
 
-  -- each link right, the links lead on from where those before them end
-  lead : (before : List Link) (links : List Link) (at : ℕ) → k.links ≡ before ++ links → at ≡ ends_at (ends_at 0 k.links) before
-      → LinksLead (judged h k.level) at (ends_at at links) links
-  lead before [] at split here = refl
-  lead before (l ∷ links) at split here =
-      let right =
-      true_at_last (link_right (judged h k.level) at l)
-      (λ wrong. good.cycle.right (length before + 1)
-      (record {
-        before = before;
-        link = l;
-        after = links;
-        split = split;
-        at = refl;
-        wrong = subst (λ (z : ℕ). IsLinkRight (judged h k.level) z l → ⊥) here wrong;
-      })) in (
-        right.0,
-        right.1,
-        lead (before ++ l ∷ []) links (link_to l) (split ∙ sym (append_assoc before (l ∷ []) links))
-            (sym (ends_at-push (ends_at 0 k.links) before l)),
-      )
-
   pub least_cycle : ((s : ℕ) × IsLeastCycle (judged h k.level) s k.links) × (cost k.links ≡ k.least)
-  least_cycle =
-      let s = ends_at 0 k.links in (
-        (
-          s,
-          record {
-            cycle = (
-              good.cycle.some,
-              subst (λ (z : ℕ). LinksLead (judged h k.level) s z k.links) (ends_at_some s 0 k.links good.cycle.some)
-                  (lead [] k.links s refl refl),
-            );
-            least = λ t others w. omega (arith, no_less t others (turn_lowest (judged h k.level) t others w), good.cycle.costs);
-          },
-        ),
-        good.cycle.costs,
-      )
+  least_cycle = (
+    (
+      ends_at 0 k.links,
+      record {
+        cycle = cycle_of_right (judged h k.level) k.least k.links good.cycle;
+        least = λ t others w. omega (arith, no_less t others (turn_lowest (judged h k.level) t others w), good.cycle.costs);
+      },
+    ),
+    good.cycle.costs,
+  )

@@ -17,6 +17,7 @@ pub mod Rules
 pub mod Ordered
 pub mod Entries
 pub mod Decisions
+pub mod RightLinks
 pub mod CertifiedCycle
 pub mod CertifiedOrder
 pub mod Claims

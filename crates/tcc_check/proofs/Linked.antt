@@ -5,18 +5,14 @@ use Rattle.std.specs.Prelude.{IsTrue, MatchOption, nat_lt}
 use Rattle.std.proofs.lemmas.Bool.{cases_eq, iff_false}
 use Rattle.std.proofs.lemmas.Bool.Decides.{nat_tests}
 use Rattle.std.proofs.lemmas.List.{drop_more, take_more, take_at, get_or_at, take-append-drop, length-take-le}
-use Rattle.tcc_reads.specs.History.{History}
-use Rattle.tcc_graph.specs.Levels.{Judged, judged}
+use Rattle.tcc_graph.specs.Levels.{Judged}
 use Rattle.tcc_graph.specs.Links.{cost, link_cost, link_from, link_to}
 use Rattle.tcc_graph.specs.declared.link.Link.{Link}
 use Rattle.tcc_graph.proofs.Linking.{cost_append, one_cost}
-use Rattle.tcc_cert.specs.CycleRules.{IsLinkRight, IsLinkWrong, IsWrongFrom, ends_at}
-use Rattle.tcc_cert.specs.Rules.{IsRightCycle}
-use Rattle.tcc_cert.specs.declared.certificate.CycleClaim.{CycleClaim}
+use Rattle.tcc_cert.specs.CycleRules.{AreLinksRight, IsLinkRight, IsLinksFault, IsLinkWrong, IsWrongFrom, ends_at}
 use Rattle.tcc_cert.proofs.Ends.{ends_at-push, ends_at_some}
 use Rattle.tcc_check.specs.declared.links.LinksSeen.{LinksSeen}
 use Rattle.tcc_check.specs.private.Links.{AreSeenTo, IsFirstWrongFrom, begins_at, ends_or, first_wrong, left_behind}
-use Rattle.tcc_check.specs.Verdicts.{IsCycleFault}
 
 -- ---- the next link
 
@@ -121,57 +117,54 @@ take_whole : (links : List Link) → take (length links) links ≡ links
 take_whole [] = refl
 take_whole (l ∷ links) = ap (λ z. l ∷ z) (take_whole links)
 
-module _ (h : History) (k : CycleClaim) where
-  abbrev pub j : Judged
-  j = judged h k.level
+module _ (j : Judged) (most : ℕ) (links : List Link) where
+  as_wrong : begins_at links ≡ ends_at 0 links → (n : ℕ) → IsWrongFrom j (begins_at links) links n → IsLinkWrong j links n
+  as_wrong closed n w = subst (λ (from : ℕ). IsWrongFrom j from links n) closed w
 
-  as_wrong : begins_at k.links ≡ ends_at 0 k.links → (n : ℕ) → IsWrongFrom j (begins_at k.links) k.links n → IsLinkWrong j k.links n
-  as_wrong closed n w = subst (λ (from : ℕ). IsWrongFrom j from k.links n) closed w
+  wrong_as : begins_at links ≡ ends_at 0 links → (n : ℕ) → IsLinkWrong j links n → IsWrongFrom j (begins_at links) links n
+  wrong_as closed n w = subst (λ (from : ℕ). IsWrongFrom j from links n) (sym closed) w
 
-  wrong_as : begins_at k.links ≡ ends_at 0 k.links → (n : ℕ) → IsLinkWrong j k.links n → IsWrongFrom j (begins_at k.links) k.links n
-  wrong_as closed n w = subst (λ (from : ℕ). IsWrongFrom j from k.links n) (sym closed) w
-
-  none_wrong : ((n : ℕ) → n ≤ length k.links → IsWrongFrom j (begins_at k.links) k.links n → ⊥) → begins_at k.links ≡ ends_at 0 k.links
-      → (n : ℕ) → IsLinkWrong j k.links n → ⊥
+  none_wrong : ((n : ℕ) → n ≤ length links → IsWrongFrom j (begins_at links) links n → ⊥) → begins_at links ≡ ends_at 0 links
+      → (n : ℕ) → IsLinkWrong j links n → ⊥
   none_wrong right closed n w =
       right n (omega (arith, w.at, ap length w.split, length-append w.before (w.link ∷ w.after))) (wrong_as closed n w)
 
   -- there is no link
-  pub fault_empty : length k.links ≡ 0 → IsCycleFault h k (0, 0)
+  pub fault_empty : length links ≡ 0 → IsLinksFault j most links (0, 0)
   fault_empty none =
       inr (refl, ((λ n w. omega (arith, none, ap length w.split, length-append w.before (w.link ∷ w.after))), (λ right. omega (arith, none, right.some))))
 
   -- the first does not begin where the last ends
-  pub fault_open : 0 < length k.links → (begins_at k.links ≡ ends_at 0 k.links → ⊥) → IsCycleFault h k (1, 0)
-  fault_open some apart = inl (go k.links refl some, (refl, λ n lt w. omega (arith, lt, w.at)))
+  pub fault_open : 0 < length links → (begins_at links ≡ ends_at 0 links → ⊥) → IsLinksFault j most links (1, 0)
+  fault_open some apart = inl (go links refl some, (refl, λ n lt w. omega (arith, lt, w.at)))
     where
-      go : (links : List Link) → k.links ≡ links → 0 < length links → IsLinkWrong j k.links 1
+      go : (all : List Link) → links ≡ all → 0 < length all → IsLinkWrong j links 1
       go [] same some = absurd (omega (arith, some))
-      go (l ∷ links) same some = record {
+      go (l ∷ later) same some = record {
         before = [];
         link = l;
-        after = links;
+        after = later;
         split = same;
         at = refl;
         wrong = λ right. apart (ap begins_at same ∙ right.0);
       }
 
   -- this is the first wrong one
-  pub fault_wrong : (n : ℕ) → IsFirstWrongFrom j (begins_at k.links) k.links n → begins_at k.links ≡ ends_at 0 k.links → IsCycleFault h k (n, 0)
+  pub fault_wrong : (n : ℕ) → IsFirstWrongFrom j (begins_at links) links n → begins_at links ≡ ends_at 0 links → IsLinksFault j most links (n, 0)
   fault_wrong n found closed = inl (as_wrong closed n found.wrong, (refl, λ m lt w. found.first m lt (wrong_as closed m w)))
 
   -- they cost another sum
-  pub fault_cost : ((n : ℕ) → n ≤ length k.links → IsWrongFrom j (begins_at k.links) k.links n → ⊥) → begins_at k.links ≡ ends_at 0 k.links
-      → (cost k.links ≡ k.least → ⊥) → IsCycleFault h k (0, 0)
+  pub fault_cost : ((n : ℕ) → n ≤ length links → IsWrongFrom j (begins_at links) links n → ⊥) → begins_at links ≡ ends_at 0 links
+      → (cost links ≡ most → ⊥) → IsLinksFault j most links (0, 0)
   fault_cost right closed other = inr (refl, (none_wrong right closed, λ all. other all.costs))
 
-  pub right_cycle : 0 < length k.links → ((n : ℕ) → n ≤ length k.links → IsWrongFrom j (begins_at k.links) k.links n → ⊥)
-      → begins_at k.links ≡ ends_at 0 k.links → cost k.links ≡ k.least → IsRightCycle h k
-  right_cycle some right closed costs = record { some = some; right = none_wrong right closed; costs = costs }
+  pub right_links : 0 < length links → ((n : ℕ) → n ≤ length links → IsWrongFrom j (begins_at links) links n → ⊥)
+      → begins_at links ≡ ends_at 0 links → cost links ≡ most → AreLinksRight j most links
+  right_links some right closed costs = record { some = some; right = none_wrong right closed; costs = costs }
 
   -- where the first begins and the last ends
-  pub where_ends : (end : ℕ) → end ≡ ends_at 0 (take (length k.links) k.links) → end ≡ ends_at 0 k.links
-  where_ends end is = is ∙ ap (ends_at 0) (take_whole k.links)
+  pub where_ends : (end : ℕ) → end ≡ ends_at 0 (take (length links) links) → end ≡ ends_at 0 links
+  where_ends end is = is ∙ ap (ends_at 0) (take_whole links)
 
-  pub whole_cost : cost (take (length k.links) k.links) ≡ cost k.links
-  whole_cost = ap cost (take_whole k.links)
+  pub whole_cost : cost (take (length links) links) ≡ cost links
+  whole_cost = ap cost (take_whole links)

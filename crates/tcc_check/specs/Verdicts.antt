@@ -1,8 +1,8 @@
 -- What is answered of a certificate: it is accepted, or the first rule that is broken and where it is first.
-use Rattle.std.specs.Prelude.{ℕ, ◌<◌, ◌≡◌, ◌⊎◌, List, [], ◌∷◌}
+use Rattle.std.specs.Prelude.{ℕ, ◌≡◌, ◌⊎◌, List, [], ◌∷◌}
 use Rattle.tcc_reads.specs.History.{History}
 use Rattle.tcc_cert.specs.Tables.{IsFirstAt}
-use Rattle.tcc_cert.specs.CycleRules.{HasRightSizes, IsLinkWrong}
+use Rattle.tcc_cert.specs.CycleRules.{HasRightSizes, IsLinksFault}
 use Rattle.tcc_cert.specs.CycleRules.{BreaksNearPair, BreaksNearStep, BreaksFarLink, BreaksFarStep}
 use Rattle.tcc_cert.specs.CycleRules.{BreaksReturn}
 use Rattle.tcc_cert.specs.OrderRules.{HasOrderSizes, KeepsPairs, BreaksAxiom}
@@ -47,9 +47,7 @@ at_each rule broken = record { rule = rule; holds = HoldsEverywhere broken; brok
 
 -- where the rule on links is broken: at the first link that is not right, from 1, or, where all are, at 0
 abbrev pub IsCycleFault : History → CycleClaim → ℕ × ℕ → Type 0
-IsCycleFault h k at =
-    (IsLinkWrong (judged h k.level) k.links at.0 × ((at.1 ≡ 0) × ((i : ℕ) → i < at.0 → IsLinkWrong (judged h k.level) k.links i → ⊥)))
-    ⊎ ((at ≡ (0, 0)) × (((i : ℕ) → IsLinkWrong (judged h k.level) k.links i → ⊥) × (IsRightCycle h k → ⊥)))
+IsCycleFault h k at = IsLinksFault (judged h k.level) k.least k.links at
 
 -- the rules on the tables of a claim that a cycle is least, in order
 abbrev pub bounds_rules : History → CycleClaim → List Asked

@@ -27,6 +27,8 @@ mod verdict;
 
 pub use judgement::{Claim, Judgement};
 pub use judging::check;
+pub use links::first_wrong_link;
+pub use sizes::are_links_below;
 pub use stream_fault::StreamFault;
 pub use streaming::{check_stream, claim_in, judge_parts, judge_stream};
 pub use verdict::{Rule, Verdict};

@@ -4,14 +4,14 @@ ghost use Rattle.tcc_reads.specs.History.{History, count};
 ghost use Rattle.tcc_graph.specs.Levels.{Judged, judged};
 ghost use Rattle.tcc_graph.specs.declared.link.Link.{Link};
 ghost use Rattle.tcc_cert.specs.Ahead.{IsAhead};
-ghost use Rattle.tcc_cert.specs.CycleRules.{IsLinkBelow, IsLinkRight};
+ghost use Rattle.tcc_cert.specs.CycleRules.{IsFirstWrongLink, IsLinkBelow, IsLinkRight};
 ghost use Rattle.tcc_cert.specs.Parts.{Parts};
 ghost use Rattle.tcc_cert.specs.declared.certificate.CycleClaim.{CycleClaim};
 ghost use Rattle.tcc_cert.specs.declared.part.Part.{Part};
 ghost use Rattle.tcc_cert.specs.declared.part.Part.TheVariants as part;
 ghost use Rattle.tcc_check.specs.private.Coming.{Leaves};
 ghost use Rattle.tcc_check.specs.private.Judged.{AreLinksJudged, links_rules};
-ghost use Rattle.tcc_check.specs.private.Links.{AreSeenTo, IsBrokenAt, ends_or, first_wrong, left_behind};
+ghost use Rattle.tcc_check.specs.private.Links.{AreSeenTo, ends_or, first_wrong, left_behind};
 ghost use Rattle.tcc_check.specs.private.Searches.{IsAnswer};
 
 use crate::StreamFault;
@@ -21,7 +21,7 @@ use crate::verdict::{Rule, Verdict, rejected};
 use std::alloc::Global;
 use std::io::Read;
 use tcc_cert::{CertReader, CycleClaim, CycleHead, Part};
-use tcc_graph::{Graph, Level, Link};
+use tcc_graph::{Graph, LargeGraph, Level, Link};
 use tcc_txn::NoMemory;
 
 /// What the links that came so far show.
@@ -36,7 +36,7 @@ pub(crate) struct LinksSeen {
 }
 
 /// Whether the link begins there and is one of the history.
-fn is_link_right(graph: &Graph, level: Level, at: u32, link: &Link) -> bool
+fn is_link_right(graph: &LargeGraph, level: Level, at: u32, link: &Link) -> bool
     ensures { IsTrue result ↔ IsLinkRight (judged graph.now level) at link.now }
 {
     link.from() == at && graph.is_link(level, link)
@@ -84,7 +84,13 @@ fn no_links(least: u32) -> LinksSeen
 }
 
 /// One link more, the one of this number, from 1.
-fn with_link(seen: LinksSeen, graph: &Graph, level: Level, number: usize, link: &Link) -> LinksSeen
+fn with_link(
+    seen: LinksSeen,
+    graph: &LargeGraph,
+    level: Level,
+    number: usize,
+    link: &Link,
+) -> LinksSeen
     ensures { (least i : ℕ) (links : List Link) → number ≡ i + 1 → i < length links → link.now ≡ get_or links i link.now
         → AreSeenTo (judged graph.now level) least links i seen
         → AreSeenTo (judged graph.now level) least links (i + 1) result }
@@ -112,7 +118,7 @@ fn is_used_up(left: Option<usize>) -> bool
 /// last ends, or is none of the history; 0 where all are, but there are none, or they cost another sum; none where the
 /// rule holds.
 fn broken_at(seen: LinksSeen) -> Option<usize>
-    ensures { (h : History) (k : CycleClaim) → AreSeenTo (judged h k.level) k.least k.links (length k.links) seen → IsBrokenAt h k result }
+    ensures { (j : Judged) (most : ℕ) (links : List Link) → AreSeenTo j most links (length links) seen → IsFirstWrongLink j most links result }
 {
     let Some((begin, end)) = seen.ends else {
         return Some(0);
@@ -126,18 +132,46 @@ fn broken_at(seen: LinksSeen) -> Option<usize>
     if is_used_up(seen.left) { None } else { Some(0) }
 }
 
-/// The verdict of the rule, where all links came.
-fn seen_verdict(seen: LinksSeen) -> Result<Verdict, NoMemory>
-    ensures { (h : History) (k : CycleClaim) → AreSeenTo (judged h k.level) k.least k.links (length k.links) seen
-        → IfOk result (IsAnswer (links_rules h k)) }
+/// The same as a number of a verdict, where all links came.
+fn seen_wrong(seen: LinksSeen) -> Result<Option<u32>, NoMemory>
+    ensures { (j : Judged) (most : ℕ) (links : List Link) → AreSeenTo j most links (length links) seen
+        → IfOk result (IsFirstWrongLink j most links) }
 {
     let Some(at) = broken_at(seen) else {
-        return Ok(Verdict::Accepted);
+        return Ok(None);
     };
-    let Ok(at) = u32::try_from(at) else {
-        return Err(NoMemory);
-    };
-    Ok(rejected(Rule::Links, at))
+    match u32::try_from(at) {
+        Ok(at) => Ok(Some(at)),
+        Err(_) => Err(NoMemory),
+    }
+}
+
+/// The first of the links, from 1, that is none of the history at the level, or does not begin where the one before it
+/// ends, the first where the last ends; 0 where all are right, but there are none, or they cost another sum; none where
+/// they are a cycle of that cost. It takes one pass, and a question of the graph for each link.
+pub fn first_wrong_link(
+    graph: &LargeGraph,
+    level: Level,
+    cost: u32,
+    links: &[Link],
+) -> Result<Option<u32>, NoMemory>
+    ensures { IfOk result (IsFirstWrongLink (judged graph.now level) cost links.now) }
+{
+    let mut seen = no_links(cost);
+    for (before, link) in links.iter().enumerate() {
+        seen = with_link(seen, graph, level, before + 1, link);
+    }
+    seen_wrong(seen)
+}
+
+/// The verdict of the rule.
+fn wrong_verdict(wrong: Option<u32>) -> Verdict
+    ensures { (h : History) (k : CycleClaim) → IsFirstWrongLink (judged h k.level) k.least k.links wrong → IsAnswer (links_rules h k) result }
+{
+    match wrong {
+        Some(at) => rejected(Rule::Links, at),
+        None => Verdict::Accepted,
+    }
 }
 
 /// Judges the links of a claim.
@@ -145,11 +179,8 @@ pub(crate) fn links_verdict(graph: &Graph, claim: &CycleClaim) -> Result<Verdict
     ensures { IfOk result (IsAnswer (links_rules graph.now claim.now)) }
 {
     let links = claim.links.as_slice();
-    let mut seen = no_links(claim.least);
-    for (before, link) in links.iter().enumerate() {
-        seen = with_link(seen, graph, claim.level, before + 1, link);
-    }
-    seen_verdict(seen)
+    let wrong = first_wrong_link(graph.large(), claim.level, claim.least, links)?;
+    Ok(wrong_verdict(wrong))
 }
 
 /// Judges the links that come, none where one of their numbers is not below that of the transactions. One of them is
@@ -166,6 +197,7 @@ pub(crate) fn judge_links<R: Read>(
         → MatchOption found (All (IsLinkBelow (count graph.now)) links → ⊥)
         (AreLinksJudged graph.now head links rest tables)) result }
 {
+    let large = graph.large();
     let mut seen = no_links(head.least);
     for before in 0..head.links {
         let Part::Link(link) = next_part(alloc, parts)? else {
@@ -174,8 +206,8 @@ pub(crate) fn judge_links<R: Read>(
         if !is_link_below(&link, graph.count()) {
             return Ok(None);
         }
-        seen = with_link(seen, graph, head.level, before as usize + 1, &link);
+        seen = with_link(seen, large, head.level, before as usize + 1, &link);
     }
-    let verdict = seen_verdict(seen)?;
-    Ok(Some(verdict))
+    let wrong = seen_wrong(seen)?;
+    Ok(Some(wrong_verdict(wrong)))
 }

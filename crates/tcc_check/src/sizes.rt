@@ -101,7 +101,7 @@ pub(crate) fn is_link_below(link: &Link, count: u32) -> bool
 }
 
 /// Whether all numbers in links are below the count.
-pub(crate) fn are_links_below(links: &[Link], count: u32) -> bool
+pub fn are_links_below(links: &[Link], count: u32) -> bool
     ensures { IsTrue result ↔ All (IsLinkBelow count) links.now }
 {
     links.iter().all(|link| is_link_below(link, count))

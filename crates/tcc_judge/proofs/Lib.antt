@@ -10,7 +10,6 @@ pub mod Laid
 pub mod Told
 pub mod SingleLemmas
 pub mod Ordered
-pub mod Linked
 pub mod Cycled
 pub mod Certified
 pub mod Followed

@@ -1,25 +1,20 @@
 -- The rules on the links of a claim.
-use Rattle.std.specs.Prelude.{ℕ, ◌<◌, ◌≤◌, ◌≡◌, ◌⊎◌, List, [], All, MatchOption, length}
+use Rattle.std.specs.Prelude.{ℕ, ◌<◌, ◌≤◌, ◌≡◌, List, [], All, MatchOption}
 use Rattle.tcc_reads.specs.History.{History, count}
 use Rattle.tcc_graph.specs.Levels.{judged}
-use Rattle.tcc_graph.specs.Links.{cost}
-use Rattle.tcc_cert.specs.CycleRules.{IsLinkBelow, IsLinkWrong}
+use Rattle.tcc_cert.specs.CycleRules.{AreLinksRight, IsLinkBelow, IsLinksFault}
 use Rattle.tcc_cert.specs.declared.large.LinksClaim.{LinksClaim}
 use Rattle.tcc_cert.specs.declared.large.Run.{Run}
 use Rattle.tcc_least.specs.Shapes.{IsRound, IsReturn}
 use Rattle.tcc_judge.specs.Runs.{AreWhole}
 
 -- the links, one at least, are a cycle of the cost that is claimed
-pub record IsRightCycle (h : History) (k : LinksClaim) : Type 0 where
-  pub some : 0 < length k.links
-  pub right : (i : ℕ) → IsLinkWrong (judged h k.level) k.links i → ⊥
-  pub costs : cost k.links ≡ k.cost
+abbrev pub IsRightCycle : History → LinksClaim → Type 0
+IsRightCycle h k = AreLinksRight (judged h k.level) k.cost k.links
 
 -- where the rule on links is broken: at the first link that is not right, from 1, or, where all are, at 0
 abbrev pub IsCycleFault : History → LinksClaim → ℕ × ℕ → Type 0
-IsCycleFault h k at =
-    (IsLinkWrong (judged h k.level) k.links at.0 × ((at.1 ≡ 0) × ((i : ℕ) → i < at.0 → IsLinkWrong (judged h k.level) k.links i → ⊥)))
-    ⊎ ((at ≡ (0, 0)) × (((i : ℕ) → IsLinkWrong (judged h k.level) k.links i → ⊥) × (IsRightCycle h k → ⊥)))
+IsCycleFault h k at = IsLinksFault (judged h k.level) k.cost k.links at
 
 -- the runs beside a claim that no cycle costs less: past a cost of 4 those of an order, else none
 pub record AreNeeded (h : History) (most : ℕ) (runs : List Run) : Type 0 where

@@ -5,4 +5,3 @@ pub mod NextWriters
 pub mod Behind
 pub mod Telling
 pub mod Singles
-pub mod Links

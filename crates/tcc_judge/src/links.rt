@@ -1,151 +1,25 @@
-//! The rule on the links of a cycle, one link after the other.
-ghost use Rattle.std.specs.Prelude.{◌≡◌, ◌+◌, ◌<◌, ◌↔◌, ℕ, IfOk, IsTrue, List, MatchOption, Some, get_or, length};
-ghost use Rattle.tcc_reads.specs.History.{History};
-ghost use Rattle.tcc_graph.specs.Levels.{Judged, judged};
-ghost use Rattle.tcc_graph.specs.declared.link.Link.{Link};
-ghost use Rattle.tcc_cert.specs.CycleRules.{IsLinkRight};
-ghost use Rattle.tcc_cert.specs.declared.large.LinksClaim.{LinksClaim};
+//! The rule on the links of a cycle, as `tcc_check` has it.
+ghost use Rattle.std.specs.Prelude.{IfOk};
 ghost use Rattle.tcc_judge.specs.Verdicts.{IsVerdictOf, links_rules};
-ghost use Rattle.tcc_judge.specs.private.Links.{AreSeenTo, IsBrokenAt, ends_or, first_wrong, left_behind};
 
 use crate::{Rule, Verdict};
 use tcc_cert::LinksClaim;
-use tcc_graph::{LargeGraph, Level, Link};
+use tcc_check::first_wrong_link;
+use tcc_graph::LargeGraph;
 use tcc_txn::NoMemory;
-
-/// What the links that came so far show.
-#[derive(Clone, Copy)]
-pub(crate) struct LinksSeen {
-    /// Where the first of them begins, and where the last ends.
-    ends: Option<(u32, u32)>,
-    /// The first, from 1, that is none of the history, or does not begin where the one before it ends.
-    wrong: Option<usize>,
-    /// What is left of the cost that is claimed; none where they cost more.
-    left: Option<usize>,
-}
-
-/// Whether the link begins there and is one of the history.
-fn is_link_right(graph: &LargeGraph, level: Level, at: u32, link: &Link) -> bool
-    ensures { IsTrue result ↔ IsLinkRight (judged graph.now level) at link.now }
-{
-    link.from() == at && graph.is_link(level, link)
-}
-
-/// Where the first link begins and the last ends; where there is none yet, a link that comes is to begin where it does.
-fn ends_or(ends: Option<(u32, u32)>, from: u32) -> (u32, u32)
-    ensures { result ≡ ends_or ends from }
-{
-    match ends {
-        Some(ends) => ends,
-        None => (from, from),
-    }
-}
-
-/// The first wrong link, where the next has this number.
-fn first_wrong(wrong: Option<usize>, is_right: bool, number: usize) -> Option<usize>
-    ensures { result ≡ first_wrong wrong is_right number }
-{
-    match wrong {
-        Some(first) => Some(first),
-        None => { if is_right { None } else { Some(number) } }
-    }
-}
-
-/// What is left behind one more cost.
-fn left_behind(left: Option<usize>, cost: usize) -> Option<usize>
-    ensures { result ≡ left_behind left cost }
-{
-    match left {
-        Some(left) => { if left < cost { None } else { Some(left - cost) } }
-        None => None,
-    }
-}
-
-/// No link yet, of a cycle that is to cost that much.
-fn no_links(least: u32) -> LinksSeen
-    ensures { (j : Judged) (links : List Link) → AreSeenTo j least links 0 result }
-{
-    LinksSeen {
-        ends: None,
-        wrong: None,
-        left: Some(least as usize),
-    }
-}
-
-/// One link more, the one of this number, from 1.
-fn with_link(
-    seen: LinksSeen,
-    graph: &LargeGraph,
-    level: Level,
-    number: usize,
-    link: &Link,
-) -> LinksSeen
-    ensures { (least i : ℕ) (links : List Link) → number ≡ i + 1 → i < length links → link.now ≡ get_or links i link.now
-        → AreSeenTo (judged graph.now level) least links i seen
-        → AreSeenTo (judged graph.now level) least links (i + 1) result }
-{
-    let (begin, at) = ends_or(seen.ends, link.from());
-    let is_right = is_link_right(graph, level, at, link);
-    LinksSeen {
-        ends: Some((begin, link.to())),
-        wrong: first_wrong(seen.wrong, is_right, number),
-        left: left_behind(seen.left, link.cost()),
-    }
-}
-
-/// Whether nothing is left, and no more was taken than there was.
-fn is_used_up(left: Option<usize>) -> bool
-    ensures { IsTrue result ↔ (left ≡ Some 0) }
-{
-    match left {
-        Some(left) => left == 0,
-        None => false,
-    }
-}
-
-/// The first link, from 1, that is not right: that does not begin where the one before it ends, the first where the
-/// last ends, or is none of the history; 0 where all are, but there are none, or they cost another sum; none where the
-/// rule holds.
-fn broken_at(seen: LinksSeen) -> Option<usize>
-    ensures { (h : History) (k : LinksClaim) → AreSeenTo (judged h k.level) k.cost k.links (length k.links) seen → IsBrokenAt h k result }
-{
-    let Some((begin, end)) = seen.ends else {
-        return Some(0);
-    };
-    if begin != end {
-        return Some(1);
-    }
-    if let Some(first) = seen.wrong {
-        return Some(first);
-    }
-    if is_used_up(seen.left) { None } else { Some(0) }
-}
-
-/// The verdict of the rule, where all links came.
-fn seen_verdict(seen: LinksSeen) -> Result<Verdict, NoMemory>
-    ensures { (h : History) (k : LinksClaim) → AreSeenTo (judged h k.level) k.cost k.links (length k.links) seen
-        → IfOk result (IsVerdictOf (links_rules h k)) }
-{
-    let Some(at) = broken_at(seen) else {
-        return Ok(Verdict::Accepted);
-    };
-    let Ok(at) = u32::try_from(at) else {
-        return Err(NoMemory);
-    };
-    Ok(Verdict::Rejected {
-        rule: Rule::Links,
-        at: (at, 0),
-    })
-}
 
 /// Accepts the links exactly where they are a cycle of the level and cost what is claimed; otherwise names the first wrong one.
 pub fn judge_links(graph: &LargeGraph, claim: &LinksClaim) -> Result<Verdict, NoMemory>
     ensures { IfOk result (IsVerdictOf (links_rules graph.now claim.now)) }
 {
     let links = claim.links.as_slice();
-    let mut seen = no_links(claim.cost);
-    for (before, link) in links.iter().enumerate() {
-        seen = with_link(seen, graph, claim.level, before + 1, link);
+    match first_wrong_link(graph, claim.level, claim.cost, links)? {
+        Some(at) => {
+            Ok(Verdict::Rejected {
+                rule: Rule::Links,
+                at: (at, 0),
+            })
+        }
+        None => Ok(Verdict::Accepted),
     }
-    seen_verdict(seen)
 }

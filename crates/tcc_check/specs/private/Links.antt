@@ -1,15 +1,11 @@
 -- What is asked of the links of a cycle, one after the other.
 use Rattle.std.specs.Prelude.{ℕ, Bool, true, false, ◌<◌, ◌≤◌, ◌+◌, ◌-◌, ◌≡◌, nat_lt, if◌then◌else◌, List, [], ◌∷◌, take, Option, None, Some}
 use Rattle.std.specs.Prelude.{MatchOption}
-use Rattle.tcc_reads.specs.History.{History}
 use Rattle.tcc_graph.specs.Levels.{Judged}
 use Rattle.tcc_graph.specs.Links.{cost, link_from}
 use Rattle.tcc_graph.specs.declared.link.Link.{Link}
 use Rattle.tcc_cert.specs.CycleRules.{IsWrongFrom, ends_at}
-use Rattle.tcc_cert.specs.Rules.{IsRightCycle}
-use Rattle.tcc_cert.specs.declared.certificate.CycleClaim.{CycleClaim}
 use Rattle.tcc_check.specs.declared.links.LinksSeen.{LinksSeen}
-use Rattle.tcc_check.specs.Verdicts.{IsCycleFault}
 
 -- the first link that is wrong, from 1
 pub record IsFirstWrongFrom (j : Judged) (from : ℕ) (links : List Link) (i : ℕ) : Type 0 where
@@ -42,8 +38,3 @@ first_wrong None false number = Some number
 abbrev pub left_behind : Option ℕ → ℕ → Option ℕ
 left_behind (Some left) one = if nat_lt left one then None else Some (left - one)
 left_behind None one = None
-
--- the rule on links holds, or is broken there
-abbrev pub IsBrokenAt : History → CycleClaim → Option ℕ → Type 0
-IsBrokenAt h k None = IsRightCycle h k
-IsBrokenAt h k (Some at) = IsCycleFault h k (at, 0)

@@ -61,12 +61,13 @@ loop-before-preserved g c ahead is =
     let j : Judged = judged h c.args.head.level in
     let now = c.loop-before.invariant ahead is in
     let taken = rw c.in-Link.is at (c.in_ok-link.ensures.parts now.0 now.3) in
+    let one = rw c.large-large.ensures.value at c.with_link-seen.ensures in
     let below : IsLinkBelow (count h) c.in-Link.link = rw (← c.count.ensures.value) (c.is_link_below.ensures.0 c.if-not-is_link_below.false) in (
       taken.0,
       now.1 ++ c.in-Link.link ∷ [],
       links-go-on c.args.head.links (IsLinkBelow (count h)) (seen_to j c.args.head.least) c.loop-before.before c.loop-before.seen now.1 ahead now.0
           taken.0 c.loop-before-test.true now.2 c.in-Link.link taken.1 c.with_link-seen.result below
-          (λ all inside here before. c.with_link-seen.ensures c.args.head.least c.loop-before.before all refl inside here before),
+          (λ all inside here before. one c.args.head.least c.loop-before.before all refl inside here before),
       taken.2,
     )
 
@@ -88,8 +89,9 @@ returns g c ahead is =
           record {
             below = all.0;
             answer = λ near far.
-                c.in_ok-verdict.ensures h (with_tables c.args.head links near far)
-                (subst (λ (i : ℕ). AreSeenTo j c.args.head.least links i c.loop-before.seen) (sym long) all.1);
+                c.wrong_verdict.ensures h (with_tables c.args.head links near far)
+                (c.in_ok-wrong.ensures j c.args.head.least links
+                (subst (λ (i : ℕ). AreSeenTo j c.args.head.least links i c.loop-before.seen) (sym long) all.1));
             behind = all.2;
           },
     )
