@@ -4,4 +4,9 @@ pub mod Spread
 pub mod Walked
 pub mod MarkLemmas
 pub mod IntoInit
+pub mod Grown
+pub mod MeetingLemmas
+pub mod PriceLemmas
+pub mod PriceRows
+pub mod SettledCosts
 pub mod BackLemmas

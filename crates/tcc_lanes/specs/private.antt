@@ -3,3 +3,4 @@ pub mod Marks
 pub mod Walking
 pub mod Walks
 pub mod IntoInit
+pub mod Pricing

@@ -2,13 +2,19 @@
 //! for each transaction. For N transactions and R reads a level takes N + R steps, whatever the lanes.
 #![tactic(auto)]
 
+mod among;
 mod into_init;
 pub mod laws;
 mod limits;
 mod marking;
+mod meeting;
+mod price_rows;
+mod pricing;
+mod settling;
 mod spreading;
 mod walking;
 mod words;
 
+pub use among::has_cheaper_among;
 pub use into_init::has_cheaper_into_init;
 pub use limits::{MOST_MEMBERS, MOST_STEPS};

@@ -1,0 +1,215 @@
+-- Costs that are settled level by level.
+use Rattle.std.proofs.Common.{◌≡◌, ◌≢◌, ◌<◌, ◌≤◌, ◌+◌, ◌⊎◌, inl, inr, ℕ, List, [], ◌∷◌, ◌++◌, length, get_or, refl, sym, subst, ◌∙◌, arith}
+use Rattle.std.specs.Prelude.{min}
+use Rattle.std.specs.List.{All, AllPairs, Contains}
+use Rattle.std.proofs.lemmas.Bool.{cases_eq, cases_lt}
+use Rattle.std.proofs.lemmas.List.{get_or_default}
+use Rattle.std.proofs.lemmas.List.Elements.{All-append, All-cons, All-head, All-nil, All-tail, Contains-get_or}
+use Rattle.tcc_graph.specs.Levels.{Judged}
+use Rattle.tcc_graph.specs.Links.{cost, link_from, link_to}
+use Rattle.tcc_graph.specs.Routes.{IsCycle, IsRoute, LinksLead}
+use Rattle.tcc_graph.specs.declared.link.Link.{Link}
+use Rattle.tcc_graph.proofs.Linking.{cost_cons, link_route, one_cost, route_on, some_cost}
+use Rattle.tcc_lanes.specs.Among.{HasCheaperAmong, IsAmong}
+use Rattle.tcc_lanes.specs.declared.pricing.TheConstants.{NONE}
+use Rattle.tcc_lanes.specs.private.Pricing.{ArePriceRows, HasReturn, IsPriceRow, IsSettled, IsTable}
+
+-- ---- one level
+module _ (rows : List (List ℕ)) (table : IsTable rows) (level : ℕ) (old : List ℕ) (same : length rows ≡ length old) where
+  abbrev price : ℕ → ℕ → ℕ
+  price u v = get_or (get_or rows u []) v 0
+
+  pub settled_none : IsSettled rows level 0 old old
+  settled_none = record { same = refl; kept = λ v l. omega arith; either = λ v l. inl refl; over = λ u v l. absurd (omega (arith, l)) }
+
+  module _ (n : ℕ) (mid : List ℕ) (w : IsSettled rows level n old mid) where
+    -- what costs so much has done so before
+    still : (u : ℕ) → u < length old → get_or mid u 0 ≡ level → get_or old u 0 ≡ level
+    still u l is = go (w.either u l)
+      where
+        go : (get_or mid u 0 ≡ get_or old u 0) ⊎ ((t : ℕ) × (t < length old) × (get_or old t 0 ≡ level) × (get_or mid u 0 ≡ level + price t u)) → get_or old u 0 ≡ level
+        go (inl stays) = sym stays ∙ is
+        go (inr (t, inside, at, over)) = absurd (omega (arith, is, over, table.some t u (omega (arith, inside, same)) (omega (arith, l, same))))
+
+    -- and does so from then on
+    yet : (u : ℕ) → u < length old → get_or old u 0 ≡ level → get_or mid u 0 ≡ level
+    yet u l is = go (w.either u l)
+      where
+        go : (get_or mid u 0 ≡ get_or old u 0) ⊎ ((t : ℕ) × (t < length old) × (get_or old t 0 ≡ level) × (get_or mid u 0 ≡ level + price t u)) → get_or mid u 0 ≡ level
+        go (inl stays) = stays ∙ is
+        go (inr (t, inside, at, over)) =
+            absurd (omega (arith, is, over, w.kept u l, table.some t u (omega (arith, inside, same)) (omega (arith, l, same))))
+
+    pub settled_same : get_or mid n 0 ≢ level → IsSettled rows level (n + 1) old mid
+    settled_same other = record { same = w.same; kept = w.kept; either = w.either; over = λ u v l m k is. go u v l m k is (cases_eq u n) }
+      where
+        go : (u v : ℕ) → u < n + 1 → u < length old → v < length old → get_or old u 0 ≡ level → (u ≡ n) ⊎ (u ≢ n) → get_or mid v 0 ≤ level + price u v
+        go u v l m k is (inr apart) = w.over u v (omega (arith, l, apart)) m k is
+        go u v l m k is (inl here) = absurd (other (subst (λ (z : ℕ). get_or mid z 0 ≡ level) here (yet u m is)))
+
+    pub settled_more : n < length old → get_or mid n 0 ≡ level → (new : List ℕ) → length new ≡ length mid
+        → ((v : ℕ) → v < length mid → get_or new v 0 ≡ min (get_or mid v 0) (level + price n v)) → IsSettled rows level (n + 1) old new
+    settled_more inside is new alike each = record {
+      same = alike ∙ w.same;
+      kept = λ v l. omega (arith, w.kept v l, at v l);
+      either = λ v l. either v l (cases_lt (level + price n v) (get_or mid v 0)) (w.either v l);
+      over = λ u v l m k here. over u v l m k here (cases_eq u n);
+    }
+      where
+        at : (v : ℕ) → v < length old → get_or new v 0 ≡ min (get_or mid v 0) (level + price n v)
+        at v l = each v (omega (arith, l, w.same))
+
+        either : (v : ℕ) → v < length old → (level + price n v < get_or mid v 0) ⊎ (get_or mid v 0 ≤ level + price n v)
+            → (get_or mid v 0 ≡ get_or old v 0) ⊎ ((t : ℕ) × (t < length old) × (get_or old t 0 ≡ level) × (get_or mid v 0 ≡ level + price t v))
+            → (get_or new v 0 ≡ get_or old v 0) ⊎ ((t : ℕ) × (t < length old) × (get_or old t 0 ≡ level) × (get_or new v 0 ≡ level + price t v))
+        either v l (inl lower) q = inr (n, inside, still n inside is, omega (arith, at v l, lower))
+        either v l (inr stays) (inl before) = inl (omega (arith, at v l, stays, before))
+        either v l (inr stays) (inr (t, m, here, over)) = inr (t, m, here, omega (arith, at v l, stays, over))
+
+        over : (u v : ℕ) → u < n + 1 → u < length old → v < length old → get_or old u 0 ≡ level → (u ≡ n) ⊎ (u ≢ n) → get_or new v 0 ≤ level + price u v
+        over u v l m k here (inl last) = subst (λ (z : ℕ). get_or new v 0 ≤ level + price z v) (sym last) (omega (arith, at v k))
+        over u v l m k here (inr apart) = omega (arith, at v k, w.over u v (omega (arith, l, apart)) m k here)
+
+-- ---- level by level
+-- what it costs to come to each member from one of them, as far as that is settled
+pub record IsReached (j : Judged) (members : List ℕ) (rows : List (List ℕ)) (s : ℕ) (level : ℕ) (costs : List ℕ) : Type 0 where
+  pub same : length costs ≡ length members
+  pub sound : (v : ℕ) → v < length members → get_or costs v 0 < NONE
+      → (links : List Link) × IsRoute j (get_or members s 0) (get_or members v 0) links × All (IsAmong members) links × (cost links ≤ get_or costs v 0)
+  pub first : (v : ℕ) → v < length members → get_or costs v 0 ≤ get_or (get_or rows s []) v 0
+  pub over : (u v : ℕ) → u < length members → v < length members → get_or costs u 0 < level
+      → get_or costs v 0 ≤ get_or costs u 0 + get_or (get_or rows u []) v 0
+
+module _ (j : Judged) (members : List ℕ) (most : ℕ) (rows : List (List ℕ)) (are : ArePriceRows j members most (length members) rows) where
+  all_rows : length rows ≡ length members
+  all_rows = omega (arith, are.long)
+
+  row_at : (u : ℕ) → u < length members → IsPriceRow j members most (get_or members u 0) (get_or rows u [])
+  row_at u l = are.each u l l
+
+  pub is_table : IsTable rows
+  is_table = record {
+    long = λ u l. (row_at u (omega (arith, l, all_rows))).long ∙ sym all_rows;
+    some = λ u v l m. (row_at u (omega (arith, l, all_rows))).some v (omega (arith, m, all_rows));
+    high = λ u v l m. (row_at u (omega (arith, l, all_rows))).high v (omega (arith, m, all_rows));
+  }
+
+  among : (u v : ℕ) → u < length members → v < length members → (l : Link) → link_from l ≡ get_or members u 0 → link_to l ≡ get_or members v 0 → IsAmong members l
+  among u v inside within l from to = (
+    subst (Contains members) (sym from) (Contains-get_or members u 0 inside),
+    subst (Contains members) (sym to) (Contains-get_or members v 0 within),
+  )
+
+  module _ (s : ℕ) (inside : s < length members) where
+    pub reached_first : IsReached j members rows s 1 (get_or rows s [])
+    reached_first = record {
+      same = (row_at s inside).long;
+      sound = sound;
+      first = λ v l. omega arith;
+      over = λ u v l m low. absurd (omega (arith, low, (row_at s inside).some u l));
+    }
+      where
+        sound : (v : ℕ) → v < length members → get_or (get_or rows s []) v 0 < NONE
+            → (links : List Link) × IsRoute j (get_or members s 0) (get_or members v 0) links × All (IsAmong members) links × (cost links ≤ get_or (get_or rows s []) v 0)
+        sound v l low =
+            let (one, from, to, is, cheap) = (row_at s inside).sound v l low in (
+              one ∷ [],
+              link_route j (get_or members s 0) (get_or members v 0) one from to is,
+              All-cons (IsAmong members) one [] (among s v inside l one from to) (All-nil (IsAmong members)),
+              omega (arith, cheap, one_cost one),
+            )
+
+    pub reached_more : (level : ℕ) (old new : List ℕ) → level < NONE → IsReached j members rows s level old → IsSettled rows level (length rows) old new
+        → IsReached j members rows s (level + 1) new
+    reached_more level old new few w settled = record {
+      same = settled.same ∙ w.same;
+      sound = λ v l low. sound v l low (settled.either v (here v l));
+      first = λ v l. omega (arith, w.first v l, settled.kept v (here v l));
+      over = λ u v l m low. over u v l m low (cases_eq (get_or old u 0) level) (settled.either u (here u l));
+    }
+      where
+        here : (v : ℕ) → v < length members → v < length old
+        here v l = omega (arith, l, w.same)
+
+        sound : (v : ℕ) → v < length members → get_or new v 0 < NONE
+            → (get_or new v 0 ≡ get_or old v 0) ⊎ ((t : ℕ) × (t < length old) × (get_or old t 0 ≡ level) × (get_or new v 0 ≡ level + get_or (get_or rows t []) v 0))
+            → (links : List Link) × IsRoute j (get_or members s 0) (get_or members v 0) links × All (IsAmong members) links × (cost links ≤ get_or new v 0)
+        sound v l low (inl stays) =
+            let (links, route, listed, cheap) = w.sound v l (omega (arith, low, stays)) in (links, route, listed, omega (arith, cheap, stays))
+        sound v l low (inr (t, within, at, way)) =
+            let m : t < length members = omega (arith, within, w.same) in
+            let (links, route, listed, cheap) = w.sound t m (omega (arith, at, few)) in
+            let (one, from, to, is, dear) = (row_at t m).sound v l (omega (arith, way, low)) in
+            let longer = route_on j (get_or members s 0) (get_or members t 0) (get_or members v 0) links one route from to is in (
+              links ++ one ∷ [],
+              longer.0,
+              All-append (IsAmong members) links (one ∷ []) listed (All-cons (IsAmong members) one [] (among t v m l one from to) (All-nil (IsAmong members))),
+              omega (arith, longer.1, cheap, dear, at, way),
+            )
+
+        over : (u v : ℕ) → u < length members → v < length members → get_or new u 0 < level + 1 → (get_or old u 0 ≡ level) ⊎ (get_or old u 0 ≢ level)
+            → (get_or new u 0 ≡ get_or old u 0) ⊎ ((t : ℕ) × (t < length old) × (get_or old t 0 ≡ level) × (get_or new u 0 ≡ level + get_or (get_or rows t []) u 0))
+            → get_or new v 0 ≤ get_or new u 0 + get_or (get_or rows u []) v 0
+        over u v l m low q (inr (t, within, at, way)) = absurd (omega (arith, low, way, (row_at t (omega (arith, within, w.same))).some u l))
+        over u v l m low (inl now) (inl stays) =
+            omega (arith, stays, now, settled.over u v (omega (arith, l, all_rows)) (here u l) (here v m) now)
+        over u v l m low (inr other) (inl stays) =
+            omega (arith, stays, w.over u v l m (omega (arith, low, stays, other)), settled.kept v (here v m))
+
+    module _ (ascending : AllPairs (λ u v. u < v) members) (level : ℕ) (costs : List ℕ) (far : most ≤ level) (w : IsReached j members rows s level costs) where
+      once : (u v : ℕ) → u < length members → v < length members → get_or members u 0 ≡ get_or members v 0 → u ≡ v
+      once u v l m e = go (cases_eq u v) (cases_lt u v)
+        where
+          go : (u ≡ v) ⊎ (u ≢ v) → (u < v) ⊎ (v ≤ u) → u ≡ v
+          go (inl is) q = is
+          go (inr other) (inl less) = absurd (omega (arith, e, ascending u v 0 less m))
+          go (inr other) (inr more) = absurd (omega (arith, e, ascending v u 0 (omega (arith, other, more)) l))
+
+      -- what leads back to the start costs no more than was found
+      onward : (u : ℕ) (links : List Link) → u < length members → LinksLead j (get_or members u 0) (get_or members s 0) links → All (IsAmong members) links
+          → get_or costs u 0 + cost links < most → get_or costs s 0 ≤ get_or costs u 0 + cost links
+      onward u [] l lead listed few = subst (λ (z : ℕ). get_or costs z 0 ≤ get_or costs u 0 + cost []) (once u s l inside lead) (omega arith)
+      onward u (one ∷ links) l (from, is, rest) listed few =
+          go (λ t within lead still. onward t links within lead (All-tail (IsAmong members) one links listed) still) (All-head (IsAmong members) one links listed).1
+        where
+          go : ((t : ℕ) → t < length members → LinksLead j (get_or members t 0) (get_or members s 0) links → get_or costs t 0 + cost links < most
+              → get_or costs s 0 ≤ get_or costs t 0 + cost links)
+              → Contains members (link_to one) → get_or costs s 0 ≤ get_or costs u 0 + cost (one ∷ links)
+          go later (t, within, at) =
+              let to : get_or members t 0 ≡ link_to one = get_or_default members t 0 (link_to one) within ∙ at in
+              let cheap = (row_at u l).all t within one from (sym to) is (omega (arith, few, cost_cons one links)) in
+              let step = w.over u t l within (omega (arith, few, far, cost_cons one links, some_cost one)) in
+              let back =
+              later t within (subst (λ (z : ℕ). LinksLead j z (get_or members s 0) links) (sym to) rest) (omega (arith, step, cheap, few, cost_cons one links)) in
+              omega (arith, back, step, cheap, cost_cons one links)
+
+      pub returned : HasReturn j members most s → get_or costs s 0 < most
+      returned ([], cycle, listed, few) = absurd (omega (arith, cycle.0))
+      returned (one ∷ links, (some, (from, is, rest)), listed, few) = go (All-head (IsAmong members) one links listed).1
+        where
+          go : Contains members (link_to one) → get_or costs s 0 < most
+          go (t, within, at) =
+              let to : get_or members t 0 ≡ link_to one = get_or_default members t 0 (link_to one) within ∙ at in
+              let cheap = (row_at s inside).all t within one from (sym to) is (omega (arith, few, cost_cons one links)) in
+              let step = w.first t within in
+              let later =
+              onward t links within (subst (λ (z : ℕ). LinksLead j z (get_or members s 0) links) (sym to) rest) (All-tail (IsAmong members) one links listed)
+              (omega (arith, step, cheap, few, cost_cons one links)) in
+              omega (arith, later, step, cheap, few, cost_cons one links)
+
+      pub returns : most ≤ NONE → get_or costs s 0 < most → HasReturn j members most s
+      returns high low =
+          let (links, route, listed, cheap) = w.sound s inside (omega (arith, high, low)) in (links, route, listed, omega (arith, cheap, low))
+
+  -- ---- all starts
+  pub from_start : (s : ℕ) → s < length members → HasReturn j members most s → HasCheaperAmong j members most
+  from_start s inside (links, cycle, listed, few) = (get_or members s 0, links, cycle, listed, few)
+
+  pub none_from : (n : ℕ) → length members ≤ n → ((s : ℕ) → s < n → s < length members → HasReturn j members most s → ⊥) → HasCheaperAmong j members most → ⊥
+  none_from n all none (v, [], cycle, listed, few) = omega (arith, cycle.0)
+  none_from n all none (v, one ∷ links, cycle, listed, few) = go (All-head (IsAmong members) one links listed).0
+    where
+      go : Contains members (link_from one) → ⊥
+      go (s, within, at) =
+          let from : get_or members s 0 ≡ v = get_or_default members s 0 (link_from one) within ∙ (at ∙ cycle.1.0) in
+          none s (omega (arith, within, all)) within (one ∷ links, subst (λ (z : ℕ). IsCycle j z (one ∷ links)) (sym from) cycle, listed, few)

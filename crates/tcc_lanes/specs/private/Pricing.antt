@@ -1,0 +1,94 @@
+-- What links among members cost, worked out from 64 of them at a time.
+use Rattle.std.specs.Prelude.{ℕ, ◌<◌, ◌≤◌, ◌+◌, ◌*◌, ◌≡◌, ◌⊎◌, ◌↔◌, min, All, List, [], length, slice_index, slice_index_or, if◌then◌else◌}
+use Rattle.tcc_reads.specs.History.{History, count}
+use Rattle.tcc_graph.specs.Keys.{key_at, keys}
+use Rattle.tcc_graph.specs.Levels.{Judged}
+use Rattle.tcc_graph.specs.Links.{IsLink, IsReason, cost, link_cost, link_from, link_to}
+use Rattle.tcc_graph.specs.Relations.{IsReadsPair, causal_pair}
+use Rattle.tcc_graph.specs.Routes.{IsCycle}
+use Rattle.tcc_graph.specs.declared.link.Link.{Link}
+use Rattle.tcc_graph.specs.declared.step.Step.{Step}
+use Rattle.tcc_lanes.specs.declared.words.TheConstants.{LANES}
+use Rattle.tcc_lanes.specs.declared.pricing.TheConstants.{NONE}
+use Rattle.tcc_lanes.specs.Among.{IsAmong}
+use Rattle.tcc_lanes.specs.private.Marks.{HasLane, IsAt}
+
+-- each transaction has the index of the member that it is, and any other one past the last
+pub record AreColumns (h : History) (members : List ℕ) (columns : List ℕ) : Type 0 where
+  pub long : length columns ≡ count h
+  pub each : (a v : ℕ) → a < count h → v < length members → (slice_index columns a ≡ v) ↔ (slice_index members v ≡ a)
+
+-- the reader reads a key of a lane in the word from the member of a column
+abbrev pub IsMetAt : History → List ℕ → List ℕ → ℕ → ℕ → ℕ → ℕ → Type 0
+IsMetAt h columns writers word reader v i =
+    HasLane word i × (a : ℕ) × (k : ℕ) × (slice_index columns a ≡ v) × (k < length (keys h)) × IsReadsPair h a reader (key_at h k) × IsAt writers k i
+
+-- so one of the first readers, where lanes have come to
+abbrev pub IsMetIn : History → List ℕ → List ℕ → List ℕ → ℕ → ℕ → ℕ → Type 0
+IsMetIn h columns writers reached end v i = (reader : ℕ) × (reader < end) × IsMetAt h columns writers (slice_index reached reader) reader v i
+
+-- a value was lowered to a price where that is meant, and stays otherwise
+pub record IsLowered (Is : Type 0) (price : ℕ) (old : ℕ) (new : ℕ) : Type 0 where
+  pub kept : new ≤ old
+  pub lowered : Is → new ≤ price
+  pub either : (new ≡ old) ⊎ (Is × (new ≡ price))
+
+-- the cell of a table that has 64 lanes for each column
+abbrev pub cell : ℕ → ℕ → ℕ
+cell v i = v * LANES + i
+
+-- of the table's lanes that start at these, what derived links to the members cost, by walks of so many steps at most
+pub record ArePrices (j : Judged) (members : List ℕ) (starts : List ℕ) (longest : ℕ) (table : List ℕ) : Type 0 where
+  pub long : length table ≡ length members * LANES
+  pub high : (v i : ℕ) → v < length members → i < length starts → slice_index table (cell v i) ≤ NONE
+  pub sound : (v i : ℕ) → v < length members → i < length starts → slice_index table (cell v i) < NONE
+      → (x : List ℕ) × (c : ℕ) × (walk : List Step) × IsReason j (slice_index starts i) (slice_index members v) x c walk
+      × (length walk + 1 ≤ slice_index table (cell v i))
+  pub all : (v i : ℕ) → v < length members → i < length starts → (x : List ℕ) (c : ℕ) (walk : List Step)
+      → IsReason j (slice_index starts i) (slice_index members v) x c walk → length walk ≤ longest → slice_index table (cell v i) ≤ length walk + 1
+
+-- what links from a transaction to the members cost that cost less than a limit
+pub record IsPriceRow (j : Judged) (members : List ℕ) (most : ℕ) (from : ℕ) (row : List ℕ) : Type 0 where
+  pub long : length row ≡ length members
+  pub some : (v : ℕ) → v < length members → 1 ≤ slice_index row v
+  pub high : (v : ℕ) → v < length members → slice_index row v ≤ NONE
+  pub sound : (v : ℕ) → v < length members → slice_index row v < NONE
+      → (l : Link) × (link_from l ≡ from) × (link_to l ≡ slice_index members v) × IsLink j l × (link_cost l ≤ slice_index row v)
+  pub all : (v : ℕ) → v < length members → (l : Link) → link_from l ≡ from → link_to l ≡ slice_index members v → IsLink j l → link_cost l < most
+      → slice_index row v ≤ link_cost l
+
+-- a row for each of the first members
+pub record ArePriceRows (j : Judged) (members : List ℕ) (most : ℕ) (end : ℕ) (rows : List (List ℕ)) : Type 0 where
+  pub long : length rows ≡ min (length members) end
+  pub each : (u : ℕ) → u < end → u < length members → IsPriceRow j members most (slice_index members u) (slice_index_or rows u [])
+
+-- of one start the price of a pair, or else that of a derived link as a table has it
+pub record IsRowOf (h : History) (members : List ℕ) (table : List ℕ) (lane : ℕ) (from : ℕ) (row : List ℕ) : Type 0 where
+  pub long : length row ≡ length members
+  pub each : (v : ℕ) → v < length members
+      → slice_index row v ≡ (if causal_pair h from (slice_index members v) then 1 else slice_index table (cell v lane))
+
+-- rows were added, one for each start
+pub record AreRowsOn (h : History) (members : List ℕ) (table : List ℕ) (starts : List ℕ) (end : ℕ) (old : List (List ℕ)) (new : List (List ℕ)) : Type 0 where
+  pub long : length new ≡ length old + end
+  pub kept : (k : ℕ) → k < length old → slice_index_or new k [] ≡ slice_index_or old k []
+  pub each : (i : ℕ) → i < end → IsRowOf h members table i (slice_index starts i) (slice_index_or new (length old + i) [])
+
+-- a table of as many rows as columns, with prices of 1 at least
+pub record IsTable (rows : List (List ℕ)) : Type 0 where
+  pub long : (u : ℕ) → u < length rows → length (slice_index_or rows u []) ≡ length rows
+  pub some : (u v : ℕ) → u < length rows → v < length rows → 1 ≤ slice_index (slice_index_or rows u []) v
+  pub high : (u v : ℕ) → u < length rows → v < length rows → slice_index (slice_index_or rows u []) v ≤ NONE
+
+-- going on from those of the first that cost so much: no cost rises, each new one is of a way over one of them, and none of these is missing
+pub record IsSettled (rows : List (List ℕ)) (level : ℕ) (end : ℕ) (old : List ℕ) (new : List ℕ) : Type 0 where
+  pub same : length new ≡ length old
+  pub kept : (v : ℕ) → v < length old → slice_index new v ≤ slice_index old v
+  pub either : (v : ℕ) → v < length old → (slice_index new v ≡ slice_index old v)
+      ⊎ ((u : ℕ) × (u < length old) × (slice_index old u ≡ level) × (slice_index new v ≡ level + slice_index (slice_index_or rows u []) v))
+  pub over : (u v : ℕ) → u < end → u < length old → v < length old → slice_index old u ≡ level
+      → slice_index new v ≤ level + slice_index (slice_index_or rows u []) v
+
+-- a cycle from a member, of links among the members, costs less than a limit
+abbrev pub HasReturn : Judged → List ℕ → ℕ → ℕ → Type 0
+HasReturn j members most s = (links : List Link) × IsCycle j (slice_index members s) links × All (IsAmong members) links × (cost links < most)

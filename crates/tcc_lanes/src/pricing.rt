@@ -1,0 +1,110 @@
+//! What links among members cost: 1 where there is a pair, and else a step more than the shortest walk of a derived link, found from
+//! 64 members at a time. For M members, N transactions and R reads, and walks of so many steps at most, that takes M / 64 times so
+//! many sweeps of N + R, and M * M bytes.
+ghost use Rattle.std.specs.Prelude.{◌≡◌, ◌≢◌, ◌≤◌, ◌<◌, ◌+◌, ◌*◌, ◌↔◌, ℕ, IsTrue, [], length, slice_index, slice_index_or, All, AllPairs, IfOk, OnOk};
+ghost use Rattle.tcc_reads.specs.History.{IsBySession, count};
+ghost use Rattle.tcc_graph.specs.Levels.{judged};
+ghost use Rattle.tcc_clocks.specs.Parents.{ArePrevious};
+ghost use Rattle.tcc_lanes.specs.declared.limits.TheConstants.{MOST_MEMBERS};
+ghost use Rattle.tcc_lanes.specs.declared.words.TheConstants.{LANES};
+ghost use Rattle.tcc_lanes.specs.declared.pricing.TheConstants.{NONE};
+ghost use Rattle.tcc_lanes.specs.private.Marks.{HasLane, IsAt};
+ghost use Rattle.tcc_lanes.specs.private.Pricing.{AreColumns, ArePrices, IsLowered, cell};
+
+use crate::marking::{marks_of, writer_marks};
+use crate::meeting::{columns_of, meet};
+use crate::walking::walk_on;
+use crate::words::{LANES, has_lane};
+use std::alloc::Global;
+use tcc_graph::{LargeGraph, Level};
+use tcc_txn::NoMemory;
+
+/// The price where there is no link.
+pub(crate) const NONE: u8 = 64;
+
+/// Lowers a value to a price.
+fn lower_at(table: &mut [u8], at: usize, price: u8)
+    requires { at < length table.old }
+    ensures same { length table.new ≡ length table.old }
+    ensures each { (k : ℕ) → k < length table.old → IsLowered (k ≡ at) price (slice_index table.old k) (slice_index table.new k) }
+{
+    table[at] = table[at].min(price);
+}
+
+/// Whether a word has the mark of a lane that starts at another transaction.
+fn is_met(word: u64, lane: usize, from: u32, to: u32) -> bool
+    requires { lane < LANES }
+    ensures { IsTrue result ↔ (HasLane word lane × (from ≢ to)) }
+{
+    from != to && has_lane(word, lane)
+}
+
+/// Lowers the prices of one column for the lanes of a word, where these start elsewhere.
+fn lower_column(table: &mut [u8], column: usize, starts: &[u32], word: u64, to: u32, price: u8)
+    requires lanes { length starts.now ≤ LANES }
+    requires few { column < MOST_MEMBERS }
+    requires inside { cell (column + 1) 0 ≤ length table.old }
+    ensures same { length table.new ≡ length table.old }
+    ensures each { (v : ℕ) (i : ℕ) → cell (v + 1) 0 ≤ length table.old → i < LANES
+        → IsLowered ((v ≡ column) × (i < length starts.now) × HasLane word i × (slice_index starts.now i ≢ to)) price
+        (slice_index table.old (cell v i)) (slice_index table.new (cell v i)) }
+{
+    for (lane, from) in starts.iter().enumerate() {
+        if is_met(word, lane, *from, to) {
+            lower_at(table, column * LANES + lane, price);
+        }
+    }
+}
+
+/// So of each column.
+fn lower(table: &mut [u8], members: &[u32], starts: &[u32], found: &[u64], price: u8)
+    requires lanes { length starts.now ≤ LANES }
+    requires few { length members.now ≤ MOST_MEMBERS }
+    requires found { length found.now ≡ length members.now }
+    requires long { length table.old ≡ length members.now * LANES }
+    ensures same { length table.new ≡ length table.old }
+    ensures each { (v : ℕ) (i : ℕ) → v < length members.now → i < LANES
+        → IsLowered ((i < length starts.now) × IsAt found.now v i × (slice_index starts.now i ≢ slice_index members.now v)) price
+        (slice_index table.old (cell v i)) (slice_index table.new (cell v i)) }
+{
+    for (column, member) in members.iter().enumerate() {
+        lower_column(table, column, starts, found[column], *member, price);
+    }
+}
+
+/// What derived links from these starts to the members cost, by walks of so many steps at most.
+pub(crate) fn prices_from(
+    alloc: Global,
+    graph: &LargeGraph,
+    level: Level,
+    parent_of: &[u32],
+    columns: &[u32],
+    members: &[u32],
+    starts: &[u32],
+    longest: u8,
+) -> Result<Vec<u8>, NoMemory>
+    requires numbered { IsBySession graph.now.entries }
+    requires parents { ArePrevious graph.now parent_of.now }
+    requires columns { AreColumns graph.now members.now columns.now }
+    requires members { All (λ v. v < count graph.now) members.now }
+    requires few { length members.now ≤ MOST_MEMBERS }
+    requires lanes { length starts.now ≤ LANES }
+    requires inside { All (λ u. u < count graph.now) starts.now }
+    requires some { All (λ u. 0 < u) starts.now }
+    requires short { longest < NONE }
+    ensures { IfOk result (λ table. ArePrices (judged graph.now level) members.now starts.now longest table.items) }
+{
+    let count = graph.count() as usize;
+    let begun = marks_of(alloc, count, starts)?;
+    let writers = writer_marks(alloc, graph, starts)?;
+    let mut reached = vec![in alloc; 0; count]?;
+    let mut underway = vec![in alloc; 0; count]?;
+    let mut found = vec![in alloc; 0; members.len()]?;
+    let mut table = vec![in alloc; NONE; members.len() * LANES]?;
+    for steps in 0..longest {
+        walk_on(graph, level, parent_of, &begun, &mut reached, &mut underway);
+        meet(graph, columns, &writers, &reached, &mut found);
+        lower(&mut table, members, starts, &found, steps + 2);
+    }
+    Ok(table)
+}
