@@ -61,6 +61,11 @@ def figures(spent):
     return "%.2f" % spent[0], "%.0f" % spent[1]
 
 
+def write_apart(path, kind, size, sessions):
+    """Writes the history in a process of its own: what this script holds would count as memory of what it starts."""
+    subprocess.run([sys.executable, "-c", WRITTEN, path, kind, str(size), str(sessions)], cwd=HERE, check=True)
+
+
 def line_of(asked, folder, history):
     """The cells of a history's line."""
     costs = Costs(folder, history)
@@ -85,17 +90,8 @@ def main():
     print("history  explain s  MB  with certificate s  MB  bytes  check s  MB  said", end="")
     print("  beside: write s  MB  bytes  check s  MB  check" if asked.beside else "")
     with tempfile.TemporaryDirectory() as temporary:
-        folder = asked.keep or pathlib.Path(temporary)
-        folder.mkdir(parents=True, exist_ok=True)
-        for kind in asked.kinds:
-            for size in asked.sizes:
-                for sessions in asked.sessions:
-                    path = folder / ("%s-%d-%d.csv" % (kind, size, sessions))
-                    # in a process of its own: what this script holds would count as memory of what it starts
-                    subprocess.run([sys.executable, "-c", WRITTEN, path, kind, str(size), str(sessions)], cwd=HERE, check=True)
-                    print(*line_of(asked, pathlib.Path(temporary), path), sep="  ", flush=True)
-                    if not asked.keep:
-                        path.unlink()
+        for path in large.histories(asked, temporary, write_apart):
+            print(*line_of(asked, pathlib.Path(temporary), path), sep="  ", flush=True)
 
 
 if __name__ == "__main__":

@@ -20,6 +20,7 @@ one of 1,000,000 takes minutes and gigabytes.
 import argparse
 import bisect
 import collections
+import itertools
 import os
 import pathlib
 import random
@@ -163,6 +164,18 @@ def row(stages, path, answer):
     return seconds + ["%.0f" % peak, said["large-cycle"], said["large-survey"]]
 
 
+def histories(asked, temporary, write):
+    """The file of each history that is asked for, once it is written; it is gone when the next one is asked for, unless it is kept."""
+    folder = asked.keep or pathlib.Path(temporary)
+    folder.mkdir(parents=True, exist_ok=True)
+    for kind, size, sessions in itertools.product(asked.kinds, asked.sizes, asked.sessions):
+        path = folder / ("%s-%d-%d.csv" % (kind, size, sessions))
+        write(path, kind, size, sessions)
+        yield path
+        if not asked.keep:
+            path.unlink()
+
+
 def main():
     ask = argparse.ArgumentParser(description="Measures how large histories are decided.")
     ask.add_argument("--kinds", nargs="+", choices=KINDS, default=KINDS, metavar="KIND", help="these alone")
@@ -174,16 +187,8 @@ def main():
     stages = os.path.abspath(asked.stages) if asked.stages else built("tcc_bench_stages")
     print("history  read  resolve  graph  order  cycle  survey  MB  steps  contradicted")
     with tempfile.TemporaryDirectory() as temporary:
-        folder = asked.keep or pathlib.Path(temporary)
-        folder.mkdir(parents=True, exist_ok=True)
-        for kind in asked.kinds:
-            for size in asked.sizes:
-                for sessions in asked.sessions:
-                    path = folder / ("%s-%d-%d.csv" % (kind, size, sessions))
-                    write_history(path, kind, size, sessions)
-                    print(path.stem, *row(stages, path, pathlib.Path(temporary, "answer")), sep="  ", flush=True)
-                    if not asked.keep:
-                        path.unlink()
+        for path in histories(asked, temporary, write_history):
+            print(path.stem, *row(stages, path, pathlib.Path(temporary, "answer")), sep="  ", flush=True)
 
 
 if __name__ == "__main__":

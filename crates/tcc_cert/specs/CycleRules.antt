@@ -50,7 +50,7 @@ pub record IsWrongFrom (j : Judged) (from : ℕ) (links : List Link) (i : ℕ) :
   pub at : i ≡ length before + 1
   pub wrong : IsLinkRight j (ends_at from before) link → ⊥
 
--- the same, where it has to begin where the last ends
+-- the link after those before it is not right, where the first has to begin where the last ends
 abbrev pub IsLinkWrong : Judged → List Link → ℕ → Type 0
 IsLinkWrong j links i = IsWrongFrom j (ends_at 0 links) links i
 

@@ -29,7 +29,7 @@ IsReadingWhere failed bytes (Ok certificate) = certificate_read bytes ≡ Ok cer
 IsReadingWhere failed bytes (Err fault) =
     (certificate_read bytes ≡ Err fault) ⊎ IsCutShort failed (start_of bytes) (certificate_at (start_of bytes)) fault
 
--- the same of a reader that is out of sight
+-- so where nobody can say whether the reader failed
 abbrev pub IsReading : List ℕ → Result Certificate CertFault → Type 0
 IsReading bytes result = IsReadingWhere (Unit {0}) bytes result
 

@@ -205,7 +205,7 @@ next most form at = do
   line ← judged at at (line_of most at.bytes)
   judged at (behind at line.0) (form line.0)
 
--- the same of a line after the first
+-- the next line behind the first, of as many bytes as the scale of the text has, judged by the form of its words
 abbrev pub words : {X : Type 0} → Scale → (Words → Result X CertFaultKind) → Position → Reads X
 words scale form at = next (ranges_at scale).line_bytes (λ line. form (words_of line)) at
 
@@ -217,7 +217,7 @@ numbered read from (suc n) at = do
   others ← numbered read (from + 1) n first.1
   Ok (first.0 ∷ others.0, others.1)
 
--- the same part so many times
+-- one kind of part so many times
 abbrev pub repeated : {X : Type 0} → (Position → Reads X) → ℕ → Position → Reads (List X)
 repeated read n at = numbered (λ i. read) 0 n at
 

@@ -132,7 +132,7 @@ fn broken_at(seen: LinksSeen) -> Option<usize>
     if is_used_up(seen.left) { None } else { Some(0) }
 }
 
-/// The same as a number of a verdict, where all links came.
+/// The first wrong link as a verdict has it, in 32 bits, where all links came.
 fn seen_wrong(seen: LinksSeen) -> Result<Option<u32>, NoMemory>
     ensures { (j : Judged) (most : ℕ) (links : List Link) → AreSeenTo j most links (length links) seen
         → IfOk result (IsFirstWrongLink j most links) }

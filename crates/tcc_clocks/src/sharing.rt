@@ -1,4 +1,6 @@
-//! Rows of numbers, one for each transaction, of which equal ones may be held once.
+//! Rows of numbers, one for each transaction, of which equal ones may be held once: a transaction has the index of its row, and
+//! rows only join at the end, so a table of N transactions has at most N + 1 rows of 64 numbers, mostly far fewer. Whether two
+//! transactions share a row is one comparison of indices: those that do are equal, the others needn't differ.
 ghost use Rattle.std.specs.Prelude.{◌≡◌, ◌<◌, ℕ, true, length, set, All, IfOk, OnOk};
 ghost use Rattle.tcc_graph.specs.Tables.{row_of};
 

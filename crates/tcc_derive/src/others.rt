@@ -37,8 +37,8 @@ pub(crate) fn session_ends(alloc: Global, graph: &Graph) -> Result<Vec<u32>, NoM
     Ok(ends)
 }
 
-/// The transactions that read from `u` or have a price, ascending, each with what a link there costs, by the steps from `u`:
-/// its row of costs is made for this alone.
+/// The transactions to which a reads-from pair or a derived link leads from `u`, ascending, each with what the cheapest link
+/// there costs. The row of costs is worked out from the steps and the prices from `u`, and let go.
 fn others_row(
     alloc: Global,
     graph: &Graph,

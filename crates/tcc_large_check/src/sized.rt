@@ -1,8 +1,5 @@
 //! The history of a snapshot, by whether it is within the small limits.
-ghost use Rattle.std.specs.Prelude.{◌≡◌, [], MatchResult};
-ghost use Rattle.tcc_reads.specs.Faults.{read_faults};
-ghost use Rattle.tcc_reads.specs.Refusals.{IsRefusal};
-ghost use Rattle.tcc_reads.specs.Sources.{history};
+ghost use Rattle.std.specs.Prelude.{◌≡◌};
 ghost use Rattle.tcc_verdict.specs.Checking.{IsHistory, MayBeResolution};
 ghost use Rattle.tcc_large_check.specs.private.Stages.{IsSizedHistory, history_in};
 
@@ -10,10 +7,9 @@ use std::alloc::Global;
 use std::io::Write;
 use tcc_graph::{Graph, LargeGraph};
 use tcc_print::Halt;
-use tcc_print::notes::note_reads;
-use tcc_reads::{LargeResolved, ResolveFault, resolve_large};
+use tcc_reads::resolve_large;
 use tcc_txn::LargeSnapshot;
-use tcc_verdict::graph_of;
+use tcc_verdict::{graph_of, noted};
 
 /// The graph of a history.
 #[derive(Drop)]
@@ -36,23 +32,6 @@ impl SizedGraph {
     }
 }
 
-/// Where the reads of a large snapshot come from; of the first read faults it is noted which write each of them is about.
-fn large_resolved<N: Write>(
-    alloc: Global,
-    snapshot: &LargeSnapshot,
-    notes: &mut N,
-) -> Result<LargeResolved, ResolveFault>
-    ensures { MatchResult result
-        (λ resolved. (read_faults snapshot.now ≡ []) × (resolved ≡ history snapshot.now))
-        (IsRefusal snapshot.now) }
-{
-    let resolved = resolve_large(alloc, snapshot);
-    if let Err(ResolveFault::Reads(faults)) = &resolved {
-        note_reads(alloc, snapshot, faults, notes);
-    }
-    resolved
-}
-
 /// The history of a large snapshot, or all its read faults.
 fn large_graph_of<N: Write>(
     alloc: Global,
@@ -61,7 +40,7 @@ fn large_graph_of<N: Write>(
 ) -> Result<LargeGraph, Halt>
     ensures { MayBeResolution IsHistory snapshot.now result }
 {
-    let resolved = large_resolved(alloc, snapshot, notes)?;
+    let resolved = noted(alloc, snapshot, resolve_large(alloc, snapshot), notes)?;
     let graph = LargeGraph::build(alloc, resolved)?;
     Ok(graph)
 }

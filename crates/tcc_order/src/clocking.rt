@@ -9,22 +9,12 @@ ghost use Rattle.tcc_order.specs.private.Lasts.{AreLastsOf, raised};
 ghost use Rattle.tcc_clocks.specs.Clocks.{IsBefore};
 ghost use Rattle.tcc_clocks.specs.private.Rows.{IsUpTo};
 
+use crate::keeping::empty_rows;
 use std::alloc::{AllocError, Global};
 use tcc_bits::Row;
 use tcc_clocks::{parents_of, raise_each};
 use tcc_graph::LargeGraph;
 use tcc_txn::NoMemory;
-
-/// So many rows with no words.
-pub(crate) fn empty_rows<T: Copy>(alloc: Global, count: u32) -> Result<Vec<Row<T>>, AllocError>
-    ensures { IfOk result (λ rows. length rows.items ≡ count) }
-{
-    let mut rows = Vec::new(alloc);
-    for _row in 0..count {
-        rows.push(Row::new(Vec::new(alloc)))?;
-    }
-    Ok(rows)
-}
 
 /// Raises the place of a transaction's session to its own.
 fn raise_one(row: &mut [u32], graph: &LargeGraph, p: u32)

@@ -48,7 +48,7 @@ fn lift_writer(need: &mut [u32], owners: &[u32], from: u32, clock: &[u32], b: u3
     }
 }
 
-/// The same, of each writer in turn.
+/// Raises the number of a session to each of these writers in turn, where the clock reaches it.
 fn lift_each(need: &mut [u32], owners: &[u32], from: u32, clock: &[u32], writers: &[u32], a: u32)
     requires same { length need.old ≡ length clock.now }
     requires inside { All (λ b. b < length owners.now) writers.now }
@@ -81,7 +81,7 @@ pub(crate) fn last_up_to(numbers: &[u32], top: u32) -> u32
     numbers[count - 1]
 }
 
-/// The same, of others than `a`.
+/// The last of these, which rise, that is no greater than `top` and is not `a`, or 0.
 fn last_but(numbers: &[u32], top: u32, a: u32) -> u32
     requires { IsNonDecreasing numbers.now }
     ensures { IsLastBut numbers.now top a result }
@@ -188,9 +188,9 @@ fn top_of(table: &SharedRows, readings: &[(u32, u32)], start: usize, end: usize,
     top
 }
 
-/// Of each session of the block the last transaction past those that reach `a` that has to stand before `a`: that overwrote
-/// a value of `a`, and reaches who read it. What reaches a reader with the clock of `a` reaches `a`. The readers of one key are
-/// taken together, so that its writers are gone through once.
+/// What has to stand before `a` by what was read from it: of each session of the block the last writer, past those that reach
+/// `a`, of a key that a transaction reads from `a`, where it reaches that reader. The readers of one key are taken together, so
+/// that its writers are gone through once.
 fn needed(
     need: &mut [u32],
     graph: &LargeGraph,
@@ -386,16 +386,16 @@ fn keep_block(
     Ok(())
 }
 
-/// So many rows in which nothing is kept.
-pub(crate) fn no_links(alloc: Global, count: u32) -> Result<Vec<Row<u32>>, NoMemory>
-    ensures long { IfOk result (λ kept. length kept.items ≡ count) }
-    ensures none { IfOk result (λ kept. HasNone kept.items) }
+/// So many rows in which nothing stands.
+pub(crate) fn empty_rows(alloc: Global, count: u32) -> Result<Vec<Row<u32>>, NoMemory>
+    ensures long { IfOk result (λ rows. length rows.items ≡ count) }
+    ensures none { IfOk result (λ rows. HasNone rows.items) }
 {
-    let mut kept = Vec::new(alloc);
+    let mut rows = Vec::new(alloc);
     for _row in 0..count {
-        kept.push(Row::new(Vec::new(alloc)))?;
+        rows.push(Row::new(Vec::new(alloc)))?;
     }
-    Ok(kept)
+    Ok(rows)
 }
 
 /// The links at `Causal` that are kept, by an order in which causal pairs lead onward.
@@ -411,7 +411,7 @@ pub(crate) fn causal_links(
     ensures { IfOk result (λ kept. AreLinks (causally graph.now) kept.items) }
 {
     let owners = owners(alloc, graph)?;
-    let mut kept = no_links(alloc, graph.count())?;
+    let mut kept = empty_rows(alloc, graph.count())?;
     let mut table = SharedRows::new(alloc, graph.count())?;
     let readings = readings_by_key(alloc, graph)?;
     let steps = steps_along(alloc, graph, parents, order)?;

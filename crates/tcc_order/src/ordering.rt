@@ -11,7 +11,7 @@ ghost use Rattle.tcc_clocks.specs.Clocks.{LeadsOnward};
 ghost use Rattle.tcc_order.specs.Placements.{IsPlacement, IsPairPlacement};
 ghost use Rattle.tcc_order.specs.private.Found.{AreFound};
 
-use crate::keeping::{causal_links, no_links};
+use crate::keeping::{causal_links, empty_rows};
 use crate::placement::{PairPlacement, Placement, Stuck};
 use crate::placing::{Placed, first_placing};
 use crate::stepping::atomic_links;
@@ -34,7 +34,7 @@ fn links_by_clocks(alloc: Global, graph: &LargeGraph, parents: &[u32]) -> Result
     requires parents { ArePrevious graph.now parents.now }
     ensures { IfOk result (AreFound (causally graph.now)) }
 {
-    let none = no_links(alloc, graph.count())?;
+    let none = empty_rows(alloc, graph.count())?;
     match first_placing(alloc, graph, parents, &none)? {
         Placed::Order(order) => Ok(Links::Kept(causal_links(alloc, graph, parents, &order)?)),
         Placed::Stuck(placed) => Ok(Links::Circle(Stuck { kept: none, placed })),
@@ -98,7 +98,7 @@ pub fn place_pairs(alloc: Global, graph: &LargeGraph) -> Result<PairPlacement, N
     // transactions stand by session and by place, as this call says
     graph.sessions();
     let parents = previous_of_each(alloc, graph)?;
-    let none = no_links(alloc, graph.count())?;
+    let none = empty_rows(alloc, graph.count())?;
     match first_placing(alloc, graph, &parents, &none)? {
         Placed::Order(order) => Ok(PairPlacement::Order(order)),
         Placed::Stuck(placed) => Ok(PairPlacement::Stuck(placed)),

@@ -2,7 +2,8 @@
 //! a heap. What is held back waits for one that holds it back, and is looked at again once that was placed; it then goes on behind
 //! that one, so that each pair and link is looked at twice at most. With N transactions and E pairs and links that takes
 //! O(E + N log N).
-ghost use Rattle.std.specs.Prelude.{◌≡◌, ◌<◌, ◌≤◌, ◌+◌, ◌^◌, ◌⊎◌, ◌↔◌, ◌++◌, [], ℕ, true, false, length, slice_index, slice_index_or, Contains, IfOk, IfNone, IfSome, OnOk, MatchOption};
+ghost use Rattle.std.specs.Prelude.{◌≡◌, ◌<◌, ◌≤◌, ◌+◌, ◌⊎◌, ◌↔◌, ◌++◌, [], ℕ, true, false, length, slice_index, slice_index_or, Contains, IfOk, IfNone, IfSome, OnOk, MatchOption};
+ghost use Rattle.tcc_txn.specs.declared.limits.TheConstants.{LARGE_COUNT};
 ghost use Rattle.tcc_reads.specs.History.{count};
 ghost use Rattle.tcc_graph.specs.Tables.{row_of};
 ghost use Rattle.tcc_bits.specs.Bits.{is_marked, words_for};
@@ -11,7 +12,7 @@ ghost use Rattle.tcc_clocks.specs.Parents.{ArePrevious, sources};
 ghost use Rattle.tcc_order.specs.private.Held.{holds, AreInside, AreRoots, onward};
 ghost use Rattle.tcc_order.specs.private.Queued.{AreQueued, AreSure, IsAny};
 
-use crate::keeping::no_links;
+use crate::keeping::empty_rows;
 use crate::ready::Ready;
 use std::alloc::{AllocError, Global};
 use tcc_bits::{Row, is_marked, mark, words_for};
@@ -182,7 +183,7 @@ fn first_ready(placed: &[u64], ready: &mut Ready) -> Option<u32>
 
 /// The number after this one, if this is its parent, or else this one.
 fn onward(parents: &[u32], x: u32) -> u32
-    requires few { length parents.now ≤ 2 ^ 20 }
+    requires few { length parents.now ≤ LARGE_COUNT }
     requires inside { x < length parents.now }
     ensures { result ≡ onward parents.now x }
 {
@@ -196,7 +197,7 @@ fn onward(parents: &[u32], x: u32) -> u32
 
 /// The numbers whose parent is 0.
 fn roots(alloc: Global, parents: &[u32]) -> Result<Vec<u32>, AllocError>
-    requires { length parents.now ≤ 2 ^ 20 }
+    requires { length parents.now ≤ LARGE_COUNT }
     ensures { IfOk result (λ roots. AreRoots parents.now (length parents.now) roots.items) }
 {
     let mut roots = Vec::new(alloc);
@@ -215,7 +216,7 @@ fn wake(
     parents: &[u32],
     x: u32,
 ) -> Result<(), AllocError>
-    requires few { length parents.now ≤ 2 ^ 20 }
+    requires few { length parents.now ≤ LARGE_COUNT }
     requires inside { x < length parents.now }
     requires long { length waiting.now ≡ length parents.now }
     ensures { OnOk result ((y : ℕ) → Contains woken.new.items y
@@ -228,7 +229,7 @@ fn wake(
 
 /// The queue before any transaction was placed.
 fn first_queue(alloc: Global, parents: &[u32], count: u32) -> Result<Queue, NoMemory>
-    requires { length parents.now ≤ 2 ^ 20 }
+    requires { length parents.now ≤ LARGE_COUNT }
     ensures woken { IfOk result (λ queue. AreRoots parents.now (length parents.now) queue.woken.items) }
     ensures ready { IfOk result (λ queue. (x : ℕ) → Contains queue.ready x → ⊥) }
     ensures long { IfOk result (λ queue. length queue.waiting.items ≡ count) }
@@ -236,7 +237,7 @@ fn first_queue(alloc: Global, parents: &[u32], count: u32) -> Result<Queue, NoMe
     ensures seen { IfOk result (λ queue. length queue.seen.items ≡ count) }
 {
     let woken = roots(alloc, parents)?;
-    let waiting = no_links(alloc, count)?;
+    let waiting = empty_rows(alloc, count)?;
     let seen = vec![in alloc; 0usize; count as usize]?;
     Ok(Queue {
         woken,

@@ -1,10 +1,7 @@
 //! From the bytes of a history and of a certificate to the verdict.
-ghost use Rattle.std.specs.Prelude.{◌≡◌, [], Ok, IfSome, MatchResult};
+ghost use Rattle.std.specs.Prelude.{◌≡◌, Ok, IfSome, MatchResult};
 ghost use Rattle.tcc_rows.specs.Recordings.{IsRecorded};
 ghost use Rattle.tcc_txn.specs.declared.limits.Limits.TheVariants.{Small};
-ghost use Rattle.tcc_reads.specs.Faults.{read_faults};
-ghost use Rattle.tcc_reads.specs.Refusals.{IsRefusal};
-ghost use Rattle.tcc_reads.specs.Sources.{history};
 ghost use Rattle.tcc_verdict.specs.Checking.{IsHistory, MayBeResolution};
 ghost use Rattle.tcc_verdict.specs.Checks.{IsCheckRun, IsShown, MayBeCheck, PrintsSome};
 ghost use Rattle.tcc_verdict.specs.private.Stages.{IsMadeOf, MayBeTextCheck};
@@ -18,9 +15,9 @@ use tcc_graph::Graph;
 use tcc_print::Halt;
 use tcc_print::notes::note_reads;
 use tcc_print::printing::print_check;
-use tcc_reads::{ResolveFault, Resolved, resolve};
+use tcc_reads::{ResolveFault, resolve};
 use tcc_rows::{Recording, RecordingWithin, RowFault, RowFaultKind};
-use tcc_txn::{Bounds, Snapshot};
+use tcc_txn::{Bounds, Snapshot, SnapshotWithin};
 
 /// The recording of all that the records finish within the limits that `B` stands for, whatever they seal; of a record's fault it
 /// is noted what to mend.
@@ -48,17 +45,15 @@ pub fn recorded<R: Read + Drop, B: Bounds, N: Write>(
     }
 }
 
-/// Where the reads of a snapshot come from; of the first read faults it is noted which write each of them is about.
-fn resolved<N: Write>(
+/// What the resolver answered of a snapshot; of the first read faults it is noted which write each of them is about.
+pub fn noted<T, B: Bounds, N: Write>(
     alloc: Global,
-    snapshot: &Snapshot,
+    snapshot: &SnapshotWithin<B>,
+    resolved: Result<T, ResolveFault>,
     notes: &mut N,
-) -> Result<Resolved, ResolveFault>
-    ensures { MatchResult result
-        (λ resolved. (read_faults snapshot.now ≡ []) × (resolved ≡ history snapshot.now))
-        (IsRefusal snapshot.now) }
+) -> Result<T, ResolveFault>
+    ensures { result ≡ resolved }
 {
-    let resolved = resolve(alloc, snapshot);
     if let Err(ResolveFault::Reads(faults)) = &resolved {
         note_reads(alloc, snapshot, faults, notes);
     }
@@ -69,7 +64,7 @@ fn resolved<N: Write>(
 pub fn graph_of<N: Write>(alloc: Global, snapshot: &Snapshot, notes: &mut N) -> Result<Graph, Halt>
     ensures { MayBeResolution IsHistory snapshot.now result }
 {
-    let resolved = resolved(alloc, snapshot, notes)?;
+    let resolved = noted(alloc, snapshot, resolve(alloc, snapshot), notes)?;
     let graph = Graph::build(alloc, resolved)?;
     Ok(graph)
 }

@@ -4,5 +4,5 @@
 mod check;
 mod stopping;
 
-pub use check::{graph_of, recorded, run_check};
+pub use check::{graph_of, noted, recorded, run_check};
 pub use stopping::stop;

@@ -23,7 +23,7 @@ fn saturated(digits: &[u8]) -> Option<u64>
     Some(value)
 }
 
-/// The same of one digit.
+/// The value of one digit, where it is one.
 fn one_digit(digit: u8) -> Option<u64>
     ensures { MatchOption result (all_ascii_digits (digit ∷ []) ≡ false)
         (λ value. (all_ascii_digits (digit ∷ []) ≡ true) × (value ≡ min (digits_value 10 (digit ∷ [])) (2 ^ 64 - 1))) }
@@ -35,7 +35,7 @@ fn one_digit(digit: u8) -> Option<u64>
     }
 }
 
-/// The same of two digits.
+/// The value of two digits, where both are digits.
 fn two_digits(tens: u8, ones: u8) -> Option<u64>
     ensures { MatchOption result (all_ascii_digits (tens ∷ ones ∷ []) ≡ false)
         (λ value. (all_ascii_digits (tens ∷ ones ∷ []) ≡ true) × (value ≡ min (digits_value 10 (tens ∷ ones ∷ [])) (2 ^ 64 - 1))) }
@@ -47,7 +47,7 @@ fn two_digits(tens: u8, ones: u8) -> Option<u64>
     }
 }
 
-/// The same of digits without leading zeros.
+/// The value of digits without leading zeros, or the greatest number where it has no room.
 fn decimal(word: &[u8]) -> Option<u64>
     ensures { MatchOption result (is_decimal word.now ≡ false)
         (λ value. (is_decimal word.now ≡ true) × (value ≡ min (digits_value 10 word.now) (2 ^ 64 - 1))) }

@@ -165,7 +165,7 @@ impl<R: Read> Input<R> {
         }
     }
 
-    /// The same of a line behind the first, by the text's scale.
+    /// Takes the next line, one behind the first: how long it may be is told by the text's scale.
     pub(crate) fn next_of(&mut self, scale: Scale) -> Result<u64, CertFault>
         ensures works { OnOk result (AsBefore self.old self.new) }
         ensures line { (at : Position) → IsAt R.remaining self.old at → TakesLine R.remaining (ranges_at scale).line_bytes at result self.new }

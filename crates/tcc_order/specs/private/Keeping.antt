@@ -38,7 +38,7 @@ pub record IsLifted (owners : List ℕ) (from : ℕ) (clock : List ℕ) (writers
   pub kept : old ≤ new
   pub greatest : (b : ℕ) → IsLiftable owners from clock writers a k b → b ≤ new
 
--- the same by one writer
+-- the number of session k, raised to that of the writer b where b is not a and the clock reaches it
 abbrev pub lifted_by : List ℕ → ℕ → List ℕ → ℕ → ℕ → ℕ → ℕ → ℕ
 lifted_by owners from clock a b k latest =
     if (nat_lt 0 b && not (b == a)) && ((slice_index owners b == from + k) && nat_le b (slice_index clock k)) then max b latest else latest
@@ -130,7 +130,7 @@ pub record IsLastUpTo (numbers : List ℕ) (top : ℕ) (last : ℕ) : Type 0 whe
   pub attained : (last ≡ 0) ⊎ (Contains numbers last × (last ≤ top))
   pub greatest : (b : ℕ) → Contains numbers b → b ≤ top → b ≤ last
 
--- the same but for a
+-- the greatest of these other than a that is no greater than `top`, or 0 where there is none
 pub record IsLastBut (numbers : List ℕ) (top : ℕ) (a : ℕ) (last : ℕ) : Type 0 where
   pub attained : (last ≡ 0) ⊎ (Contains numbers last × (last ≢ a) × (last ≤ top))
   pub greatest : (b : ℕ) → Contains numbers b → b ≢ a → b ≤ top → b ≤ last
