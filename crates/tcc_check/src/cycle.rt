@@ -31,7 +31,11 @@ fn has_right_sizes(graph: &LargeGraph, claim: &CycleClaim) -> bool
 }
 
 /// Judges the tables.
-fn bounds_verdict(alloc: Global, graph: &LargeGraph, claim: &CycleClaim) -> Result<Verdict, NoMemory>
+fn bounds_verdict(
+    alloc: Global,
+    graph: &LargeGraph,
+    claim: &CycleClaim,
+) -> Result<Verdict, NoMemory>
     requires few { count graph.now ≤ MAX_COUNT }
     requires sizes { HasRightSizes graph.now claim.now }
     ensures { IfOk result (IsAnswer (bounds_rules graph.now claim.now)) }

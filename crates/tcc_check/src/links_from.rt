@@ -59,7 +59,11 @@ fn mark_between(weights: &mut [u32], first: u32, end: u32)
 }
 
 /// The weights of causal pairs from `start`, by their ends.
-pub(crate) fn pair_weights(alloc: Global, graph: &LargeGraph, start: u32) -> Result<Vec<u32>, NoMemory>
+pub(crate) fn pair_weights(
+    alloc: Global,
+    graph: &LargeGraph,
+    start: u32,
+) -> Result<Vec<u32>, NoMemory>
     requires { start < count graph.now }
     ensures long { IfOk result (λ weights. length weights.items ≡ count graph.now) }
     ensures none { IfOk result (λ weights. (c : ℕ) → c < count graph.now → (slice_index weights.items c ≡ 0) ↔ IsCausalPair graph.now start c) }
@@ -193,7 +197,12 @@ pub(crate) fn link_ends(
 }
 
 /// The reads-from pairs from `start`, where a single step is less than `least`.
-fn read_ends_of(alloc: Global, graph: &LargeGraph, start: u32, least: u32) -> Result<Groups, NoMemory>
+fn read_ends_of(
+    alloc: Global,
+    graph: &LargeGraph,
+    start: u32,
+    least: u32,
+) -> Result<Groups, NoMemory>
     requires few { count graph.now ≤ MAX_COUNT }
     requires start { start < count graph.now }
     ensures { IfOk result (AreEnds (ReadWeighs graph.now start) (count graph.now) least) }
@@ -204,7 +213,11 @@ fn read_ends_of(alloc: Global, graph: &LargeGraph, start: u32, least: u32) -> Re
 }
 
 /// Those from each transaction.
-pub(crate) fn read_ends(alloc: Global, graph: &LargeGraph, least: u32) -> Result<Vec<Groups>, NoMemory>
+pub(crate) fn read_ends(
+    alloc: Global,
+    graph: &LargeGraph,
+    least: u32,
+) -> Result<Vec<Groups>, NoMemory>
     requires { count graph.now ≤ MAX_COUNT }
     ensures { IfOk result (λ ends. AreAllEnds (ReadWeighs graph.now) (count graph.now) least ends.items) }
 {

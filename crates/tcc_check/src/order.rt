@@ -94,7 +94,13 @@ fn is_kept(
 }
 
 /// Whether all reads-from pairs that end at `c` are kept.
-fn keeps_sources(graph: &LargeGraph, level: Level, positions: &[u32], clocks: &[Numbers], c: u32) -> bool
+fn keeps_sources(
+    graph: &LargeGraph,
+    level: Level,
+    positions: &[u32],
+    clocks: &[Numbers],
+    c: u32,
+) -> bool
     requires positions { length positions.now ≡ count graph.now }
     requires clocks { HasClocks level (count graph.now) (length graph.now.sessions) clocks.now }
     requires c { c < count graph.now }

@@ -17,7 +17,11 @@ use tcc_txn::NoMemory;
 const READERS_GROUPED: usize = 4;
 
 /// Who reads a key, each with the source, where the sources have many readers.
-fn readings_at(alloc: Global, graph: &LargeGraph, key_index: u32) -> Result<Option<Groups>, NoMemory>
+fn readings_at(
+    alloc: Global,
+    graph: &LargeGraph,
+    key_index: u32,
+) -> Result<Option<Groups>, NoMemory>
     requires few { count graph.now ≤ MAX_COUNT }
     requires key_index { key_index < length (keys graph.now) }
     ensures { IfOk result (λ found. IfSome found (AreReadingsAt graph.now key_index)) }
@@ -35,7 +39,10 @@ fn readings_at(alloc: Global, graph: &LargeGraph, key_index: u32) -> Result<Opti
 }
 
 /// Those of each key.
-pub(crate) fn readings_of(alloc: Global, graph: &LargeGraph) -> Result<Vec<Option<Groups>>, NoMemory>
+pub(crate) fn readings_of(
+    alloc: Global,
+    graph: &LargeGraph,
+) -> Result<Vec<Option<Groups>>, NoMemory>
     requires { count graph.now ≤ MAX_COUNT }
     ensures { IfOk result (λ readings. AreReadings graph.now readings.items) }
 {

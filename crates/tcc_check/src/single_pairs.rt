@@ -51,7 +51,12 @@ fn writer_stands(graph: &LargeGraph, positions: &[u32], sources: &[u32], b: u32)
 }
 
 /// Whether no source of `c` stands behind another one whose key it writes too.
-fn sources_stand(alloc: Global, graph: &LargeGraph, positions: &[u32], c: u32) -> Result<bool, NoMemory>
+fn sources_stand(
+    alloc: Global,
+    graph: &LargeGraph,
+    positions: &[u32],
+    c: u32,
+) -> Result<bool, NoMemory>
     requires positions { length positions.now ≡ count graph.now }
     requires reader { c < count graph.now }
     ensures { IfOk result (λ stand. IsTrue stand → DoSourcesStand graph.now positions.now c) }
@@ -66,7 +71,13 @@ fn sources_stand(alloc: Global, graph: &LargeGraph, positions: &[u32], c: u32) -
 }
 
 /// Whether none of these writers that stands before `c` in its session stands behind the source.
-fn session_stands(graph: &LargeGraph, positions: &[u32], writers: &[u32], source: u32, c: u32) -> bool
+fn session_stands(
+    graph: &LargeGraph,
+    positions: &[u32],
+    writers: &[u32],
+    source: u32,
+    c: u32,
+) -> bool
     requires positions { KeepsSessions graph.now positions.now }
     requires writers { AreRising graph.now writers.now }
     requires source { source < count graph.now }
