@@ -28,5 +28,5 @@ loop-c-preserved c =
     let parents = c.loop-c.parents.items in
     let n = c.loop-c.c in
     let pushed : c.push-in-loop-c.new.self.items ≡ parents ++ c.previous.result ∷ [] = search rules in
-    rw pushed (one_more c.args.graph.now parents n c.previous.result (omega arith) c.loop-c.invariant.0 c.loop-c.invariant.1.0 c.loop-c.invariant.1.1
+    rw pushed (one_more c.args.graph.now parents n c.previous.result (omega arith) c.loop-c.invariant.0 c.loop-c.invariant.1 c.loop-c.invariant.2
     c.previous.ensures.value)
