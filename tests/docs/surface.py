@@ -22,12 +22,14 @@ SURFACE = TOP / "tests/docs/surface.txt"
 TYPE = re.compile(r"^pub (?:struct|enum|trait|type) (\w+)", re.MULTILINE)
 ENUM = re.compile(r"^pub enum (\w+)[^{]*\{\n(.*?)^\}", re.MULTILINE | re.DOTALL)
 VARIANT = re.compile(r"^    ([A-Z]\w*)", re.MULTILINE)
+DEREF = re.compile(r"^impl Deref for (\w+) \{\n    type Target = (\w+);", re.MULTILINE)
 PASSED_ON = re.compile(r"^pub use [\w:]+::(?:\{([^}]*)\}|(\w+));", re.MULTILINE)
 
 
 @functools.lru_cache(maxsize=None)
 def made_public(crate: str) -> Set[str]:
-    """The calls, types and variants that a library makes public, and what it passes on; `New` of `NewWithin` counts for its calls."""
+    """The calls, types and variants that a library makes public, and what it passes on; `New` of `NewWithin` counts for its
+    calls, and a type has the calls of what it dereferences to."""
     source = TOP / "crates" / crate / "src"
     root = (source / "lib.rt").read_text()
     passed_on = set(re.findall(r"\w+", " ".join(group or name for group, name in PASSED_ON.findall(root))))
@@ -37,6 +39,9 @@ def made_public(crate: str) -> Set[str]:
         names |= {name for name in TYPE.findall(text) if name in passed_on}
         for enum, body in ENUM.findall(text):
             names |= {"%s::%s" % (enum, variant) for variant in VARIANT.findall(body) if enum in passed_on}
+        for small, large in DEREF.findall(text):
+            calls = [name.partition("::") for name in names]
+            names |= {"%s::%s" % (small, call) for owner, _, call in calls if owner == large and small in passed_on}
     return names | {name.replace("Within::", "::") for name in names}
 
 

@@ -26,7 +26,7 @@ impl Labels {
     pub fn of(alloc: Global, graph: &Graph) -> Result<Labels, NoMemory>
         ensures { IfOk result (λ labels. labels ≡ labels_of graph.now) }
     {
-        Labels::of_large(alloc, graph.large())
+        Labels::of_large(alloc, graph)
     }
 
     /// The names of the transactions of a graph within the large limits.

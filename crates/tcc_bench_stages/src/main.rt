@@ -85,7 +85,7 @@ fn search(rt: &(impl Threads + Sync), alloc: Global, graph: &Graph, stage: Stage
         return Some(graph.count());
     }
     if stage == Stage::Order {
-        let ordered = order(alloc, graph.large(), Level::Causal).ok()?;
+        let ordered = order(alloc, graph, Level::Causal).ok()?;
         return u32::try_from(ordered.map_or(0, |numbers| numbers.len())).ok();
     }
     let near = near(rt, alloc, graph, Level::Causal).ok()?;

@@ -2,9 +2,10 @@
 use Rattle.std.specs.Prelude.{ℕ, ◌<◌, ◌≤◌, ◌≡◌, ◌+◌, ◌⊎◌, List, [], ◌∷◌, ◌++◌, length, All, Option, None, Some}
 use Rattle.tcc_reads.specs.History.{History, count}
 use Rattle.tcc_graph.specs.Relations.{IsCausalPair}
-use Rattle.tcc_graph.specs.Walks.{step_from, step_to}
+pub use Rattle.tcc_graph.specs.Walks.{IsStepBelow}
 use Rattle.tcc_graph.specs.Levels.{Judged}
 use Rattle.tcc_graph.specs.Links.{MayContradict, IsLink, cost, link_from, link_to}
+pub use Rattle.tcc_graph.specs.Links.{IsLinkBelow}
 use Rattle.tcc_graph.specs.declared.level.Level.{Level}
 use Rattle.tcc_graph.specs.declared.level.Level.TheVariants.{Causal}
 use Rattle.tcc_graph.specs.declared.step.Step.{Step}
@@ -13,16 +14,6 @@ use Rattle.tcc_graph.specs.declared.link.Link.TheVariants as link
 use Rattle.tcc_cert.specs.declared.version.Version.{Version}
 use Rattle.tcc_cert.specs.declared.certificate.CycleClaim.{CycleClaim}
 use Rattle.tcc_cert.specs.Tables.{entry, lowest, far_entry, HasSize, HasFarSize, IsCapped}
-
--- both ends of a step are numbers below n
-abbrev pub IsStepBelow : ℕ → Step → Type 0
-IsStepBelow n s = (step_from s < n) × (step_to s < n)
-
--- all numbers in a link, its reader and its walk among them, are below n
-abbrev pub IsLinkBelow : ℕ → Link → Type 0
-IsLinkBelow n (link.Session a b) = (a < n) × (b < n)
-IsLinkBelow n (link.Reads a b x) = (a < n) × (b < n)
-IsLinkBelow n (link.Derived b a x c walk) = (b < n) × ((a < n) × ((c < n) × All (IsStepBelow n) walk))
 
 -- the tables and the numbers are those of a history of this size, and no number is above the cost
 pub record HasRightSizes (h : History) (k : CycleClaim) : Type 0 where

@@ -10,6 +10,7 @@ use Rattle.tcc_txn.specs.Names.{name_fault}
 use Rattle.tcc_txn.specs.Bytes.{same, has_no_leading_zero}
 use Rattle.tcc_graph.specs.declared.step.Step.{Step}
 use Rattle.tcc_graph.specs.declared.step.Step.TheVariants as step
+use Rattle.tcc_graph.specs.Links.{link_of}
 use Rattle.tcc_graph.specs.declared.link.Link.{Link}
 use Rattle.tcc_graph.specs.declared.link.Link.TheVariants as link
 use Rattle.tcc_graph.specs.declared.level.Level.{Level}
@@ -132,8 +133,7 @@ with_walk (link.Reads u v key) walk = link.Reads u v key
 with_walk (link.Derived b a key c _) walk = link.Derived b a key c walk
 
 abbrev pub head_of_step : Step → Head
-head_of_step (step.Session u v) = record { link = link.Session u v; steps = 0 }
-head_of_step (step.Reads u v key) = record { link = link.Reads u v key; steps = 0 }
+head_of_step step = record { link = link_of step; steps = 0 }
 
 abbrev pub derived_of : Scale → List ℕ → List ℕ → List ℕ → List ℕ → List ℕ → Result Head CertFaultKind
 derived_of scale b a name c w = do

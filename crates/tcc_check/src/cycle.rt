@@ -1,5 +1,7 @@
 //! The rules on a claim that a cycle is least.
-ghost use Rattle.std.specs.Prelude.{◌↔◌, IsTrue, IfOk};
+ghost use Rattle.std.specs.Prelude.{◌≤◌, ◌↔◌, IsTrue, IfOk};
+ghost use Rattle.tcc_txn.specs.declared.limits.TheConstants.{MAX_COUNT};
+ghost use Rattle.tcc_reads.specs.History.{count};
 ghost use Rattle.tcc_cert.specs.CycleRules.{HasRightSizes};
 ghost use Rattle.tcc_check.specs.Verdicts.{bounds_rules, cycle_rules};
 ghost use Rattle.tcc_check.specs.private.Searches.{IsAnswer};
@@ -11,11 +13,11 @@ use crate::sizes::{are_links_below, has_far_size, has_size, is_capped};
 use crate::verdict::{Rule, Verdict, first_rejected, rejected};
 use std::alloc::Global;
 use tcc_cert::CycleClaim;
-use tcc_graph::Graph;
+use tcc_graph::LargeGraph;
 use tcc_txn::NoMemory;
 
 /// Whether the tables have the size of the history, and no number is out of its range.
-fn has_right_sizes(graph: &Graph, claim: &CycleClaim) -> bool
+fn has_right_sizes(graph: &LargeGraph, claim: &CycleClaim) -> bool
     ensures { IsTrue result ↔ HasRightSizes graph.now claim.now }
 {
     let count = graph.count();
@@ -29,7 +31,12 @@ fn has_right_sizes(graph: &Graph, claim: &CycleClaim) -> bool
 }
 
 /// Judges the tables.
-fn bounds_verdict(alloc: Global, graph: &Graph, claim: &CycleClaim) -> Result<Verdict, NoMemory>
+fn bounds_verdict(
+    alloc: Global,
+    graph: &LargeGraph,
+    claim: &CycleClaim,
+) -> Result<Verdict, NoMemory>
+    requires few { count graph.now ≤ MAX_COUNT }
     requires sizes { HasRightSizes graph.now claim.now }
     ensures { IfOk result (IsAnswer (bounds_rules graph.now claim.now)) }
 {
@@ -43,9 +50,10 @@ fn bounds_verdict(alloc: Global, graph: &Graph, claim: &CycleClaim) -> Result<Ve
 /// Judges a claim that a cycle is least.
 pub(crate) fn cycle_verdict(
     alloc: Global,
-    graph: &Graph,
+    graph: &LargeGraph,
     claim: &CycleClaim,
 ) -> Result<Verdict, NoMemory>
+    requires { count graph.now ≤ MAX_COUNT }
     ensures { IfOk result (IsAnswer (cycle_rules graph.now claim.now)) }
 {
     if !has_right_sizes(graph, claim) {

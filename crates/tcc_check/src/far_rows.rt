@@ -19,7 +19,7 @@ use crate::verdict::{Rule, Verdict, first_of};
 use std::alloc::Global;
 use std::io::Read;
 use tcc_cert::{CertReader, Numbers, Part, Version};
-use tcc_graph::Graph;
+use tcc_graph::LargeGraph;
 
 /// For each rule on costs where it is broken first, in the rows that came.
 #[derive(Clone, Copy)]
@@ -52,7 +52,7 @@ fn short_return(row: &[u32], low: u32, start: u32, least: u32) -> Option<u32>
 /// What is found with one row more.
 fn with_row(
     faults: FarFaults,
-    graph: &Graph,
+    graph: &LargeGraph,
     version: Version,
     near: &NearJudged,
     least: u32,
@@ -94,12 +94,13 @@ fn far_verdict(faults: FarFaults) -> Verdict
 
 /// Judges a table of costs.
 pub(crate) fn far_table(
-    graph: &Graph,
+    graph: &LargeGraph,
     version: Version,
     near: &NearJudged,
     far: &[Numbers],
     least: u32,
 ) -> Verdict
+    requires few { count graph.now ≤ MAX_COUNT }
     requires orderly { IsOrderly graph.now near.now }
     requires size { HasFarSize version (count graph.now) far.now }
     requires capped { IsCapped least far.now }
@@ -117,12 +118,13 @@ pub(crate) fn far_table(
 /// row of it is held at a time.
 pub(crate) fn judge_far<R: Read>(
     alloc: Global,
-    graph: &Graph,
+    graph: &LargeGraph,
     parts: &mut CertReader<R>,
     version: Version,
     near: &NearJudged,
     least: u32,
 ) -> Result<Option<Verdict>, StreamFault>
+    requires few { count graph.now ≤ MAX_COUNT }
     requires orderly { IsOrderly graph.now near.now }
     ensures { (ahead : Parts) → IsAhead R.remaining parts.old ahead
         → Leaves R.remaining ahead parts.new (λ found rest. (table far : List (List ℕ)) → AreLinksOf graph.now least table near.now

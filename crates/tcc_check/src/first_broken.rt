@@ -9,7 +9,7 @@ ghost use Rattle.tcc_check.specs.private.Weights.{AreByWeight};
 use crate::groups::Groups;
 use crate::links_from::UNLINKED;
 use crate::verdict::first_of;
-use tcc_graph::Graph;
+use tcc_graph::LargeGraph;
 
 /// The greatest value of a row.
 fn greatest_of(row: &[u32]) -> u32
@@ -155,7 +155,7 @@ pub(crate) fn first_long_step(
 }
 
 /// The first end of a session pair from the start for which the row has more than a step.
-fn long_pair(graph: &Graph, row: &[u32], low: u32, start: u32) -> Option<u32>
+fn long_pair(graph: &LargeGraph, row: &[u32], low: u32, start: u32) -> Option<u32>
     requires long { low + length row.now ≡ count graph.now }
     requires low { low ≤ start }
     requires start { start < count graph.now }
@@ -172,7 +172,7 @@ fn long_pair(graph: &Graph, row: &[u32], low: u32, start: u32) -> Option<u32>
 
 /// The first end to which a link from the start, a session pair or one of the others, takes less than the row has.
 pub(crate) fn long_link(
-    graph: &Graph,
+    graph: &LargeGraph,
     others: &Groups,
     row: &[u32],
     low: u32,

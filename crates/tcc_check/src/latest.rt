@@ -12,14 +12,14 @@ use crate::order::clock_gap;
 use crate::single_pairs::are_reads_kept_by_pairs;
 use std::alloc::Global;
 use tcc_cert::Numbers;
-use tcc_graph::{Graph, Level};
+use tcc_graph::{LargeGraph, Level};
 use tcc_txn::NoMemory;
 
 /// To look for the last writer of a session takes about as long as to ask so many writers.
 const WRITERS_ASKED: usize = 16;
 
 /// Whether a transaction is of an earlier session, or of this one and no later than the place, or `init`.
-fn is_within(graph: &Graph, session: u32, place: u32, number: u32) -> bool
+fn is_within(graph: &LargeGraph, session: u32, place: u32, number: u32) -> bool
     ensures { result ≡ is_within graph.now session place number }
 {
     match graph.at(number) {
@@ -29,7 +29,7 @@ fn is_within(graph: &Graph, session: u32, place: u32, number: u32) -> bool
 }
 
 /// How many of these come no later than the place of the session. They are the first ones.
-fn count_within(graph: &Graph, writers: &[u32], session: u32, place: u32) -> usize
+fn count_within(graph: &LargeGraph, writers: &[u32], session: u32, place: u32) -> usize
     requires numbered { IsBySession graph.now.entries }
     requires writers { AreRising graph.now writers.now }
     ensures { IsCountWithin graph.now writers.now session place result }
@@ -38,7 +38,7 @@ fn count_within(graph: &Graph, writers: &[u32], session: u32, place: u32) -> usi
 }
 
 /// The last of these that comes no later than the place of the session.
-fn last_within(graph: &Graph, writers: &[u32], session: u32, place: u32) -> Option<u32>
+fn last_within(graph: &LargeGraph, writers: &[u32], session: u32, place: u32) -> Option<u32>
     requires numbered { IsBySession graph.now.entries }
     requires writers { AreRising graph.now writers.now }
     ensures { IsLastWithin graph.now writers.now session place result }
@@ -53,7 +53,7 @@ fn last_within(graph: &Graph, writers: &[u32], session: u32, place: u32) -> Opti
 /// Whether the last of these that comes no later than the place of the session, if it is of the session, doesn't stand
 /// behind the source.
 pub(crate) fn stands_before(
-    graph: &Graph,
+    graph: &LargeGraph,
     positions: &[u32],
     writers: &[u32],
     session: u32,
@@ -79,7 +79,7 @@ pub(crate) fn stands_before(
 
 /// Whether none of these that the clock reaches stands behind the source.
 fn stand_before(
-    graph: &Graph,
+    graph: &LargeGraph,
     positions: &[u32],
     clock: &[u32],
     writers: &[u32],
@@ -100,7 +100,7 @@ fn stand_before(
 }
 
 /// Whether, by the clock of `c`, `b` may reach it.
-fn may_reach(graph: &Graph, clocks: &[Numbers], b: u32, c: u32) -> bool
+fn may_reach(graph: &LargeGraph, clocks: &[Numbers], b: u32, c: u32) -> bool
     requires clocks { HasClocks Causal (count graph.now) (length graph.now.sessions) clocks.now }
     requires b { b < count graph.now }
     requires c { c < count graph.now }
@@ -111,7 +111,7 @@ fn may_reach(graph: &Graph, clocks: &[Numbers], b: u32, c: u32) -> bool
 
 /// Whether none of these that may reach the source's reader stands behind the source. Each of them is asked.
 fn reached_before(
-    graph: &Graph,
+    graph: &LargeGraph,
     positions: &[u32],
     clocks: &[Numbers],
     writers: &[u32],
@@ -140,7 +140,7 @@ fn reached_before(
 /// Whether the axiom is kept by a read of `c` at a key: no other writer of the key that the clock of `c`
 /// reaches stands behind the source. Each is asked, or, where they are many, the last of each session.
 fn is_read_kept(
-    graph: &Graph,
+    graph: &LargeGraph,
     positions: &[u32],
     clocks: &[Numbers],
     key: u32,
@@ -164,7 +164,7 @@ fn is_read_kept(
 }
 
 /// Whether the axiom is kept by all reads of `c`, as its clock tells.
-fn are_reads_kept(graph: &Graph, positions: &[u32], clocks: &[Numbers], c: u32) -> bool
+fn are_reads_kept(graph: &LargeGraph, positions: &[u32], clocks: &[Numbers], c: u32) -> bool
     requires order { KeepsPairsBy graph.now Causal positions.now clocks.now }
     requires owners { AreOwned graph.now }
     requires reader { c < count graph.now }
@@ -179,7 +179,7 @@ fn are_reads_kept(graph: &Graph, positions: &[u32], clocks: &[Numbers], c: u32) 
 }
 
 /// Whether a transaction is of one of the sessions.
-fn is_owned(graph: &Graph, number: u32) -> bool
+fn is_owned(graph: &LargeGraph, number: u32) -> bool
     ensures { IsTrue result → 0 < number → number < count graph.now → owner graph.now number < length graph.now.sessions }
 {
     match graph.at(number) {
@@ -189,7 +189,7 @@ fn is_owned(graph: &Graph, number: u32) -> bool
 }
 
 /// Whether each but `init` is.
-fn are_owned(graph: &Graph) -> bool
+fn are_owned(graph: &LargeGraph) -> bool
     ensures { IsTrue result → AreOwned graph.now }
 {
     for number in 1..graph.count() {
@@ -203,7 +203,7 @@ fn are_owned(graph: &Graph) -> bool
 /// Whether the axiom is kept by all reads of `c`, as its clock tells, or, at `Atomic`, the pairs that lead to it.
 fn is_reader_right(
     alloc: Global,
-    graph: &Graph,
+    graph: &LargeGraph,
     level: Level,
     positions: &[u32],
     clocks: &[Numbers],
@@ -223,7 +223,7 @@ fn is_reader_right(
 /// Whether the axiom is kept, by what is asked of the last writers. Where it isn't, something is broken by the axiom.
 pub(crate) fn keeps_axiom(
     alloc: Global,
-    graph: &Graph,
+    graph: &LargeGraph,
     level: Level,
     positions: &[u32],
     clocks: &[Numbers],

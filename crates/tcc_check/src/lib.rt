@@ -16,7 +16,6 @@ mod near_rows;
 mod order;
 mod pairs;
 mod positions;
-mod previous;
 mod readings;
 mod runs;
 mod single_pairs;

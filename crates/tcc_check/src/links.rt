@@ -16,12 +16,11 @@ ghost use Rattle.tcc_check.specs.private.Searches.{IsAnswer};
 
 use crate::StreamFault;
 use crate::coming::next_part;
-use crate::sizes::is_link_below;
 use crate::verdict::{Rule, Verdict, rejected};
 use std::alloc::Global;
 use std::io::Read;
 use tcc_cert::{CertReader, CycleClaim, CycleHead, Part};
-use tcc_graph::{Graph, LargeGraph, Level, Link};
+use tcc_graph::{LargeGraph, Level, Link};
 use tcc_txn::NoMemory;
 
 /// What the links that came so far show.
@@ -175,11 +174,11 @@ fn wrong_verdict(wrong: Option<u32>) -> Verdict
 }
 
 /// Judges the links of a claim.
-pub(crate) fn links_verdict(graph: &Graph, claim: &CycleClaim) -> Result<Verdict, NoMemory>
+pub(crate) fn links_verdict(graph: &LargeGraph, claim: &CycleClaim) -> Result<Verdict, NoMemory>
     ensures { IfOk result (IsAnswer (links_rules graph.now claim.now)) }
 {
     let links = claim.links.as_slice();
-    let wrong = first_wrong_link(graph.large(), claim.level, claim.least, links)?;
+    let wrong = first_wrong_link(graph, claim.level, claim.least, links)?;
     Ok(wrong_verdict(wrong))
 }
 
@@ -187,7 +186,7 @@ pub(crate) fn links_verdict(graph: &Graph, claim: &CycleClaim) -> Result<Verdict
 /// held at a time.
 pub(crate) fn judge_links<R: Read>(
     alloc: Global,
-    graph: &Graph,
+    graph: &LargeGraph,
     parts: &mut CertReader<R>,
     head: CycleHead,
 ) -> Result<Option<Verdict>, StreamFault>
@@ -197,16 +196,15 @@ pub(crate) fn judge_links<R: Read>(
         → MatchOption found (All (IsLinkBelow (count graph.now)) links → ⊥)
         (AreLinksJudged graph.now head links rest tables)) result }
 {
-    let large = graph.large();
     let mut seen = no_links(head.least);
     for before in 0..head.links {
         let Part::Link(link) = next_part(alloc, parts)? else {
             return Ok(None);
         };
-        if !is_link_below(&link, graph.count()) {
+        if !link.is_below(graph.count()) {
             return Ok(None);
         }
-        seen = with_link(seen, large, head.level, before as usize + 1, &link);
+        seen = with_link(seen, graph, head.level, before as usize + 1, &link);
     }
     let wrong = seen_wrong(seen)?;
     Ok(Some(wrong_verdict(wrong)))

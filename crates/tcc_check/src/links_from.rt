@@ -13,7 +13,7 @@ ghost use Rattle.tcc_check.specs.private.WeightsFrom.{InitContradictsBy, MarkWei
 use crate::groups::Groups;
 use crate::readings::{least_of, lower_key};
 use std::alloc::Global;
-use tcc_graph::Graph;
+use tcc_graph::LargeGraph;
 use tcc_txn::NoMemory;
 
 /// Stands where there is no link; no number of a table is above it.
@@ -30,14 +30,14 @@ fn mark(weights: &mut [u32], readers: &[u32])
 }
 
 /// A weight for each transaction, where nothing is linked.
-fn bare_weights(alloc: Global, graph: &Graph) -> Result<Vec<u32>, NoMemory>
+fn bare_weights(alloc: Global, graph: &LargeGraph) -> Result<Vec<u32>, NoMemory>
     ensures { IfOk result (λ weights. weights.items ≡ replicate (count graph.now) unlinked) }
 {
     Ok(vec![in alloc; UNLINKED; graph.count() as usize]?)
 }
 
 /// The weights of reads-from pairs from `start`, by their ends.
-fn read_weights(alloc: Global, graph: &Graph, start: u32) -> Result<Vec<u32>, NoMemory>
+fn read_weights(alloc: Global, graph: &LargeGraph, start: u32) -> Result<Vec<u32>, NoMemory>
     requires { start < count graph.now }
     ensures long { IfOk result (λ weights. length weights.items ≡ count graph.now) }
     ensures least { IfOk result (λ weights. IsLeastRow (ReadWeighs graph.now start) weights.items) }
@@ -59,7 +59,11 @@ fn mark_between(weights: &mut [u32], first: u32, end: u32)
 }
 
 /// The weights of causal pairs from `start`, by their ends.
-pub(crate) fn pair_weights(alloc: Global, graph: &Graph, start: u32) -> Result<Vec<u32>, NoMemory>
+pub(crate) fn pair_weights(
+    alloc: Global,
+    graph: &LargeGraph,
+    start: u32,
+) -> Result<Vec<u32>, NoMemory>
     requires { start < count graph.now }
     ensures long { IfOk result (λ weights. length weights.items ≡ count graph.now) }
     ensures none { IfOk result (λ weights. (c : ℕ) → c < count graph.now → (slice_index weights.items c ≡ 0) ↔ IsCausalPair graph.now start c) }
@@ -73,7 +77,7 @@ pub(crate) fn pair_weights(alloc: Global, graph: &Graph, start: u32) -> Result<V
 /// Lowers the weights of the sources of these keys, but that of `start`, to what the row has for who reads them there.
 fn lower_keys(
     weights: &mut [u32],
-    graph: &Graph,
+    graph: &LargeGraph,
     readings: &[Option<Groups>],
     written: &[u32],
     row: &[u32],
@@ -105,7 +109,7 @@ fn lower_source(weights: &mut [u32], source: u32, readers: &[u32], row: &[u32])
 }
 
 /// Does so for each source but `init`, which writes every key.
-fn lower_sources(weights: &mut [u32], graph: &Graph, row: &[u32])
+fn lower_sources(weights: &mut [u32], graph: &LargeGraph, row: &[u32])
     requires weights { length weights.old ≡ count graph.now }
     requires row { length row.now ≡ count graph.now }
     ensures { IsLowered (InitContradictsBy graph.now row.now) weights.old weights.new }
@@ -118,7 +122,7 @@ fn lower_sources(weights: &mut [u32], graph: &Graph, row: &[u32])
 /// Lowers the weights to what the row has for the readers that `start` may contradict.
 fn lower_contradicted(
     weights: &mut [u32],
-    graph: &Graph,
+    graph: &LargeGraph,
     readings: &[Option<Groups>],
     row: &[u32],
     start: u32,
@@ -140,7 +144,7 @@ fn lower_contradicted(
 /// The weights of what `start` contradicts, by its row.
 pub(crate) fn contradicted_weights(
     alloc: Global,
-    graph: &Graph,
+    graph: &LargeGraph,
     readings: &[Option<Groups>],
     row: &[u32],
     start: u32,
@@ -174,7 +178,7 @@ fn light_ends(alloc: Global, weights: &[u32], least: u32) -> Result<Groups, NoMe
 /// The links from `start`, by its row of lengths, that take less than `least`.
 pub(crate) fn link_ends(
     alloc: Global,
-    graph: &Graph,
+    graph: &LargeGraph,
     readings: &[Option<Groups>],
     row: &[u32],
     start: u32,
@@ -193,7 +197,12 @@ pub(crate) fn link_ends(
 }
 
 /// The reads-from pairs from `start`, where a single step is less than `least`.
-fn read_ends_of(alloc: Global, graph: &Graph, start: u32, least: u32) -> Result<Groups, NoMemory>
+fn read_ends_of(
+    alloc: Global,
+    graph: &LargeGraph,
+    start: u32,
+    least: u32,
+) -> Result<Groups, NoMemory>
     requires few { count graph.now ≤ MAX_COUNT }
     requires start { start < count graph.now }
     ensures { IfOk result (AreEnds (ReadWeighs graph.now start) (count graph.now) least) }
@@ -204,7 +213,12 @@ fn read_ends_of(alloc: Global, graph: &Graph, start: u32, least: u32) -> Result<
 }
 
 /// Those from each transaction.
-pub(crate) fn read_ends(alloc: Global, graph: &Graph, least: u32) -> Result<Vec<Groups>, NoMemory>
+pub(crate) fn read_ends(
+    alloc: Global,
+    graph: &LargeGraph,
+    least: u32,
+) -> Result<Vec<Groups>, NoMemory>
+    requires { count graph.now ≤ MAX_COUNT }
     ensures { IfOk result (λ ends. AreAllEnds (ReadWeighs graph.now) (count graph.now) least ends.items) }
 {
     let mut ends = Vec::new(alloc);

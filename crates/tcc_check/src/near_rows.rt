@@ -22,7 +22,7 @@ use crate::verdict::{Rule, Verdict, first_of};
 use std::alloc::Global;
 use std::io::Read;
 use tcc_cert::{CertReader, Numbers, Part};
-use tcc_graph::{Graph, Level};
+use tcc_graph::{LargeGraph, Level};
 use tcc_txn::NoMemory;
 
 /// For each rule on lengths where it is broken first, in the rows that came.
@@ -50,7 +50,7 @@ pub(crate) struct NearJudged {
 
 /// What is found with one row more. At `Atomic` no walk has a second step, so the rule on these isn't asked.
 fn with_row(
-    graph: &Graph,
+    graph: &LargeGraph,
     level: Level,
     pairs: &Pairs,
     least: u32,
@@ -81,7 +81,7 @@ fn with_row(
 /// Takes one row more: judges it, and keeps the links that it tells of.
 fn take_row(
     alloc: Global,
-    graph: &Graph,
+    graph: &LargeGraph,
     level: Level,
     pairs: &Pairs,
     least: u32,
@@ -147,11 +147,12 @@ fn judged(pairs: Pairs, rows: NearRows) -> NearJudged
 /// Judges a table of lengths.
 pub(crate) fn near_table(
     alloc: Global,
-    graph: &Graph,
+    graph: &LargeGraph,
     level: Level,
     near: &[Numbers],
     least: u32,
 ) -> Result<NearJudged, NoMemory>
+    requires few { count graph.now ≤ MAX_COUNT }
     requires size { HasSize (count graph.now) (count graph.now) near.now }
     requires capped { IsCapped least near.now }
     ensures judged { IfOk result (IsNearJudged graph.now level least near.now) }
@@ -170,11 +171,12 @@ pub(crate) fn near_table(
 /// row of it is held at a time.
 pub(crate) fn judge_near<R: Read>(
     alloc: Global,
-    graph: &Graph,
+    graph: &LargeGraph,
     parts: &mut CertReader<R>,
     level: Level,
     least: u32,
 ) -> Result<Option<NearJudged>, StreamFault>
+    requires few { count graph.now ≤ MAX_COUNT }
     ensures orderly { IfOk result (λ found. IfSome found (IsOrderly graph.now)) }
     ensures parts { (ahead : Parts) → IsAhead R.remaining parts.old ahead
         → Leaves R.remaining ahead parts.new (λ found rest. (near far : List (List ℕ)) → length near ≡ count graph.now

@@ -16,13 +16,12 @@ use crate::groups::Groups;
 use crate::latest::keeps_axiom;
 use crate::links_from::{contradicted_weights, pair_weights};
 use crate::positions::positions_of;
-use crate::previous::previous;
 use crate::readings::readings_of;
 use crate::sizes::has_size;
 use crate::verdict::{Rule, Verdict, rejected};
 use std::alloc::Global;
 use tcc_cert::{Numbers, OrderClaim};
-use tcc_graph::{Graph, Level};
+use tcc_graph::{LargeGraph, Level};
 use tcc_txn::NoMemory;
 
 /// How far a session got by a clock.
@@ -35,7 +34,7 @@ fn clock_at(clocks: &[Numbers], number: u32, session: u32) -> u32
 }
 
 /// How much the clock of `c` lacks to have `b`: nothing where, by the clock, `b` may reach `c`.
-pub(crate) fn clock_gap(graph: &Graph, clocks: &[Numbers], b: u32, c: u32) -> u32
+pub(crate) fn clock_gap(graph: &LargeGraph, clocks: &[Numbers], b: u32, c: u32) -> u32
     requires b { b < count graph.now }
     requires c { c < length clocks.now }
     ensures { (result ≡ 0) ↔ MayReach graph.now Causal clocks.now b c }
@@ -60,7 +59,7 @@ fn is_clock_below(one: &[u32], other: &[u32]) -> bool
 }
 
 /// Whether the clock of `c` has that of `b` and `b` itself.
-fn is_in_clock(graph: &Graph, clocks: &[Numbers], b: u32, c: u32) -> bool
+fn is_in_clock(graph: &LargeGraph, clocks: &[Numbers], b: u32, c: u32) -> bool
     requires clocks { HasSize (count graph.now) (length graph.now.sessions) clocks.now }
     requires b { b < count graph.now }
     requires c { c < count graph.now }
@@ -72,7 +71,7 @@ fn is_in_clock(graph: &Graph, clocks: &[Numbers], b: u32, c: u32) -> bool
 
 /// Whether `b` stands before `c`, and the clock of `c`, where there are clocks, has that of `b` and `b` itself.
 fn is_kept(
-    graph: &Graph,
+    graph: &LargeGraph,
     level: Level,
     positions: &[u32],
     clocks: &[Numbers],
@@ -95,7 +94,13 @@ fn is_kept(
 }
 
 /// Whether all reads-from pairs that end at `c` are kept.
-fn keeps_sources(graph: &Graph, level: Level, positions: &[u32], clocks: &[Numbers], c: u32) -> bool
+fn keeps_sources(
+    graph: &LargeGraph,
+    level: Level,
+    positions: &[u32],
+    clocks: &[Numbers],
+    c: u32,
+) -> bool
     requires positions { length positions.now ≡ count graph.now }
     requires clocks { HasClocks level (count graph.now) (length graph.now.sessions) clocks.now }
     requires c { c < count graph.now }
@@ -112,7 +117,7 @@ fn keeps_sources(graph: &Graph, level: Level, positions: &[u32], clocks: &[Numbe
 /// Whether all causal pairs that end at `c` are kept, where those that end before it are: of session order it is enough
 /// to ask of the last transaction before `c`.
 fn keeps_pairs_to(
-    graph: &Graph,
+    graph: &LargeGraph,
     level: Level,
     positions: &[u32],
     clocks: &[Numbers],
@@ -125,14 +130,14 @@ fn keeps_pairs_to(
     requires earlier { (b : ℕ) (end : ℕ) → end < c → IsCausalPair graph.now b end → IsKept graph.now level positions.now clocks.now b end }
     ensures { IsTrue result ↔ ((b : ℕ) → IsCausalPair graph.now b c → IsKept graph.now level positions.now clocks.now b c) }
 {
-    if 0 < c && !is_kept(graph, level, positions, clocks, previous(graph, c), c) {
+    if 0 < c && !is_kept(graph, level, positions, clocks, graph.previous(c), c) {
         return false;
     }
     keeps_sources(graph, level, positions, clocks, c)
 }
 
 /// Whether all causal pairs are kept.
-fn keeps_pairs(graph: &Graph, level: Level, positions: &[u32], clocks: &[Numbers]) -> bool
+fn keeps_pairs(graph: &LargeGraph, level: Level, positions: &[u32], clocks: &[Numbers]) -> bool
     requires numbered { IsBySession graph.now.entries }
     requires positions { length positions.now ≡ count graph.now }
     requires clocks { HasClocks level (count graph.now) (length graph.now.sessions) clocks.now }
@@ -149,7 +154,7 @@ fn keeps_pairs(graph: &Graph, level: Level, positions: &[u32], clocks: &[Numbers
 /// How much the clock of each transaction lacks to have `b`.
 fn clock_gaps(
     alloc: Global,
-    graph: &Graph,
+    graph: &LargeGraph,
     clocks: &[Numbers],
     b: u32,
 ) -> Result<Vec<u32>, NoMemory>
@@ -169,7 +174,7 @@ fn clock_gaps(
 /// nothing lacks for causal pairs alone.
 fn gaps(
     alloc: Global,
-    graph: &Graph,
+    graph: &LargeGraph,
     level: Level,
     clocks: &[Numbers],
     b: u32,
@@ -203,7 +208,7 @@ fn first_behind(positions: &[u32], weights: &[u32], b: u32) -> Option<u32>
 /// The first transaction before which the axiom wants `b`, which does not stand there.
 fn broken_by(
     alloc: Global,
-    graph: &Graph,
+    graph: &LargeGraph,
     claim: &OrderClaim,
     readings: &[Option<Groups>],
     positions: &[u32],
@@ -224,7 +229,7 @@ fn broken_by(
 /// Where the axiom is broken first.
 fn broken_axiom(
     alloc: Global,
-    graph: &Graph,
+    graph: &LargeGraph,
     claim: &OrderClaim,
     positions: &[u32],
 ) -> Result<Option<(u32, u32)>, NoMemory>
@@ -254,9 +259,7 @@ fn has_clocks(level: Level, clocks: &[Numbers], count: usize, sessions: usize) -
 }
 
 /// Whether the order, the number of sessions and the clocks are those of the history.
-fn has_order_sizes(graph: &Graph, claim: &OrderClaim) -> bool
-    ensures few { count graph.now ≤ MAX_COUNT }
-    ensures few_sessions { length graph.now.sessions ≤ MAX_SESSIONS }
+fn has_order_sizes(graph: &LargeGraph, claim: &OrderClaim) -> bool
     ensures numbered { IsBySession graph.now.entries }
     ensures sizes { IsTrue result ↔ HasOrderSizes graph.now claim.now }
 {
@@ -270,7 +273,7 @@ fn has_order_sizes(graph: &Graph, claim: &OrderClaim) -> bool
 /// The position of each number, none where a number is there twice or a causal pair is not kept.
 fn kept_positions(
     alloc: Global,
-    graph: &Graph,
+    graph: &LargeGraph,
     claim: &OrderClaim,
 ) -> Result<Option<Vec<u32>>, NoMemory>
     requires numbered { IsBySession graph.now.entries }
@@ -291,9 +294,11 @@ fn kept_positions(
 /// Judges a claim that a list is a commit order.
 pub(crate) fn order_verdict(
     alloc: Global,
-    graph: &Graph,
+    graph: &LargeGraph,
     claim: &OrderClaim,
 ) -> Result<Verdict, NoMemory>
+    requires few { count graph.now ≤ MAX_COUNT }
+    requires few_sessions { length graph.now.sessions ≤ MAX_SESSIONS }
     ensures { IfOk result (IsAnswer (order_rules graph.now claim.now)) }
 {
     if !has_order_sizes(graph, claim) {

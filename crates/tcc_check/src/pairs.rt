@@ -1,5 +1,7 @@
 //! What is known of the causal pairs of a history before a table comes.
-ghost use Rattle.std.specs.Prelude.{IfOk};
+ghost use Rattle.std.specs.Prelude.{◌≤◌, IfOk};
+ghost use Rattle.tcc_txn.specs.declared.limits.TheConstants.{MAX_COUNT};
+ghost use Rattle.tcc_reads.specs.History.{count};
 ghost use Rattle.tcc_check.specs.private.Pairs.{ArePairs};
 
 use crate::groups::Groups;
@@ -7,7 +9,7 @@ use crate::links_from::read_ends;
 use crate::readings::readings_of;
 use crate::runs::run_begins;
 use std::alloc::Global;
-use tcc_graph::Graph;
+use tcc_graph::LargeGraph;
 use tcc_txn::NoMemory;
 
 /// Where the runs of sessions begin, the reads-from pairs from each transaction, and who reads each key.
@@ -19,12 +21,12 @@ pub(crate) struct Pairs {
 }
 
 /// Those of a history, where costs below `least` are asked of.
-pub(crate) fn pairs_of(alloc: Global, graph: &Graph, least: u32) -> Result<Pairs, NoMemory>
+pub(crate) fn pairs_of(alloc: Global, graph: &LargeGraph, least: u32) -> Result<Pairs, NoMemory>
+    requires { count graph.now ≤ MAX_COUNT }
     ensures { IfOk result (ArePairs graph.now least) }
 {
-    // the transactions are numbered by session, and few
+    // the transactions are numbered by session
     let _sessions = graph.sessions();
-    let _count = graph.count();
     let begins = run_begins(alloc, graph)?;
     let reads = read_ends(alloc, graph, least)?;
     let readings = readings_of(alloc, graph)?;

@@ -10,14 +10,18 @@ ghost use Rattle.tcc_check.specs.private.Weights.{IsLowered, unlinked};
 use crate::groups::Groups;
 use crate::links_from::UNLINKED;
 use std::alloc::Global;
-use tcc_graph::Graph;
+use tcc_graph::LargeGraph;
 use tcc_txn::NoMemory;
 
 /// A source that has fewer readers is looked up for each of them.
 const READERS_GROUPED: usize = 4;
 
 /// Who reads a key, each with the source, where the sources have many readers.
-fn readings_at(alloc: Global, graph: &Graph, key_index: u32) -> Result<Option<Groups>, NoMemory>
+fn readings_at(
+    alloc: Global,
+    graph: &LargeGraph,
+    key_index: u32,
+) -> Result<Option<Groups>, NoMemory>
     requires few { count graph.now ≤ MAX_COUNT }
     requires key_index { key_index < length (keys graph.now) }
     ensures { IfOk result (λ found. IfSome found (AreReadingsAt graph.now key_index)) }
@@ -35,7 +39,10 @@ fn readings_at(alloc: Global, graph: &Graph, key_index: u32) -> Result<Option<Gr
 }
 
 /// Those of each key.
-pub(crate) fn readings_of(alloc: Global, graph: &Graph) -> Result<Vec<Option<Groups>>, NoMemory>
+pub(crate) fn readings_of(
+    alloc: Global,
+    graph: &LargeGraph,
+) -> Result<Vec<Option<Groups>>, NoMemory>
     requires { count graph.now ≤ MAX_COUNT }
     ensures { IfOk result (λ readings. AreReadings graph.now readings.items) }
 {
@@ -115,7 +122,7 @@ fn lower_pairs(weights: &mut [u32], sources: &[u32], readers: &[u32], row: &[u32
 /// there.
 pub(crate) fn lower_key(
     weights: &mut [u32],
-    graph: &Graph,
+    graph: &LargeGraph,
     readings: &Option<Groups>,
     key_index: u32,
     row: &[u32],

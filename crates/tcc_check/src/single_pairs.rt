@@ -9,7 +9,7 @@ ghost use Rattle.tcc_check.specs.private.SinglePairs.{AreSourcePositions, DoSess
 
 use crate::latest::stands_before;
 use std::alloc::Global;
-use tcc_graph::Graph;
+use tcc_graph::LargeGraph;
 use tcc_txn::NoMemory;
 
 /// Stands for a key that is not read. No position in an order is above it.
@@ -18,7 +18,7 @@ const UNREAD: u32 = u32::MAX;
 /// For each key the position in the order of whom `c` reads it from, or `UNREAD`.
 fn source_positions(
     alloc: Global,
-    graph: &Graph,
+    graph: &LargeGraph,
     positions: &[u32],
     c: u32,
 ) -> Result<Vec<u32>, NoMemory>
@@ -36,7 +36,7 @@ fn source_positions(
 }
 
 /// Whether `b` stands behind none of these sources whose key it writes too.
-fn writer_stands(graph: &Graph, positions: &[u32], sources: &[u32], b: u32) -> bool
+fn writer_stands(graph: &LargeGraph, positions: &[u32], sources: &[u32], b: u32) -> bool
     requires positions { length positions.now ≡ count graph.now }
     requires sources { length sources.now ≡ length (keys graph.now) }
     requires writer { b < count graph.now }
@@ -51,7 +51,12 @@ fn writer_stands(graph: &Graph, positions: &[u32], sources: &[u32], b: u32) -> b
 }
 
 /// Whether no source of `c` stands behind another one whose key it writes too.
-fn sources_stand(alloc: Global, graph: &Graph, positions: &[u32], c: u32) -> Result<bool, NoMemory>
+fn sources_stand(
+    alloc: Global,
+    graph: &LargeGraph,
+    positions: &[u32],
+    c: u32,
+) -> Result<bool, NoMemory>
     requires positions { length positions.now ≡ count graph.now }
     requires reader { c < count graph.now }
     ensures { IfOk result (λ stand. IsTrue stand → DoSourcesStand graph.now positions.now c) }
@@ -66,7 +71,13 @@ fn sources_stand(alloc: Global, graph: &Graph, positions: &[u32], c: u32) -> Res
 }
 
 /// Whether none of these writers that stands before `c` in its session stands behind the source.
-fn session_stands(graph: &Graph, positions: &[u32], writers: &[u32], source: u32, c: u32) -> bool
+fn session_stands(
+    graph: &LargeGraph,
+    positions: &[u32],
+    writers: &[u32],
+    source: u32,
+    c: u32,
+) -> bool
     requires positions { KeepsSessions graph.now positions.now }
     requires writers { AreRising graph.now writers.now }
     requires source { source < count graph.now }
@@ -82,7 +93,7 @@ fn session_stands(graph: &Graph, positions: &[u32], writers: &[u32], source: u32
 }
 
 /// Whether none of its session stands behind what `c` reads, at a key that it writes too.
-fn sessions_stand(graph: &Graph, positions: &[u32], c: u32) -> bool
+fn sessions_stand(graph: &LargeGraph, positions: &[u32], c: u32) -> bool
     requires positions { KeepsSessions graph.now positions.now }
     requires reader { c < count graph.now }
     ensures { IsTrue result → DoSessionsStand graph.now positions.now c }
@@ -98,7 +109,7 @@ fn sessions_stand(graph: &Graph, positions: &[u32], c: u32) -> bool
 /// Whether the axiom is kept by all reads of `c`.
 pub(crate) fn are_reads_kept_by_pairs(
     alloc: Global,
-    graph: &Graph,
+    graph: &LargeGraph,
     positions: &[u32],
     c: u32,
 ) -> Result<bool, NoMemory>

@@ -1,10 +1,10 @@
 //! The rule on sizes and ranges.
 ghost use Rattle.std.specs.Prelude.{◌≡◌, ◌↔◌, ◌≤◌, All, IsTrue, length};
 ghost use Rattle.tcc_cert.specs.Tables.{lowest, HasSize, HasFarSize, IsCapped};
-ghost use Rattle.tcc_cert.specs.CycleRules.{IsStepBelow, IsLinkBelow};
+ghost use Rattle.tcc_cert.specs.CycleRules.{IsLinkBelow};
 
 use tcc_cert::{Numbers, Version};
-use tcc_graph::{Link, Step};
+use tcc_graph::Link;
 
 /// Whether a table has so many rows, each with so many numbers.
 pub(crate) fn has_size(table: &[Numbers], rows: usize, columns: usize) -> bool
@@ -61,48 +61,9 @@ pub(crate) fn is_capped(table: &[Numbers], most: u32) -> bool
     table.iter().all(|row| is_row_capped(row.as_slice(), most))
 }
 
-/// Whether both ends of a step are below the count.
-fn is_step_below(step: &Step, count: u32) -> bool
-    ensures { IsTrue result ↔ IsStepBelow count step.now }
-{
-    match step {
-        Step::Session { from, to } => *from < count && *to < count,
-        Step::Reads { from, to, .. } => *from < count && *to < count,
-    }
-}
-
-/// Whether both ends of each step are below the count.
-fn are_steps_below(steps: &[Step], count: u32) -> bool
-    ensures { IsTrue result ↔ All (IsStepBelow count) steps.now }
-{
-    steps.iter().all(|step| is_step_below(step, count))
-}
-
-/// Whether all numbers in a link are below the count.
-pub(crate) fn is_link_below(link: &Link, count: u32) -> bool
-    ensures { IsTrue result ↔ IsLinkBelow count link.now }
-{
-    match link {
-        Link::Session { from, to } => *from < count && *to < count,
-        Link::Reads { from, to, .. } => *from < count && *to < count,
-        Link::Derived {
-            from,
-            to,
-            reader,
-            walk,
-            ..
-        } => {
-            *from < count
-                && *to < count
-                && *reader < count
-                && are_steps_below(walk.as_slice(), count)
-        }
-    }
-}
-
 /// Whether all numbers in links are below the count.
 pub fn are_links_below(links: &[Link], count: u32) -> bool
     ensures { IsTrue result ↔ All (IsLinkBelow count) links.now }
 {
-    links.iter().all(|link| is_link_below(link, count))
+    links.iter().all(|link| link.is_below(count))
 }

@@ -1,5 +1,7 @@
 //! The judgement of a certificate as its text comes.
-ghost use Rattle.std.specs.Prelude.{◌≡◌, ◌++◌, IfSome, List, MatchOption, false, true, length, map, ℕ};
+ghost use Rattle.std.specs.Prelude.{◌≡◌, ◌≤◌, ◌++◌, IfSome, List, MatchOption, false, true, length, map, ℕ};
+ghost use Rattle.tcc_txn.specs.declared.limits.TheConstants.{MAX_COUNT, MAX_SESSIONS};
+ghost use Rattle.tcc_reads.specs.History.{count};
 ghost use Rattle.tcc_cert.specs.Ahead.{IsAhead, is_new};
 ghost use Rattle.tcc_cert.specs.CycleRules.{HasRightSizes};
 ghost use Rattle.tcc_cert.specs.Parts.{Parts, parts_read, with_tables};
@@ -19,16 +21,17 @@ use crate::{Claim, Judgement, StreamFault, Verdict};
 use std::alloc::Global;
 use std::io::Read;
 use tcc_cert::{CertReader, CycleHead, OrderHead, Part};
-use tcc_graph::Graph;
+use tcc_graph::{Graph, LargeGraph};
 
 /// What the rules behind that on sizes say of a claim that a cycle is least, whose links and tables come; none where the
 /// rule on sizes is broken.
 fn judge_tables<R: Read>(
     alloc: Global,
-    graph: &Graph,
+    graph: &LargeGraph,
     parts: &mut CertReader<R>,
     head: CycleHead,
 ) -> Result<Option<Verdict>, StreamFault>
+    requires { count graph.now ≤ MAX_COUNT }
     ensures { (ahead : Parts) → IsAhead R.remaining parts.old ahead
         → Leaves R.remaining ahead parts.new (λ found rest. (links : List Link) (near far : List (List ℕ)) → length links ≡ head.links
         → length near ≡ head.count → ahead.parts ≡ map part.Link links ++ (map part.Near near ++ map part.Far far)
@@ -70,10 +73,11 @@ fn sized(found: Option<Verdict>, at_once: bool) -> Verdict
 /// Judges a claim that a cycle is least, whose links and tables come.
 fn judge_cycle<R: Read>(
     alloc: Global,
-    graph: &Graph,
+    graph: &LargeGraph,
     parts: &mut CertReader<R>,
     head: CycleHead,
 ) -> Result<Judgement, StreamFault>
+    requires { count graph.now ≤ MAX_COUNT }
     ensures { (ahead : Parts) → IsAhead R.remaining parts.old ahead → Finishes ahead (IsCycleJudged graph.now head ahead) result }
 {
     let found = judge_tables(alloc, graph, parts, head)?;
@@ -86,11 +90,13 @@ fn judge_cycle<R: Read>(
 /// Judges a claim that a list is a commit order, whose clocks come.
 fn judge_order<R: Read>(
     alloc: Global,
-    graph: &Graph,
+    graph: &LargeGraph,
     parts: &mut CertReader<R>,
     head: OrderHead,
 ) -> Result<Judgement, StreamFault>
-    requires { is_new parts.old ≡ false }
+    requires few { count graph.now ≤ MAX_COUNT }
+    requires few_sessions { length graph.now.sessions ≤ MAX_SESSIONS }
+    requires begun { is_new parts.old ≡ false }
     ensures { (ahead : Parts) → IsAhead R.remaining parts.old ahead → Finishes ahead (IsOrderJudged graph.now head ahead) result }
 {
     let clocks = clock_rows(alloc, parts)?;

@@ -1,11 +1,7 @@
 -- The transactions right before each one: in its session, and those that it reads from.
 use Rattle.std.specs.Prelude.{ℕ, ◌<◌, ◌≤◌, ◌-◌, ◌≡◌, ◌==◌, if◌then◌else◌, List, [], ◌∷◌, ◌++◌, length, map, All, take, drop, slice_index, slice_index_or}
 use Rattle.tcc_reads.specs.History.{History, count, entry_at}
-use Rattle.tcc_graph.specs.Relations.{session_pair}
-
--- the transaction before c in its session, or else `init`
-abbrev pub previous : History → ℕ → ℕ
-previous h c = if session_pair h (c - 1) c then c - 1 else 0
+pub use Rattle.tcc_graph.specs.Relations.{previous}
 
 -- a list of them, 0 for `init`
 pub record ArePrevious (h : History) (parents : List ℕ) : Type 0 where

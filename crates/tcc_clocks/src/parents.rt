@@ -1,20 +1,10 @@
 //! The transactions right before each one: in its session, and what it reads from.
 ghost use Rattle.std.specs.Prelude.{◌≡◌, ◌<◌, ◌≤◌, ◌-◌, ℕ, length, take, drop, slice_index, All, IfOk, OnOk};
 ghost use Rattle.tcc_reads.specs.History.{count};
-ghost use Rattle.tcc_clocks.specs.Parents.{ArePrevious, AreSteps, HasSourcesAt, previous, parents};
+ghost use Rattle.tcc_clocks.specs.Parents.{ArePrevious, AreSteps, HasSourcesAt, parents};
 
 use std::alloc::{AllocError, Global};
 use tcc_graph::LargeGraph;
-
-/// The transaction right before this one in its session, or else `init`.
-fn previous(graph: &LargeGraph, c: u32) -> u32
-    requires some { 0 < c }
-    requires below { c < count graph.now }
-    ensures value { result ≡ previous graph.now c }
-    ensures before { result < c }
-{
-    if graph.session(c - 1, c) { c - 1 } else { 0 }
-}
 
 /// The transaction right before each one in its session, 0 for `init`.
 pub fn previous_of_each(alloc: Global, graph: &LargeGraph) -> Result<Vec<u32>, AllocError>
@@ -23,7 +13,7 @@ pub fn previous_of_each(alloc: Global, graph: &LargeGraph) -> Result<Vec<u32>, A
     let mut parents = Vec::new(alloc);
     parents.push(0)?;
     for c in 1..graph.count() {
-        parents.push(previous(graph, c))?;
+        parents.push(graph.previous(c))?;
     }
     Ok(parents)
 }
@@ -36,7 +26,7 @@ pub fn parents_of(alloc: Global, graph: &LargeGraph, c: u32) -> Result<Vec<u32>,
 {
     let mut parents = Vec::new(alloc);
     if c > 0 {
-        parents.push(previous(graph, c))?;
+        parents.push(graph.previous(c))?;
     }
     for read in graph.reads(c) {
         parents.push(read.1)?;

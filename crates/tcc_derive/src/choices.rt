@@ -7,7 +7,7 @@ ghost use Rattle.tcc_graph.specs.Links.{MayContradict};
 ghost use Rattle.tcc_derive.specs.private.Choices.{IsNearest, IsNearestReader, IsChoice};
 ghost use Rattle.tcc_near.specs.declared.distances.TheConstants.{NONE};
 
-use tcc_graph::Graph;
+use tcc_graph::LargeGraph;
 use tcc_near::NONE;
 use tcc_txn::Name;
 
@@ -30,7 +30,7 @@ fn nearest(readers: &[u32], steps: &[u16]) -> Option<u32>
 }
 
 /// Of the readers of the key that `b` may contradict, the first that the fewest steps lead to.
-fn nearest_reader(graph: &Graph, steps: &[u16], b: u32, a: u32, key: &Name) -> Option<u32>
+fn nearest_reader(graph: &LargeGraph, steps: &[u16], b: u32, a: u32, key: &Name) -> Option<u32>
     requires from { b < count graph.now }
     requires to { a < count graph.now }
     requires long { length steps.now ≡ count graph.now }
@@ -44,7 +44,7 @@ fn nearest_reader(graph: &Graph, steps: &[u16], b: u32, a: u32, key: &Name) -> O
 }
 
 /// Of all keys and readers that `b` may contradict, the first that the fewest steps lead to, by key and by reader.
-pub(crate) fn choice(graph: &Graph, steps: &[u16], b: u32, a: u32) -> Option<(Name, u32)>
+pub(crate) fn choice(graph: &LargeGraph, steps: &[u16], b: u32, a: u32) -> Option<(Name, u32)>
     requires from { b < count graph.now }
     requires to { a < count graph.now }
     requires long { length steps.now ≡ count graph.now }

@@ -8,11 +8,11 @@ ghost use Rattle.tcc_derive.specs.private.KeyTables.{AreReadsAt, IsReadsOf};
 use crate::read::Read;
 use std::alloc::Global;
 use tcc_bits::Row;
-use tcc_graph::Graph;
+use tcc_graph::LargeGraph;
 use tcc_txn::NoMemory;
 
 /// The reads of the key at an index.
-fn reads_at(alloc: Global, graph: &Graph, key_index: u32) -> Result<Row<Read>, NoMemory>
+fn reads_at(alloc: Global, graph: &LargeGraph, key_index: u32) -> Result<Row<Read>, NoMemory>
     requires key_index { key_index < length (keys graph.now) }
     requires few { count graph.now ≤ MAX_COUNT }
     ensures { IfOk result (AreReadsAt graph.now key_index) }
@@ -29,7 +29,7 @@ fn reads_at(alloc: Global, graph: &Graph, key_index: u32) -> Result<Row<Read>, N
 }
 
 /// The reads of each key of a graph.
-pub(crate) fn read_table(alloc: Global, graph: &Graph) -> Result<Vec<Row<Read>>, NoMemory>
+pub(crate) fn read_table(alloc: Global, graph: &LargeGraph) -> Result<Vec<Row<Read>>, NoMemory>
     requires few { count graph.now ≤ MAX_COUNT }
     ensures { IfOk result (λ reads. IsReadsOf graph.now reads.items) }
 {

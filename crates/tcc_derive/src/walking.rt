@@ -12,7 +12,7 @@ ghost use Rattle.tcc_near.specs.declared.distances.TheConstants.{NONE};
 ghost use Rattle.tcc_graph.specs.Tables.{row_of};
 
 use std::alloc::Global;
-use tcc_graph::{Graph, Step, Walk};
+use tcc_graph::{LargeGraph, Step, Walk};
 use tcc_near::Near;
 use tcc_txn::{Name, NoMemory};
 
@@ -24,7 +24,7 @@ pub fn first_name(names: &[Name]) -> Option<Name>
 }
 
 /// The first step from one transaction to another; none where there is no causal pair.
-fn first_step(graph: &Graph, from: u32, to: u32) -> Option<Step>
+fn first_step(graph: &LargeGraph, from: u32, to: u32) -> Option<Step>
     requires from { from < count graph.now }
     requires to { to < count graph.now }
     ensures { MatchOption result ((o : Step) → IsStep graph.now o → step_from o ≡ from → step_to o ≡ to → ⊥) (IsFirstStep graph.now from to) }
@@ -49,7 +49,7 @@ fn stands_at(steps: &[u16], b: u32, transaction: u32, left: u16) -> bool
 }
 
 /// The first step to `end` from where `left` steps lead from `b`.
-fn last_step(graph: &Graph, steps: &[u16], b: u32, end: u32, left: u16) -> Option<Step>
+fn last_step(graph: &LargeGraph, steps: &[u16], b: u32, end: u32, left: u16) -> Option<Step>
     requires end { end < count graph.now }
     requires long { length steps.now ≡ count graph.now }
     ensures { MatchOption result ((o : Step) → IsStep graph.now o → step_to o ≡ end → stands_at steps.now b (step_from o) left ≡ true → ⊥)
@@ -68,7 +68,7 @@ fn last_step(graph: &Graph, steps: &[u16], b: u32, end: u32, left: u16) -> Optio
 /// The first of the shortest walks from `b` to `c` that the level allows, picked from the last step backwards.
 pub(crate) fn first_walk(
     alloc: Global,
-    graph: &Graph,
+    graph: &LargeGraph,
     near: &Near,
     b: u32,
     c: u32,

@@ -1,14 +1,12 @@
 //! The keys that each transaction writes.
-ghost use Rattle.std.specs.Prelude.{◌<◌, ◌≤◌, length, All, Contains, OnOk, IfOk};
-ghost use Rattle.tcc_txn.specs.declared.limits.TheConstants.{MAX_COUNT};
-ghost use Rattle.tcc_reads.specs.History.{count};
+ghost use Rattle.std.specs.Prelude.{◌<◌, length, All, Contains, OnOk, IfOk};
 ghost use Rattle.tcc_derive.specs.private.Buckets.{Puts};
 ghost use Rattle.tcc_derive.specs.private.KeyTables.{IsWritesOf};
 
 use crate::bucket::empty_buckets;
 use std::alloc::Global;
 use tcc_bits::Row;
-use tcc_graph::Graph;
+use tcc_graph::LargeGraph;
 use tcc_txn::NoMemory;
 
 /// Puts the index of a key into the buckets of its writers.
@@ -23,9 +21,8 @@ fn add_key(written: &mut [Row<usize>], writers: &[u32], key_index: usize) -> Res
 }
 
 /// The indices, among the keys of a graph, of the keys that each transaction writes.
-pub(crate) fn write_table(alloc: Global, graph: &Graph) -> Result<Vec<Row<usize>>, NoMemory>
-    ensures writes { IfOk result (λ written. IsWritesOf graph.now written.items) }
-    ensures few { count graph.now ≤ MAX_COUNT }
+pub(crate) fn write_table(alloc: Global, graph: &LargeGraph) -> Result<Vec<Row<usize>>, NoMemory>
+    ensures { IfOk result (λ written. IsWritesOf graph.now written.items) }
 {
     let mut written = empty_buckets(alloc, graph.count() as usize)?;
     for (key_index, key) in graph.keys().iter().enumerate() {

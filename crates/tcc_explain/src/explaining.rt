@@ -157,7 +157,7 @@ pub(crate) fn history_answer<G: Gate>(
     requires labels { labels ≡ labels_of graph.now }
     ensures { IfOk result (IsAnswerOfHistory (judged graph.now level)) }
 {
-    if let Some(order) = order(alloc, graph.large(), level)? {
+    if let Some(order) = order(alloc, graph, level)? {
         return order_answer(alloc, graph, level, order, labels);
     }
     let near = near(rt, alloc, graph, level)?;

@@ -1,7 +1,7 @@
 //! What a search may begin with: what an earlier cycle costs now.
 ghost use Rattle.std.specs.Prelude.{◌≡◌, ◌<◌, ◌^◌, ◌⊎◌, ℕ, IfSome};
 ghost use Rattle.tcc_graph.specs.Levels.{Judged};
-ghost use Rattle.tcc_graph.specs.Links.{link_from, link_to, link_cost, cost};
+ghost use Rattle.tcc_graph.specs.Links.{link_cost, cost};
 ghost use Rattle.tcc_graph.specs.Routes.{IsCycle};
 ghost use Rattle.tcc_graph.specs.declared.link.Link.{Link};
 ghost use Rattle.tcc_derive.specs.Prices.{IsPricesOf, IsLinkOf};
@@ -10,18 +10,6 @@ ghost use Rattle.tcc_explain.specs.private.Capping.{IsAtMost};
 
 use tcc_derive::Prices;
 use tcc_graph::Link;
-
-/// The numbers from which and to which the link leads.
-fn ends(link: &Link) -> (u32, u32)
-    ensures from { result.0 ≡ link_from link.now }
-    ensures to { result.1 ≡ link_to link.now }
-{
-    match link {
-        Link::Session { from, to } => (*from, *to),
-        Link::Reads { from, to, .. } => (*from, *to),
-        Link::Derived { from, to, .. } => (*from, *to),
-    }
-}
 
 /// What a link there costs at least; none where there is no link, or not both numbers.
 fn least_cost(prices: &Prices, from: u32, to: u32) -> Option<u32>
@@ -41,11 +29,12 @@ pub(crate) fn offered(prices: &Prices, links: &[Link]) -> Option<u32>
     ensures cycle { (j : Judged) → IsPricesOf j prices.now → IfSome result (IsCycleCost j) }
     ensures least { (j : Judged) (s : ℕ) → IsPricesOf j prices.now → IsCycle j s links.now → cost links.now < 2 ^ 32 → IsAtMost result (cost links.now) }
 {
-    let (start, _) = ends(links.first()?);
+    let start = links.first()?.from();
     let mut at = start;
     let mut total: u32 = 0;
     for link in links {
-        let (from, to) = ends(link);
+        let from = link.from();
+        let to = link.to();
         if from != at {
             return None;
         }

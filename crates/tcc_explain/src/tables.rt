@@ -74,7 +74,7 @@ pub(crate) fn clocks_at(
     ensures { IfOk result (IsClocksAt level graph.now) }
 {
     match level {
-        Level::Causal => clock_table(alloc, &clocks(alloc, graph.large(), order)?),
+        Level::Causal => clock_table(alloc, &clocks(alloc, graph, order)?),
         Level::Atomic => Ok(Table::new(Vec::new(alloc))),
     }
 }

@@ -8,6 +8,7 @@
 --   Numberings   where numbers stand in an order
 --   Kept         what a map of numbers keeps of pairs, it keeps of walks, reasons, links and cycles
 --   NameLemmas   names in lists: found by a test, and by index in a sorted list
+--   Sessions     who stands between two of a session, and right before one
 --   KeysLemmas   which names are keys
 --   SortedKeys   the keys are in byte order
 --   WriterLemmas what is read is a key, and who its writers are
@@ -29,6 +30,7 @@ pub mod Linking
 pub mod NameLemmas
 pub mod Numberings
 pub mod Pairs
+pub mod Sessions
 pub mod SortedKeys
 pub mod TableLemmas
 pub mod Tied

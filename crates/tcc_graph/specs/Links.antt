@@ -1,8 +1,9 @@
 -- Reasons, links, and what they cost.
-use Rattle.std.specs.Prelude.{ℕ, ◌≢◌, List, [], ◌∷◌, ◌++◌, length, flat_map}
+use Rattle.std.specs.Prelude.{ℕ, ◌<◌, ◌≢◌, List, [], ◌∷◌, ◌++◌, length, flat_map, All}
 use Rattle.tcc_reads.specs.History.{History}
 use Rattle.tcc_graph.specs.Relations.{IsSessionPair, IsReadsPair}
 use Rattle.tcc_graph.specs.Keys.{IsWriter}
+use Rattle.tcc_graph.specs.Walks.{IsStepBelow}
 use Rattle.tcc_graph.specs.Levels.{Judged, IsAllowedWalk}
 use Rattle.tcc_graph.specs.declared.step.Step.{Step}
 use Rattle.tcc_graph.specs.declared.step.Step.TheVariants as step
@@ -33,6 +34,17 @@ abbrev pub IsLink : Judged → Link → Type 0
 IsLink j (link.Session a b) = IsSessionPair j.history a b
 IsLink j (link.Reads a b x) = IsReadsPair j.history a b x
 IsLink j (link.Derived b a x c walk) = IsReason j b a x c walk
+
+-- the link of a pair that is one step
+abbrev pub link_of : Step → Link
+link_of (step.Session a b) = link.Session a b
+link_of (step.Reads a b x) = link.Reads a b x
+
+-- all numbers in a link, its reader and its walk among them, are below n
+abbrev pub IsLinkBelow : ℕ → Link → Type 0
+IsLinkBelow n (link.Session a b) = (a < n) × (b < n)
+IsLinkBelow n (link.Reads a b x) = (a < n) × (b < n)
+IsLinkBelow n (link.Derived b a x c walk) = (b < n) × ((a < n) × ((c < n) × All (IsStepBelow n) walk))
 
 -- the steps of a link: itself, or its walk and then the read that it contradicts
 abbrev pub unfolding_of : Link → List Step

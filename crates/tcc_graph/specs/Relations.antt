@@ -1,5 +1,5 @@
 -- The two relations of a history, session order and reads-from.
-use Rattle.std.specs.Prelude.{ℕ, ◌<◌, ◌⊎◌, ◌≡◌, Bool, true, false, ◌&&◌, ◌||◌, ◌==◌, nat_lt, List, [], ◌∷◌, map, filter, zip, Contains}
+use Rattle.std.specs.Prelude.{ℕ, ◌<◌, ◌-◌, ◌⊎◌, ◌≡◌, Bool, true, false, ◌&&◌, ◌||◌, ◌==◌, nat_lt, if◌then◌else◌, List, [], ◌∷◌, map, filter, zip, Contains}
 use Rattle.std.specs.List.Sorted.{IsStrictlySortedBy}
 use Rattle.std.specs.Ordering.{nat_cmp, ordering_then}
 use Rattle.std.specs.declared.cmp.Ordering.{Ordering}
@@ -15,6 +15,10 @@ session_pair h a b =
 
 abbrev pub IsSessionPair : History → ℕ → ℕ → Type 0
 IsSessionPair h a b = session_pair h a b ≡ true
+
+-- who stands right before c in session order: the transaction before it in its session, or else `init`
+abbrev pub previous : History → ℕ → ℕ
+previous h c = if session_pair h (c - 1) c then c - 1 else 0
 
 -- the keys that b reads from a, in byte order
 abbrev pub reads_from : History → ℕ → ℕ → List (List ℕ)

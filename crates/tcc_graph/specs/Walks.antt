@@ -18,6 +18,10 @@ abbrev pub IsStep : History → Step → Type 0
 IsStep h (step.Session a b) = IsSessionPair h a b
 IsStep h (step.Reads a b x) = IsReadsPair h a b x
 
+-- both ends of a step are numbers below n
+abbrev pub IsStepBelow : ℕ → Step → Type 0
+IsStepBelow n s = (step_from s < n) × (step_to s < n)
+
 -- the steps lead from a to b, each from where the one before ends
 abbrev pub Leads : History → ℕ → ℕ → List Step → Type 0
 Leads h a b [] = a ≡ b

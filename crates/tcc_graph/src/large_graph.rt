@@ -1,9 +1,10 @@
 //! The graph of a resolved history of the large limits.
-ghost use Rattle.std.specs.Prelude.{◌≡◌, ◌≤◌, ◌<◌, ◌+◌, ◌++◌, ◌↔◌, ℕ, List, length, map, All, IfOk, IsTrue, string_bytes, MatchOption, []};
+ghost use Rattle.std.specs.Prelude.{◌≡◌, ◌≤◌, ◌<◌, ◌+◌, ◌++◌, ◌⊎◌, ◌↔◌, ℕ, List, length, map, All, IfOk, IsTrue, string_bytes, MatchOption, []};
 ghost use Rattle.tcc_graph.specs.private.Grouped.{of_group};
 ghost use Rattle.tcc_txn.specs.declared.limits.TheConstants.{LARGE_COUNT, LARGE_SESSIONS};
 ghost use Rattle.tcc_reads.specs.History.{History, IsBySession, count, entry_at, owner};
-ghost use Rattle.tcc_graph.specs.Relations.{IsSessionPair, session_pair, reads_from, causal_pair};
+ghost use Rattle.tcc_graph.specs.Relations.{IsCausalPair, IsSessionPair, session_pair, previous, reads_from, causal_pair};
+ghost use Rattle.tcc_graph.specs.Walks.{IsStep, step_from, step_to};
 ghost use Rattle.tcc_graph.specs.Readings.{AreReadings, AreReadingsByIndex, AreReadingsOfKey};
 ghost use Rattle.tcc_graph.specs.Keys.{IsWriter, keys, key_at, writers, readers};
 ghost use Rattle.tcc_graph.specs.Levels.{judged};
@@ -17,7 +18,7 @@ use crate::key_row::KeyRow;
 use crate::key_table::{key_index_of, key_table};
 use crate::keys::sorted_keys;
 use crate::tables::{index_table, parts_of, read_table};
-use crate::{Level, Link};
+use crate::{Level, Link, Step};
 use std::alloc::Global;
 use std::marker::Model;
 use tcc_reads::{LargeResolved, Transaction};
@@ -115,6 +116,21 @@ impl LargeGraph {
         from.owner() == to.owner() && from.place() < to.place()
     }
 
+    /// Who stands right before a transaction in session order: the one before it in its session, or else `init`.
+    pub fn previous(&self, c: u32) -> u32
+        requires some { 0 < c }
+        requires below { c < count self.now }
+        ensures value { result ≡ previous self.now c }
+        ensures before { result < c }
+        ensures beside { (result ≡ 0) ⊎ (result + 1 ≡ c) }
+        ensures pair { IsSessionPair self.now result c }
+        ensures last { (b : ℕ) → IsSessionPair self.now b c → (b ≡ result) ⊎ IsSessionPair self.now b result }
+    {
+        // The proof reads here how the transactions are numbered.
+        let _ = &self.transactions;
+        if self.session(c - 1, c) { c - 1 } else { 0 }
+    }
+
     /// The first number with a session pair from `u`, and one past the last one, all between them having one too; both
     /// `u + 1` where there is none.
     pub fn later(&self, u: u32) -> (u32, u32)
@@ -177,6 +193,20 @@ impl LargeGraph {
         ensures { result ≡ causal_pair self.now a b }
     {
         self.session(a, b) || self.reads[a as usize].has(b)
+    }
+
+    /// The step from one transaction to another by a pair: by session order where they are of one session.
+    pub fn step(&self, from: u32, to: u32) -> Step
+        requires { IsCausalPair self.now from to }
+        ensures from { step_from result ≡ from }
+        ensures to { step_to result ≡ to }
+        ensures step { IsStep self.now result }
+    {
+        if self.session(from, to) {
+            return Step::Session { from, to };
+        }
+        let key = self.reads_from(from, to)[0];
+        Step::Reads { from, to, key }
     }
 
     /// The keys in operations of committed transactions, in byte order, each once.

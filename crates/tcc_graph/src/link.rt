@@ -1,5 +1,8 @@
 //! One link of a cycle.
-use crate::Walk;
+ghost use Rattle.std.specs.Prelude.{◌↔◌, All, IsTrue};
+ghost use Rattle.tcc_graph.specs.Walks.{IsStepBelow};
+
+use crate::{Step, Walk};
 use std::alloc::Global;
 use tcc_txn::{Name, NoMemory};
 
@@ -27,9 +30,31 @@ pub enum Link {
     },
 }
 
+/// Whether both ends of each step are numbers below the count.
+fn are_steps_below(steps: &[Step], count: u32) -> bool
+    ensures { IsTrue result ↔ All (IsStepBelow count) steps.now }
+{
+    steps.iter().all(|step| step.is_below(count))
+}
+
 impl Link {
-    ghost use Rattle.std.specs.Prelude.{◌≡◌, IfOk};
-    ghost use Rattle.tcc_graph.specs.Links.{link_cost, link_from, link_to};
+    ghost use Rattle.std.specs.Prelude.{◌≡◌, ◌↔◌, IfOk, IsTrue};
+    ghost use Rattle.tcc_graph.specs.Levels.{Judged};
+    ghost use Rattle.tcc_graph.specs.Walks.{IsStep, step_from, step_to};
+    ghost use Rattle.tcc_graph.specs.Links.{IsLink, IsLinkBelow, link_cost, link_from, link_of, link_to};
+
+    /// The link of a pair that is one step.
+    pub fn of(step: Step) -> Link
+        ensures value { result ≡ link_of step }
+        ensures from { link_from result ≡ step_from step }
+        ensures to { link_to result ≡ step_to step }
+        ensures link { (j : Judged) → IsStep j.history step → IsLink j result }
+    {
+        match step {
+            Step::Session { from, to } => Link::Session { from, to },
+            Step::Reads { from, to, key } => Link::Reads { from, to, key },
+        }
+    }
 
     /// Where it begins.
     pub fn from(&self) -> u32
@@ -57,6 +82,29 @@ impl Link {
         match self {
             Link::Session { .. } | Link::Reads { .. } => 1,
             Link::Derived { walk, .. } => walk.as_slice().len() + 1,
+        }
+    }
+
+    /// Whether all numbers in it, the reader and the walk among them, are below the count.
+    pub fn is_below(&self, count: u32) -> bool
+        ensures { IsTrue result ↔ IsLinkBelow count self.now }
+    {
+        match self {
+            Link::Session { from, to } | Link::Reads { from, to, .. } => {
+                *from < count && *to < count
+            }
+            Link::Derived {
+                from,
+                to,
+                reader,
+                walk,
+                ..
+            } => {
+                *from < count
+                    && *to < count
+                    && *reader < count
+                    && are_steps_below(walk.as_slice(), count)
+            }
         }
     }
 

@@ -11,8 +11,8 @@ pub enum Step {
 }
 
 impl Step {
-    ghost use Rattle.std.specs.Prelude.{◌≡◌};
-    ghost use Rattle.tcc_graph.specs.Walks.{step_from, step_to};
+    ghost use Rattle.std.specs.Prelude.{◌≡◌, ◌↔◌, IsTrue};
+    ghost use Rattle.tcc_graph.specs.Walks.{IsStepBelow, step_from, step_to};
 
     /// Where it starts.
     pub fn from(&self) -> u32
@@ -31,6 +31,17 @@ impl Step {
         match self {
             Step::Session { to, .. } => *to,
             Step::Reads { to, .. } => *to,
+        }
+    }
+
+    /// Whether both ends are numbers below the count.
+    pub fn is_below(&self, count: u32) -> bool
+        ensures { IsTrue result ↔ IsStepBelow count self.now }
+    {
+        match self {
+            Step::Session { from, to } | Step::Reads { from, to, .. } => {
+                *from < count && *to < count
+            }
         }
     }
 }

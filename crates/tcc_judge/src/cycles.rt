@@ -1,7 +1,7 @@
 //! The judge of a claim that links are a cycle, and perhaps a least one.
 ghost use Rattle.std.specs.Prelude.{◌≡◌, ◌≤◌, ◌↔◌, [], All, IfOk, IsTrue, List};
 ghost use Rattle.tcc_reads.specs.History.{IsBySession, count};
-ghost use Rattle.tcc_cert.specs.CycleRules.{IsLinkBelow, IsStepBelow};
+ghost use Rattle.tcc_cert.specs.CycleRules.{IsLinkBelow};
 ghost use Rattle.tcc_judge.specs.Cycles.{AreNeeded, HasLinksSizes};
 ghost use Rattle.tcc_judge.specs.Verdicts.{IsVerdictOf, cycle_rules, least_rules};
 
@@ -10,57 +10,18 @@ use crate::telling::told;
 use crate::{Rule, Verdict};
 use std::alloc::Global;
 use tcc_cert::{LinksClaim, Run};
-use tcc_graph::{LargeGraph, Link, Step};
+use tcc_graph::{LargeGraph, Link};
 use tcc_least::{ShortCycle, short_cycle};
 use tcc_txn::NoMemory;
 
 /// Up to this cost no runs are needed.
 const SHORT: u32 = 4;
 
-/// Whether both ends of a step are below the count.
-fn is_step_below(step: &Step, count: u32) -> bool
-    ensures { IsTrue result ↔ IsStepBelow count step.now }
-{
-    match step {
-        Step::Session { from, to } => *from < count && *to < count,
-        Step::Reads { from, to, .. } => *from < count && *to < count,
-    }
-}
-
-/// Whether both ends of each step are below the count.
-fn are_steps_below(steps: &[Step], count: u32) -> bool
-    ensures { IsTrue result ↔ All (IsStepBelow count) steps.now }
-{
-    steps.iter().all(|step| is_step_below(step, count))
-}
-
-/// Whether all numbers in a link are below the count.
-fn is_link_below(link: &Link, count: u32) -> bool
-    ensures { IsTrue result ↔ IsLinkBelow count link.now }
-{
-    match link {
-        Link::Session { from, to } => *from < count && *to < count,
-        Link::Reads { from, to, .. } => *from < count && *to < count,
-        Link::Derived {
-            from,
-            to,
-            reader,
-            walk,
-            ..
-        } => {
-            *from < count
-                && *to < count
-                && *reader < count
-                && are_steps_below(walk.as_slice(), count)
-        }
-    }
-}
-
 /// Whether all numbers in the links are below the count.
 fn are_links_below(links: &[Link], count: u32) -> bool
     ensures { IsTrue result ↔ All (IsLinkBelow count) links.now }
 {
-    links.iter().all(|link| is_link_below(link, count))
+    links.iter().all(|link| link.is_below(count))
 }
 
 /// Whether there are no runs.

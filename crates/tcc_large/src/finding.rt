@@ -4,7 +4,6 @@
 use crate::back_edges::back_edges;
 use crate::breadth_first::BreadthFirst;
 use crate::closings::{between, closings};
-use crate::judging::ends;
 use crate::linking::Linker;
 use crate::pairs::{Pair, Pairs, span};
 use crate::relation::Relation;
@@ -86,7 +85,7 @@ fn has_links(kept: &[Row<u32>]) -> bool {
 fn starts(alloc: Global, links: &[Link]) -> Result<Vec<u32>, AllocError> {
     let mut found = Vec::new(alloc);
     for link in links {
-        found.push(ends(link).0)?;
+        found.push(link.from())?;
     }
     Ok(found)
 }
@@ -147,7 +146,7 @@ impl<'a> Finder<'a> {
 
     /// Offers the cycle of a session pair from a transaction and of a link back.
     fn offer_back(&mut self, alloc: Global, source: u32, back: Link) -> Result<(), AllocError> {
-        let (from, _to) = ends(&back);
+        let from = back.from();
         let mut links = Vec::new(alloc);
         links.push(Link::Session {
             from: source,
@@ -304,7 +303,7 @@ impl<'a> Finder<'a> {
             .cost()
             .saturating_add(behind.cost())
             .saturating_sub(1);
-        let past = (ends(before).0, ends(behind).1);
+        let past = (before.from(), behind.to());
         let work = &mut self.work;
         let link = self.linker.link(alloc, work, self.pairs, past, most)?;
         if link.is_none() {

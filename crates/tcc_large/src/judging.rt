@@ -1,23 +1,10 @@
 //! Whether links are a cycle of a history.
 ghost use Rattle.std.specs.Prelude.{◌≡◌, ◌↔◌, IsTrue};
-ghost use Rattle.tcc_graph.specs.Links.{link_from, link_to};
 ghost use Rattle.tcc_graph.specs.Routes.{LinksLead};
 ghost use Rattle.tcc_large.specs.Cycles.{AreCycle};
 ghost use Rattle.tcc_graph.specs.Levels.{judged};
 
 use tcc_graph::{LargeGraph, Level, Link};
-
-/// Where a link starts, and where it ends.
-pub(crate) fn ends(link: &Link) -> (u32, u32)
-    ensures from { result.0 ≡ link_from link.now }
-    ensures to { result.1 ≡ link_to link.now }
-{
-    match link {
-        Link::Session { from, to }
-        | Link::Reads { from, to, .. }
-        | Link::Derived { from, to, .. } => (*from, *to),
-    }
-}
 
 /// Whether the links, each one of the history at the level, lead from one transaction to the other.
 fn lead(graph: &LargeGraph, level: Level, start: u32, end: u32, links: &[Link]) -> bool
@@ -25,11 +12,10 @@ fn lead(graph: &LargeGraph, level: Level, start: u32, end: u32, links: &[Link]) 
 {
     let mut at = start;
     for link in links {
-        let (from, to) = ends(link);
-        if from != at || !graph.is_link(level, link) {
+        if link.from() != at || !graph.is_link(level, link) {
             return false;
         }
-        at = to;
+        at = link.to();
     }
     at == end
 }
@@ -40,10 +26,7 @@ pub fn is_cycle(graph: &LargeGraph, level: Level, links: &[Link]) -> bool
     ensures { IsTrue result ↔ AreCycle (judged graph.now level) links.now }
 {
     match links.first() {
-        Some(first) => {
-            let (start, _end) = ends(first);
-            lead(graph, level, start, start, links)
-        }
+        Some(first) => lead(graph, level, first.from(), first.from(), links),
         None => false,
     }
 }

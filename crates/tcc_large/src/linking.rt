@@ -1,6 +1,5 @@
 //! From transactions in a circle to the links between them.
 use crate::pairs::Pairs;
-use crate::reasons::link_of;
 use crate::walking::Walking;
 use crate::work::{Halt, Work};
 use std::alloc::{AllocError, Global};
@@ -145,7 +144,7 @@ impl Linker {
     ) -> Result<Option<Link>, Halt> {
         let (from, to) = ends;
         if let Some(step) = step(pairs, from, to) {
-            return Ok(Some(link_of(step)));
+            return Ok(Some(Link::of(step)));
         }
         let readers = contradicted(alloc, work, pairs, from, to)?;
         self.derived(alloc, work, pairs, &[from], to, &readers, most)

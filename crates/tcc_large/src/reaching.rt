@@ -4,30 +4,13 @@ ghost use Rattle.std.specs.Prelude.{◌≡◌, ◌<◌, ◌≤◌, ℕ, length, 
 ghost use Rattle.tcc_txn.specs.declared.limits.TheConstants.{LARGE_COUNT};
 ghost use Rattle.tcc_reads.specs.History.{count};
 ghost use Rattle.tcc_graph.specs.Relations.{IsCausalPair, IsSessionPair};
-ghost use Rattle.tcc_graph.specs.Walks.{IsStep, IsWalk, step_from, step_to};
+ghost use Rattle.tcc_graph.specs.Walks.{IsWalk};
 ghost use Rattle.tcc_large.specs.private.Reaching.{IsReach, IsMore, AreCovered, AreMet, AreMetBetween, AreSpread, number_at};
 
 use crate::cells::Cells;
 use std::alloc::{AllocError, Global};
 use tcc_graph::{LargeGraph, Step, Walk};
 use tcc_txn::NoMemory;
-
-/// The step from one transaction to another by a pair.
-pub(crate) fn step(graph: &LargeGraph, from: u32, to: u32) -> Step
-    requires { IsCausalPair graph.now from to }
-    ensures from { step_from result ≡ from }
-    ensures to { step_to result ≡ to }
-    ensures step { IsStep graph.now result }
-{
-    if graph.session(from, to) {
-        return Step::Session { from, to };
-    }
-    Step::Reads {
-        from,
-        to,
-        key: graph.reads_from(from, to)[0],
-    }
-}
 
 /// What was reached from a transaction.
 #[derive(Drop)]
@@ -220,7 +203,7 @@ impl Reach {
         while at > 0 {
             let (number, before) = self.queue[at];
             let from = self.queue[before as usize].0;
-            steps.push(step(graph, from, number))?;
+            steps.push(graph.step(from, number))?;
             at = before as usize;
         }
         steps.reverse();

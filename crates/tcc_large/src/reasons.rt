@@ -3,15 +3,14 @@ ghost use Rattle.std.specs.Prelude.{◌≡◌, ◌≢◌, ◌<◌, ◌⊎◌, �
 ghost use Rattle.tcc_reads.specs.History.{count};
 ghost use Rattle.tcc_graph.specs.Relations.{IsReadsPair};
 ghost use Rattle.tcc_least.specs.private.Building.{Overwrites};
-ghost use Rattle.tcc_graph.specs.Levels.{Judged, causally, atomically, judged};
-ghost use Rattle.tcc_graph.specs.Links.{MayContradict, IsLink, link_from, link_to};
-ghost use Rattle.tcc_graph.specs.Walks.{IsStep, step_from, step_to};
+ghost use Rattle.tcc_graph.specs.Levels.{causally, atomically, judged};
+ghost use Rattle.tcc_graph.specs.Links.{MayContradict};
 ghost use Rattle.tcc_order.specs.Placements.{IsDerivedPair};
 ghost use Rattle.tcc_large.specs.private.Retracing.{IsHeldBack, IsLinkBetween};
 
-use crate::reaching::{Reach, step};
+use crate::reaching::Reach;
 use std::alloc::Global;
-use tcc_graph::{LargeGraph, Level, Link, Step, Walk};
+use tcc_graph::{LargeGraph, Level, Link, Walk};
 use tcc_txn::{Name, NoMemory};
 
 /// A key that the reader reads from `to`, and that `from`, another transaction, writes too.
@@ -85,7 +84,7 @@ fn derived_by_step(alloc: Global, graph: &LargeGraph, from: u32, to: u32) -> Res
 {
     let (reader, key) = overwritten(graph, from, to);
     let mut steps = Vec::new(alloc);
-    steps.push(step(graph, from, reader))?;
+    steps.push(graph.step(from, reader))?;
     Ok(Link::Derived {
         from,
         to,
@@ -93,18 +92,6 @@ fn derived_by_step(alloc: Global, graph: &LargeGraph, from: u32, to: u32) -> Res
         reader,
         walk: Walk::new(steps),
     })
-}
-
-/// The link by the pair of a step.
-pub(crate) fn link_of(step: Step) -> Link
-    ensures from { link_from result ≡ step_from step }
-    ensures to { link_to result ≡ step_to step }
-    ensures link { (j : Judged) → IsStep j.history step → IsLink j result }
-{
-    match step {
-        Step::Session { from, to } => Link::Session { from, to },
-        Step::Reads { from, to, key } => Link::Reads { from, to, key },
-    }
 }
 
 /// The link from one transaction to another that it holds back: by a pair where there is one, and else a derived link.
@@ -121,7 +108,7 @@ pub(crate) fn link_between(
     ensures { IfOk result (IsLinkBetween (judged graph.now level) from to) }
 {
     if graph.causal(from, to) {
-        return Ok(link_of(step(graph, from, to)));
+        return Ok(Link::of(graph.step(from, to)));
     }
     match level {
         Level::Causal => derived_by_walk(alloc, graph, from, to),

@@ -66,9 +66,9 @@ fn is_slice(
     let is_tight = is_nothing_spare(alloc, snapshot, &own)?;
     Ok(
         is_tight
-            && is_cycle(graph.large(), level, &own)
+            && is_cycle(&graph, level, &own)
             && are_told(numbers, &own, links)
-            && is_carried(graph.large(), whole, numbers),
+            && is_carried(&graph, whole, numbers),
     )
 }
 

@@ -26,7 +26,7 @@ impl SizedGraph {
         ensures { result.now ≡ history_in self.now }
     {
         match self {
-            SizedGraph::Small(graph) => graph.large(),
+            SizedGraph::Small(graph) => graph,
             SizedGraph::Large(graph) => graph,
         }
     }

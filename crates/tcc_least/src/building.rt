@@ -3,7 +3,6 @@ ghost use Rattle.std.specs.Prelude.{◌≡◌, ◌≤◌, ◌<◌, ◌↔◌, �
 ghost use Rattle.tcc_reads.specs.History.{count};
 ghost use Rattle.tcc_graph.specs.Relations.{IsReadsPair, IsCausalPair};
 ghost use Rattle.tcc_graph.specs.Keys.{IsWriter};
-ghost use Rattle.tcc_graph.specs.Walks.{IsStep, step_from, step_to};
 ghost use Rattle.tcc_graph.specs.Levels.{Judged, judged};
 ghost use Rattle.tcc_graph.specs.Links.{MayContradict, IsLink, link_cost, link_from, link_to, cost};
 ghost use Rattle.tcc_graph.specs.Routes.{IsLeastCycle};
@@ -13,35 +12,15 @@ ghost use Rattle.tcc_least.specs.private.Building.{IsShortCycle, Overwrites, IsP
 
 use crate::short::{ShortCycle, short_cycle, up_to_four};
 use std::alloc::Global;
-use tcc_graph::{LargeGraph, Link, Step, Walk};
+use tcc_graph::{LargeGraph, Link, Walk};
 use tcc_txn::{Name, NoMemory};
-
-/// The step from one transaction to another by a pair.
-fn step(graph: &LargeGraph, from: u32, to: u32) -> Step
-    requires { IsCausalPair graph.now from to }
-    ensures from { step_from result ≡ from }
-    ensures to { step_to result ≡ to }
-    ensures step { IsStep graph.now result }
-{
-    if graph.session(from, to) {
-        return Step::Session { from, to };
-    }
-    Step::Reads {
-        from,
-        to,
-        key: graph.reads_from(from, to)[0],
-    }
-}
 
 /// The link from one transaction to another by a pair.
 fn pair_link(graph: &LargeGraph, from: u32, to: u32) -> Link
     requires { IsCausalPair graph.now from to }
     ensures { IsPairLink graph.now from to result }
 {
-    match step(graph, from, to) {
-        Step::Session { from, to } => Link::Session { from, to },
-        Step::Reads { from, to, key } => Link::Reads { from, to, key },
-    }
+    Link::of(graph.step(from, to))
 }
 
 /// A source of a transaction to which a pair leads from its reader.
@@ -122,7 +101,7 @@ fn return_links(
 {
     let (reader, key) = overwritten(graph, from, to);
     let mut steps = Vec::new(alloc);
-    steps.push(step(graph, from, reader))?;
+    steps.push(graph.step(from, reader))?;
     let mut links = Vec::new(alloc);
     links.push(Link::Derived {
         from,

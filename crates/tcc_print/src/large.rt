@@ -1,7 +1,7 @@
 //! What is printed of a large history that has no commit order, each text made as a whole before a byte of it goes out.
 ghost use Rattle.std.specs.Prelude.{◌≡◌, IfErr, IfOk, OnOk};
 ghost use Rattle.std.specs.Io.KnownBytes.{Appends};
-ghost use Rattle.tcc_graph.specs.Links.{cost, link_cost};
+ghost use Rattle.tcc_graph.specs.Links.{cost};
 ghost use Rattle.tcc_answer.specs.Json.{json_line};
 ghost use Rattle.tcc_print.specs.Large.{unproved, unproved_first, unproved_json, unproved_text};
 ghost use Rattle.tcc_print.specs.Printed.{EndsIn};
@@ -15,16 +15,6 @@ use tcc_answer::{Labels, push_links, push_links_json, quoted, shape_of, shape_wo
 use tcc_graph::Link;
 use tcc_txn::NoMemory;
 
-/// How many steps a link has.
-fn link_steps(link: &Link) -> usize
-    ensures { result ≡ link_cost link.now }
-{
-    match link {
-        Link::Session { .. } | Link::Reads { .. } => 1,
-        Link::Derived { walk, .. } => walk.as_slice().len() + 1,
-    }
-}
-
 /// How many steps the links have together.
 fn steps_of(links: &[Link]) -> Result<usize, NoMemory>
     ensures { IfOk result (λ steps. steps ≡ cost links.now) }
@@ -32,7 +22,7 @@ fn steps_of(links: &[Link]) -> Result<usize, NoMemory>
     let mut steps: usize = 0;
     for link in links {
         // More steps are held by no memory.
-        let Some(more) = steps.checked_add(link_steps(link)) else {
+        let Some(more) = steps.checked_add(link.cost()) else {
             return Err(NoMemory);
         };
         steps = more;

@@ -8,6 +8,7 @@ ghost use Rattle.tcc_reads.specs.Sources.{pair_cmp};
 
 use crate::Transaction;
 use std::marker::Model;
+use std::ops::Deref;
 use tcc_txn::Name;
 
 /// A snapshot of the large limits, or of the small ones, of which each external read has its source. The committed
@@ -89,8 +90,8 @@ impl LargeResolved {
     }
 }
 
-/// A snapshot of which each external read has its source. The committed transactions are numbered from 1 by session
-/// name in byte order and by place; number 0 is the initial transaction, which writes 0 at every key.
+/// A snapshot of the small limits of which each external read has its source: what it can be asked it is asked as one of the large
+/// limits, which it dereferences to.
 #[derive(Drop)]
 pub struct Resolved {
     pub(crate) large: LargeResolved,
@@ -108,16 +109,23 @@ impl Model for Resolved {
     ghost invariant = { λ r. (count r.large ≤ MAX_COUNT) × (length r.large.sessions ≤ MAX_SESSIONS) };
 }
 
-impl Resolved {
-    /// This history, as one of the large limits.
-    pub fn large(&self) -> &LargeResolved
+impl Deref for Resolved {
+    type Target = LargeResolved;
+
+    ghost use Rattle.std.specs.Prelude.{◌≡◌};
+
+    ghost deref_gives = { λ resolved large. large ≡ resolved };
+
+    fn deref(&self) -> &LargeResolved
         ensures value { result.now ≡ self.now }
         ensures few { count result.now ≤ MAX_COUNT }
         ensures few_sessions { length result.now.sessions ≤ MAX_SESSIONS }
     {
         &self.large
     }
+}
 
+impl Resolved {
     /// This history, given away as one of the large limits.
     pub fn into_large(self) -> LargeResolved
         ensures value { result ≡ self }
@@ -125,44 +133,5 @@ impl Resolved {
         ensures few_sessions { length result.sessions ≤ MAX_SESSIONS }
     {
         self.large
-    }
-
-    /// The names of all sessions in byte order, also of those without committed transactions.
-    pub fn sessions(&self) -> &[Name]
-        ensures value { result.now ≡ self.now.sessions }
-        ensures few { length result.now ≤ MAX_SESSIONS }
-    {
-        self.large.sessions()
-    }
-
-    /// The session's index and the place of each committed transaction, from number 1 on. Places count aborted ones.
-    pub fn places(&self) -> &[(u32, u32)]
-        ensures value { result.now ≡ places_of self.now.entries }
-        ensures count { length result.now + 1 ≡ count self.now }
-        ensures few { count self.now ≤ MAX_COUNT }
-        ensures initial { entry_at self.now 0 ≡ initial }
-        ensures owners { All (λ p. p.0 < length self.now.sessions) result.now }
-        ensures ordered { IsBySession self.now.entries }
-    {
-        self.large.places()
-    }
-
-    /// The keys that the transaction of this number writes visibly, in byte order; none for the initial one, which
-    /// writes every key.
-    pub fn writes(&self, t: u32) -> &[Name]
-        requires { t < count self.now }
-        ensures { result.now ≡ (entry_at self.now t).writes }
-    {
-        self.large.writes(t)
-    }
-
-    /// Key and source of the external reads of this transaction, by key in byte order, then by number, each pair once.
-    pub fn reads(&self, t: u32) -> &[(Name, u32)]
-        requires { t < count self.now }
-        ensures value { result.now ≡ (entry_at self.now t).reads }
-        ensures sources { All (λ r. r.1 < count self.now) result.now }
-        ensures order { IsStrictlySortedBy pair_cmp result.now }
-    {
-        self.large.reads(t)
     }
 }

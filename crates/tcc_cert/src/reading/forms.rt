@@ -153,11 +153,10 @@ fn derived_fields(alloc: Global, scale: Scale, fields: &[&[u8]]) -> Result<Head,
 fn head_of_step(step: Step) -> Head
     ensures { result ≡ head_of_step step }
 {
-    let link = match step {
-        Step::Session { from, to } => Link::Session { from, to },
-        Step::Reads { from, to, key } => Link::Reads { from, to, key },
-    };
-    Head { link, steps: 0 }
+    Head {
+        link: Link::of(step),
+        steps: 0,
+    }
 }
 
 impl WordLine for Head {

@@ -3,7 +3,7 @@ use crate::tests::builders::{assert_names, graph_of, name};
 use std::alloc::Global;
 use std::process::Abort;
 use std::test::Fail;
-use tcc_graph::Graph;
+use tcc_graph::{Graph, LargeGraph};
 use tcc_reads::ReadFaultKind::Duplicate;
 use tcc_reads::{ResolveFault, resolve_large};
 use tcc_txn::{LargeSnapshot, Name, NoMemory, Op, Txn};
@@ -66,7 +66,8 @@ fn a_second_write_far_behind_the_first(rt: HostRuntime) -> Result<(), Fail> {
 fn a_small_graph_as_a_large_one(rt: HostRuntime) -> Result<(), Fail> {
     let alloc = rt.alloc();
     let graph: Graph = graph_of(&rt, alloc, "a,begin\na,w,x,1\na,commit\n");
-    assert_eq!(rt; graph.large().count(), 2);
-    assert_names(&rt, graph.large().writes(1), &["x"]);
+    let large: &LargeGraph = &graph;
+    assert_eq!(rt; large.count(), 2);
+    assert_names(&rt, large.writes(1), &["x"]);
     Ok(())
 }

@@ -47,8 +47,8 @@ fn assert_decided(
     wanted: Option<(usize, usize)>,
 ) {
     let graph = graph_of(rt, alloc, records);
-    let decision = decide(alloc, graph.large(), level).expect(rt, "no memory");
-    let first = order(alloc, graph.large(), level).expect(rt, "no memory");
+    let decision = decide(alloc, &graph, level).expect(rt, "no memory");
+    let first = order(alloc, &graph, level).expect(rt, "no memory");
     match &decision {
         Decision::Order(found) => {
             assert!(rt; wanted.is_none(), "an order of {records}");
@@ -57,7 +57,7 @@ fn assert_decided(
         }
         Decision::Least(links) | Decision::Cycle(links) => {
             assert!(rt; first.is_none(), "a cycle of {records}");
-            assert!(rt; is_cycle(graph.large(), level, links), "of {records}");
+            assert!(rt; is_cycle(&graph, level, links), "of {records}");
             let found = (links.len(), derived(links));
             assert!(rt; Some(found) == wanted, "of {records}");
         }
@@ -92,26 +92,26 @@ fn decisions(rt: HostRuntime) {
 fn judged(rt: HostRuntime) {
     let alloc = rt.alloc();
     let graph = graph_of(&rt, alloc, PAIRS);
-    let Ok(Decision::Cycle(links)) = decide(alloc, graph.large(), Level::Causal) else {
+    let Ok(Decision::Cycle(links)) = decide(alloc, &graph, Level::Causal) else {
         panic!(&rt; "no cycle");
     };
-    assert!(&rt; is_cycle(graph.large(), Level::Causal, &links));
-    assert!(&rt; !is_cycle(graph.large(), Level::Causal, &[]));
-    assert!(&rt; !is_cycle(graph.large(), Level::Causal, &links[1..]));
+    assert!(&rt; is_cycle(&graph, Level::Causal, &links));
+    assert!(&rt; !is_cycle(&graph, Level::Causal, &[]));
+    assert!(&rt; !is_cycle(&graph, Level::Causal, &links[1..]));
     let other = graph_of(&rt, alloc, CHAIN);
-    assert!(&rt; !is_cycle(other.large(), Level::Causal, &links));
+    assert!(&rt; !is_cycle(&other, Level::Causal, &links));
 }
 
 /// The records of the slice of these records by the cycle that is found at `Causal`.
 fn assert_slice(rt: &impl Abort, alloc: Global, whole: &str, wanted: &str) {
     let graph = graph_of(rt, alloc, whole);
-    let Ok(Decision::Least(links)) = decide(alloc, graph.large(), Level::Causal) else {
+    let Ok(Decision::Least(links)) = decide(alloc, &graph, Level::Causal) else {
         panic!(rt; "no cycle of {whole}");
     };
     let snapshot = snapshot_of(alloc, whole.as_bytes())
         .expect(rt, whole)
         .large();
-    let found = slice(alloc, &snapshot, graph.large(), Level::Causal, &links).expect(
+    let found = slice(alloc, &snapshot, &graph, Level::Causal, &links).expect(
         rt,
         "no memory",
     );

@@ -14,7 +14,7 @@ fn assert_order(
     wanted: Option<&[u32]>,
 ) {
     let graph = graph_of(rt, alloc, records);
-    let Ok(found) = order(alloc, graph.large(), level) else {
+    let Ok(found) = order(alloc, &graph, level) else {
         panic!(rt; "no memory");
     };
     match found {
@@ -89,7 +89,7 @@ fn assert_stuck(
     placed: u64,
 ) {
     let graph = graph_of(rt, alloc, records);
-    let Ok(Placement::Stuck(stuck)) = place(alloc, graph.large(), level) else {
+    let Ok(Placement::Stuck(stuck)) = place(alloc, &graph, level) else {
         panic!(rt; "there is an order of {records}");
     };
     assert!(rt; stuck.kept.len() == kept.len(), "of {records}");
@@ -120,11 +120,11 @@ fn what_is_left(rt: HostRuntime) {
 fn orders_of_pairs(rt: HostRuntime) {
     let alloc = rt.alloc();
     let graph = graph_of(&rt, alloc, STALE_READ);
-    let Ok(Some(order)) = order_of_pairs(alloc, graph.large()) else {
+    let Ok(Some(order)) = order_of_pairs(alloc, &graph) else {
         panic!(&rt; "pairs stand in a circle");
     };
     assert!(rt; order.as_slice() == [0, 1, 2].as_slice());
     let graph = graph_of(&rt, alloc, MUTUAL);
-    let none = matches!(order_of_pairs(alloc, graph.large()), Ok(None));
+    let none = matches!(order_of_pairs(alloc, &graph), Ok(None));
     assert!(rt; none);
 }

@@ -16,8 +16,8 @@ judged h k (Err e) said = said
 
 pub returns-in-Order : goal.returns-in-Order
 returns-in-Order c =
-    rw c.in-Order.is (judged c.args.graph.now (claim.Order c.in-Order.claim) c.order_verdict.result c.order_verdict.ensures)
+    rw c.in-Order.is (judged c.args.graph.now (claim.Order c.in-Order.claim) c.order_verdict.result (rw c.deref.ensures.value at c.order_verdict.ensures))
 
 pub returns-in-Cycle : goal.returns-in-Cycle
 returns-in-Cycle c =
-    rw c.in-Cycle.is (judged c.args.graph.now (claim.Cycle c.in-Cycle.claim) c.cycle_verdict.result c.cycle_verdict.ensures)
+    rw c.in-Cycle.is (judged c.args.graph.now (claim.Cycle c.in-Cycle.claim) c.cycle_verdict.result (rw c.deref-in-Cycle.ensures.value at c.cycle_verdict.ensures))

@@ -40,8 +40,8 @@ returns-in_default g c ahead is =
           taken.0 c.loop-before-test.true now.2 c.in_ok-link.field-0 c.in_default.not-Link taken.1 links tables long split,
     )
 
-pub returns-then-not-is_link_below : goal.returns-then-not-is_link_below
-returns-then-not-is_link_below g c ahead is =
+pub returns-then-not-is_below : goal.returns-then-not-is_below
+returns-then-not-is_below g c ahead is =
     let j : Judged = judged c.args.graph.now c.args.head.level in
     let now = c.loop-before.invariant ahead is in
     let taken = rw c.in-Link.is at (c.in_ok-link.ensures.parts now.0 now.3) in (
@@ -50,7 +50,7 @@ returns-then-not-is_link_below g c ahead is =
       first-fault (part.Link c.in-Link.link) now.0 taken.0 taken.1 ∙ now.2.fault,
       taken.2,
       λ links tables long split below.
-          iff_false c.is_link_below.ensures c.if-not-is_link_below.true (rw c.count.ensures.value
+          iff_false c.is_below.ensures c.if-not-is_below.true (rw c.count.ensures.value
           (links-below c.args.head.links (IsLinkBelow (count c.args.graph.now)) (seen_to j c.args.head.least) c.loop-before.before c.loop-before.seen now.1 ahead now.0
           taken.0 c.loop-before-test.true now.2 c.in-Link.link taken.1 links tables long split below)),
     )
@@ -61,13 +61,12 @@ loop-before-preserved g c ahead is =
     let j : Judged = judged h c.args.head.level in
     let now = c.loop-before.invariant ahead is in
     let taken = rw c.in-Link.is at (c.in_ok-link.ensures.parts now.0 now.3) in
-    let one = rw c.large-large.ensures.value at c.with_link-seen.ensures in
-    let below : IsLinkBelow (count h) c.in-Link.link = rw (← c.count.ensures.value) (c.is_link_below.ensures.0 c.if-not-is_link_below.false) in (
+    let below : IsLinkBelow (count h) c.in-Link.link = rw (← c.count.ensures.value) (c.is_below.ensures.0 c.if-not-is_below.false) in (
       taken.0,
       now.1 ++ c.in-Link.link ∷ [],
       links-go-on c.args.head.links (IsLinkBelow (count h)) (seen_to j c.args.head.least) c.loop-before.before c.loop-before.seen now.1 ahead now.0
           taken.0 c.loop-before-test.true now.2 c.in-Link.link taken.1 c.with_link-seen.result below
-          (λ all inside here before. one c.args.head.least c.loop-before.before all refl inside here before),
+          (λ all inside here before. c.with_link-seen.ensures c.args.head.least c.loop-before.before all refl inside here before),
       taken.2,
     )
 

@@ -2,4 +2,4 @@
 use Rattle.tcc_check.proofs.links.links_verdict.Goals as goal
 
 pub returns : goal.returns
-returns c = c.wrong_verdict.ensures c.args.graph.now c.args.claim.now (rw (c.large.ensures.value, c.as_slice-links.ensures) at c.in_ok-wrong.ensures)
+returns c = c.wrong_verdict.ensures c.args.graph.now c.args.claim.now (rw c.as_slice-links.ensures at c.in_ok-wrong.ensures)

@@ -12,7 +12,7 @@ returns c =
           elim c.else-c-gt0.branch [
             | else-c-gt0-via-then-c-gt0+else-not-is_kept w ↦
                 kept_by_previous h c.args.level c.args.positions.now c.args.clocks.now c.requires.clocks c.args.c w.previous.result w.previous.ensures.last
-                (λ b p. c.requires.earlier b w.previous.result w.previous.ensures.earlier p) (w.is_kept.ensures.0 w.if-not-is_kept.false) sources
+                (λ b p. c.requires.earlier b w.previous.result w.previous.ensures.before p) (w.is_kept.ensures.0 w.if-not-is_kept.false) sources
             | else-c-gt0-via-else-c-gt0 w ↦
                 (λ b p. elim p [
                   | inl s ↦ (let parts : PairParts h b c.args.c = pair_parts h b c.args.c s in

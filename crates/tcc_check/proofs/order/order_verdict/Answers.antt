@@ -15,7 +15,7 @@ keeps_axiom-requires c =
         kept = sessions_kept c.args.graph.now c.args.claim.now c.deref.result.now are sizes.order kept.1;
       };
       apart = positions_apart c.args.claim.now.order c.deref.result.now are;
-      few = c.has_order_sizes.ensures.few_sessions;
+      few = c.requires.few_sessions;
       sized = rw c.as_slice.ensures sizes.clocks;
     }
 

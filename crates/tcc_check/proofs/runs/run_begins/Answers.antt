@@ -24,7 +24,7 @@ loop-end-preserved c =
                 (λ some. last_at h end v.previous.result 0 (omega (arith, v.previous.ensures.beside, v.if-previous-end.true)) v.previous.ensures.last)
           ]) c.loop-end.invariant)
       | else-end-eq0+else-previous-end w ↦
-          (let at : w.previous.result ≡ end - 1 = omega (arith, w.previous.ensures.earlier, w.if-previous-end.false, w.if-end-eq0.false) in
+          (let at : w.previous.result ≡ end - 1 = omega (arith, w.previous.ensures.before, w.if-previous-end.false, w.if-end-eq0.false) in
           rw (pushed, w.begin-is) (run_kept end h c.loop-end.begin c.loop-end.begins.items below (omega (arith, w.if-end-eq0.false))
           (rw at at w.previous.ensures.pair) (last_at h end w.previous.result (end - 1) at w.previous.ensures.last) c.loop-end.invariant))
     ]

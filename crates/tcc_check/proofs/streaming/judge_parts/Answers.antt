@@ -12,9 +12,9 @@ returns-in_err-head g c bytes is =
 pub returns-in-Order : goal.returns-in-Order
 returns-in-Order g c bytes is =
     let taken = rw c.in-Order.is at (c.in_ok-head.ensures.parts (parts_read bytes) is) in
-    order-behind c.args.graph.now bytes c.in-Order.head taken.0 c.judge_order.result taken.1 (c.judge_order.ensures taken.0 taken.2)
+    order-behind c.args.graph.now bytes c.in-Order.head taken.0 c.judge_order.result taken.1 (rw c.deref.ensures.value at (c.judge_order.ensures taken.0 taken.2))
 
 pub returns-in-Cycle : goal.returns-in-Cycle
 returns-in-Cycle g c bytes is =
     let taken = rw c.in-Cycle.is at (c.in_ok-head.ensures.parts (parts_read bytes) is) in
-    cycle-behind c.args.graph.now bytes c.in-Cycle.head taken.0 c.judge_cycle.result taken.1 (c.judge_cycle.ensures taken.0 taken.2)
+    cycle-behind c.args.graph.now bytes c.in-Cycle.head taken.0 c.judge_cycle.result taken.1 (rw c.deref-in-Cycle.ensures.value at (c.judge_cycle.ensures taken.0 taken.2))

@@ -32,7 +32,7 @@ returns-in_default-2 g c ahead is =
     )
 
 pub judge_far-requires : goal.judge_far-requires
-judge_far-requires g c = record { orderly = rw c.in-Some-2.is at c.in_ok-near.ensures.orderly }
+judge_far-requires g c = record { few = c.requires; orderly = rw c.in-Some-2.is at c.in_ok-near.ensures.orderly }
 
 pub returns-in_default-3 : goal.returns-in_default-3
 returns-in_default-3 g c ahead is =

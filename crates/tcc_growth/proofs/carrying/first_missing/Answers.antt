@@ -9,7 +9,7 @@ use Rattle.tcc_growth.proofs.carrying.first_missing.Goals as goal
 pub loop-index-preserved : goal.loop-index-preserved
 loop-index-preserved c =
     one_more (judged c.args.graph.now c.args.level) c.args.links.now c.loop-index.index c.index-links-index.result
-    c.loop-index-test.true c.index-links-index.is (c.is_link.ensures.0 c.if-not-is_link.false) c.loop-index.invariant
+    c.loop-index-test.true c.index-links-index.is (rw c.deref.ensures.value at (c.is_link.ensures.0 c.if-not-is_link.false)) c.loop-index.invariant
 
 pub returns : goal.returns
 returns c =

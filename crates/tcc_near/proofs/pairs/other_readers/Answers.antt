@@ -20,13 +20,15 @@ mark_each-requires c =
     let zeros : c.in_ok-readers.readers.items ≡ replicate c.words_for-words.result 0 = search rules in
     let wide : length (replicate c.words_for-words.result 0) ≡ words_for (count c.args.graph.now) =
     length-replicate {A = ℕ} c.words_for-words.result 0 ∙ rw c.count.ensures.value at c.words_for-words.ensures in
+    let readings = rw c.deref.ensures.value at c.readings.ensures in
     rw (c.deref_mut-2.ensures.value, zeros) (readings_fit c.args.graph.now c.args.from c.readings.result.0.now c.readings.result.1.now
-    c.readings.ensures.long c.readings.ensures.each (replicate c.words_for-words.result 0) wide)
+    readings.long readings.each (replicate c.words_for-words.result 0) wide)
 
 pub returns : goal.returns
 returns c =
     let h = c.args.graph.now in
     let n = c.words_for-words.result in
+    let readings = rw c.deref.ensures.value at c.readings.ensures in
     let none : (b : ℕ) → is_marked (replicate n 0) b ≡ false = none_marked n in
     let later0 : c.in_ok-later.later.items ≡ replicate n 0 = search rules in
     let readers0 : c.in_ok-readers.readers.items ≡ replicate n 0 = search rules in
@@ -44,9 +46,9 @@ returns c =
     let is : IsFresh later marks others =
     rw (
       c.deref_mut-3.ensures.value,
-      c.deref.ensures.value,
+      c.deref-2.ensures.value,
       take_at later _ c.in_ok-later.later.len (later_same ∙ sym later_long),
       take_at marks _ c.in_ok-readers.readers.len (marks_same ∙ sym marks_long),
     ) at c.in_ok-take_fresh.ensures.fresh in
-    rw c.new.ensures (pairs_apart h c.args.from c.readings.result.0.now c.readings.result.1.now c.readings.ensures.long c.readings.ensures.each later marks
+    rw c.new.ensures (pairs_apart h c.args.from c.readings.result.0.now c.readings.result.1.now readings.long readings.each later marks
     others c.args.end c.requires.end session read is)

@@ -9,7 +9,7 @@ loop-from-preserved c =
     let u = c.loop-from.from in
     let old = c.loop-from.ends.items in
     let end = c.later-first.result.1 in
-    let later = c.later-first.ensures in
+    let later = rw c.deref.ensures.value at c.later-first.ensures in
     let first = later.first in
     let here : IsSessionEnd h u end = record { order = rw first at later.order; few = later.few; pairs = rw first at later.pairs } in
     rw c.in_ok-push.ensures.items (
