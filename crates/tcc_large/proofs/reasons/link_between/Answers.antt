@@ -10,7 +10,7 @@ step-requires c = pair_kinds c.args.graph.now c.args.from c.args.to (sym c.causa
 pub returns-then-causal : goal.returns-then-causal
 returns-then-causal c =
     let j : Judged = judged c.args.graph.now c.args.level in
-    (c.link_of.ensures.from ∙ c.step.ensures.from, c.link_of.ensures.to ∙ c.step.ensures.to, c.link_of.ensures.link j c.step.ensures.step)
+    (c.of.ensures.from ∙ c.step.ensures.from, c.of.ensures.to ∙ c.step.ensures.to, c.of.ensures.link j c.step.ensures.step)
 
 pub derived_by_walk-requires : goal.derived_by_walk-requires
 derived_by_walk-requires c =
