@@ -3,7 +3,8 @@
 
     modules.py [--write]
 
-docs/MODULES.md has a row for each module but those of tests and benchmarks: its path in `src/`, and the first sentence of its `//!`.
+docs/MODULES.md has a row for each module but those of tests and benchmarks: its path in `src/`, and the first sentence of its `//!`;
+and above them what the crate stands on, as crates.txt has it.
 With `--write` the page is written anew. Without it a page that is another is one line, as `run.py` has it, which asks this too, and
 so is a module whose first sentence is missing, has more than 60 words, or is that of another one in its crate. The last line is
 `N passed, M failed`.
@@ -11,7 +12,7 @@ so is a module whose first sentence is missing, has more than 60 words, or is th
 import pathlib
 import re
 import sys
-from typing import Dict, Iterator, List, Tuple
+from typing import Dict, Iterator, List, Set, Tuple
 
 TOP = pathlib.Path(__file__).resolve().parent.parent.parent
 sys.path.insert(0, str(TOP / "tests"))
@@ -22,7 +23,8 @@ from crates import stands_on  # noqa: E402
 PAGE = TOP / "docs/MODULES.md"
 BEGINNING = """# Modules
 
-What each module of the crates is, as it says itself: `tests/docs/modules.py --write` writes this page from the sources. \
+What each module of the crates is, as it says itself, and what each crate stands on, beside what these stand on: \
+`tests/docs/modules.py --write` writes this page from the sources. \
 [ARCHITECTURE.md](ARCHITECTURE.md) says how the crates go together.
 """
 MOST_WORDS = 60
@@ -50,11 +52,28 @@ def modules() -> Iterator[Tuple[str, str, str]]:
                     yield crate, path.relative_to(source).as_posix()[:-3], sentence_of(path)
 
 
+def nearest(crate: str) -> List[str]:
+    """What a crate stands on by name, and not by another that it names."""
+    told = stands_on()
+
+    def below(one: str) -> Set[str]:
+        return set(told.get(one, [])).union(*(below(other) for other in told.get(one, [])))
+
+    return [one for one in told[crate] if not any(one in below(other) for other in told[crate])]
+
+
+def head_of(crate: str) -> str:
+    """What stands above the modules of a crate."""
+    below = nearest(crate)
+    told = "Stands on %s.\n\n" % ", ".join("`%s`" % one for one in below) if below else ""
+    return "\n## `%s`\n\n%s| module | what it is |\n|---|---|\n" % (crate, told)
+
+
 def page() -> str:
     crates: Dict[str, List[str]] = {}
     for crate, module, sentence in modules():
         crates.setdefault(crate, []).append("| `%s` | %s |\n" % (module, sentence.replace("|", "\\|")))
-    return BEGINNING + "".join("\n## `%s`\n\n| module | what it is |\n|---|---|\n%s" % (crate, "".join(rows)) for crate, rows in crates.items())
+    return BEGINNING + "".join(head_of(crate) + "".join(rows) for crate, rows in crates.items())
 
 
 def outcomes() -> Iterator[Outcome]:
