@@ -10,3 +10,4 @@ pub mod PriceLemmas
 pub mod PriceRows
 pub mod SettledCosts
 pub mod BackLemmas
+pub mod WorkedAmong
