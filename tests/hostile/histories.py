@@ -69,12 +69,36 @@ def never_written(writers: int, readers: int) -> Transactions:
     yield "z", ["r,x,0"]
 
 
-def crossed(sources: int, readers: int) -> Transactions:
-    """Source n writes the keys from n on, and readers read key n from source n: each reader has many sources with many keys."""
+def crossed(sources: int, readers: int, of_all: bool = False) -> Transactions:
+    """Source n writes the keys from n on, or all of them, and readers read key n from source n: each reader has many sources
+    with many keys."""
     for source in range(sources):
-        yield "s", ["w,k%d,%d" % (key, source + 1) for key in range(source, sources)]
+        yield "s", ["w,k%d,%d" % (key, source + 1) for key in range(0 if of_all else source, sources)]
     for n in range(readers):
         yield "r%d" % (n % 32), ["r,k%d,%d" % (key, key + 1) for key in range(sources)]
+
+
+def written_twice(transactions: int, sessions: int = 15, keys: int = 256) -> Transactions:
+    """Many keys, each written by two sessions, and each value read by others, any time later."""
+    picked, count = random.Random(1), transactions * keys
+    for value, writer, reader in ((1, "a", "c"), (2, "b", "d")):
+        for n in range(transactions):
+            yield "%s%d" % (writer, n % sessions), ["w,k%d,%d" % (n * keys + key, value) for key in range(keys)]
+        for n in range(transactions):
+            some = [picked.randrange(count) for _ in range(keys)]
+            yield "%s%d" % (reader, n % sessions), ["r,k%d,%d" % (key, value) for key in some]
+
+
+def overtaken(writers: int, readers: int, sources: int = 60, told: int = 136) -> Transactions:
+    """Sources write two keys each, which session b writes again and again; c knows what b did and reads the first values: so each
+    source stands behind what c has read of b, and is looked at again as each of that is placed."""
+    keys = ["x%d" % key for key in range(2 * sources)]
+    for n in range(sources):
+        yield "a%d" % n, ["w,%s,1" % key for key in keys[2 * n:2 * n + 2]]
+    for n in range(writers):
+        yield "b", ["w,%s,%d" % (key, n + 2) for key in keys] + ["w,y%d,%d" % (key, n + 1) for key in range(told)]
+    for n in range(readers):
+        yield "c", ["r,y%d,%d" % (key, n * writers // readers + 1) for key in range(told)] + ["r,%s,1" % key for key in keys]
 
 
 def written_by_many(sessions: int, reads: int, keys: str = "abcdefgh") -> Transactions:
@@ -89,8 +113,9 @@ def written_by_many(sessions: int, reads: int, keys: str = "abcdefgh") -> Transa
         yield "c", ["r,%s,1" % key for key in keys]
 
 
-def gathered(sessions: int, writes: int) -> Transactions:
-    """Many sessions write x once each, c knows of all of them, and then reads one write of x by session a after the other."""
+def gathered(sessions: int, writes: int, again: int = 0) -> Transactions:
+    """Many sessions write x once each, c knows of all of them, and then reads one write of x by session a after the other; and
+    at the end the first of them again, so many times."""
     for n in range(sessions):
         yield "b%d" % n, ["w,x,%d" % (n + 1), "w,seen%d,1" % n]
     yield from read_all("c", ["seen%d" % n for n in range(sessions)])
@@ -98,6 +123,8 @@ def gathered(sessions: int, writes: int) -> Transactions:
         yield "a", ["w,x,%d" % (sessions + n + 1)]
     for n in range(writes):
         yield "c", ["r,x,%d" % (sessions + n + 1)]
+    for _ in range(again):
+        yield "c", ["r,x,%d" % (sessions + 1)]
 
 
 def ring(links: int, copies: int, empty: int) -> Transactions:
@@ -117,6 +144,20 @@ def ring(links: int, copies: int, empty: int) -> Transactions:
     for copy in range(copies):
         yield "c", ["r,e%d,2" % copy]
     yield "c", ["r,end,1"]
+
+
+def walked(links: int, sessions: int) -> Transactions:
+    """Transactions stand in a ring, each before the next, since c read what each overwrites in turn; and what c knows of any of them
+    came to it through all sessions. So the answer has so many links, each with a walk of so many steps."""
+    for n in range(links):
+        yield "t%d" % n, ["w,x%d,%d" % (n, n + 1), "w,x%d,%d" % ((n - 1) % links, n + 1), "w,z%d,1" % n]
+    yield from read_all("u0", ["z%d" % n for n in range(links)])
+    yield "u0", ["w,p0,1"]
+    for n in range(1, sessions):
+        yield "u%d" % n, ["r,p%d,1" % (n - 1), "w,p%d,1" % n]
+    yield "c", ["r,p%d,1" % (sessions - 1)]
+    for n in reversed(range(links)):
+        yield "c", ["r,x%d,%d" % (n, (n + 1) % links + 1)]
 
 
 def stale_beside(stale: int, keys: int, empty: int) -> Transactions:
@@ -175,16 +216,21 @@ def ordinary(size: int) -> str:
 def hard() -> Iterator[Hard]:
     """The histories, at sizes of a second and less. At `atomic` who reads an old value by one pair alone isn't
     contradicted by what it knows by two."""
-    large, atomic = ["explain", "--large"], ["explain", "--large", "--level", "atomic"]
+    large, atomic, small = (["explain", *words] for words in (["--large"], ["--large", "--level", "atomic"], ["--level", "atomic"]))
     yield Hard("waiting", large, records_of(waiting(1365, 2729)), "consistent: 5471 transactions, 4095 sessions\n")
     yield Hard("overwritten", atomic, records_of(overwritten(30000, 30000)), "consistent: 60002 transactions, 3 sessions\n")
     yield Hard("never written", atomic, records_of(never_written(30000, 30000)), "consistent: 60002 transactions, 3 sessions\n")
     yield Hard("crossed", atomic, records_of(crossed(250, 400)), "consistent: 650 transactions, 33 sessions\n")
+    yield Hard("crossed, all keys", small, records_of(crossed(250, 800, of_all=True)), "anomaly: 3 steps, overwritten-read\n")
+    yield Hard("written twice", atomic, records_of(written_twice(320)), "consistent: 1280 transactions, 60 sessions\n")
+    yield Hard("overtaken", small, records_of(overtaken(800, 800)), "consistent: 1660 transactions, 62 sessions\n")
     yield Hard("written by many", large, records_of(written_by_many(4000, 8000)), "consistent: 24017 transactions, 4002 sessions\n")
     yield Hard("a key written by many", large, records_of(written_by_many(4000, 40000, "a")),
                "consistent: 56017 transactions, 4002 sessions\n")
     yield Hard("gathered", large, records_of(gathered(4000, 30000)), "consistent: 64016 transactions, 4002 sessions\n")
+    yield Hard("gathered, one stale", large, records_of(gathered(4000, 15000, again=1)), "anomaly: 4 steps, overwritten-read\n")
     yield Hard("ring", large, records_of(ring(1000, 64, 20000)), "anomaly: ")
     yield Hard("stale beside", large, records_of(stale_beside(64, 255, 40000)), "anomaly: 3 steps, ")
     yield Hard("circling", large, records_of(circling(4095, 100)), "anomaly: 2 steps, cyclic-causality\n")
+    yield Hard("circling at atomic", small, records_of(circling(4095, 100)), "anomaly: 2 steps, cyclic-causality\n")
     yield Hard("one stale among many", large, records_of(one_stale_among_many(60000, 4096)), "anomaly: 3 steps, overwritten-read\n")

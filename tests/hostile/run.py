@@ -5,9 +5,10 @@
 
 Values of one key that hash alike, and names of keys and sessions that do, may take no more than some times the processor
 time of as many others, and have the same answers; long records, and many faults, no more than some times their bytes of
-memory; and histories that have many of what some loop goes through (`histories.py`) no more than ten times the processor
-time of an ordinary one of as many bytes. The values and names are made by `alike.c`, which needs a C compiler on the path (`cc` or `clang`); where there is
-none it says so and has failed. Each difference is one line; the last line is `N passed, M failed`.
+memory, and a long answer no more than some times its own; and histories that have many of what some loop goes through
+(`histories.py`) no more than ten times the processor time of an ordinary one of as many bytes. The values and names are made by
+`alike.c`, which needs a C compiler on the path (`cc` or `clang`); where there is none it says so and has failed. Each difference
+is one line; the last line is `N passed, M failed`.
 """
 import itertools
 import os
@@ -22,7 +23,7 @@ TOP = HERE.parent.parent
 sys.path.insert(0, str(TOP / "tests"))
 from arguments import status_on_tcc  # noqa: E402
 from compared import first_difference, shown  # noqa: E402
-from histories import gathered, hard, ordinary, records_of  # noqa: E402
+from histories import gathered, hard, ordinary, records_of, walked  # noqa: E402
 
 WRITERS, WRITES = 400, 250
 KEYS, SESSIONS = 1024, 64
@@ -31,6 +32,8 @@ TIMES, BESIDE = 3, 0.5
 MEGABYTE, LONG = 1 << 20, 16
 # So many times the processor time of an ordinary history, and so many seconds beside it, may a hard one take.
 TIMES_ORDINARY, BESIDE_ORDINARY = 10, 1.5
+# So many bytes of memory may a long answer take for each of its own.
+BESIDE_ANSWER = 4
 # So much memory may there be beside what goes by the bytes of the records.
 SPARE = 24 << 20
 
@@ -124,9 +127,18 @@ def larger(tcc, words, records, status, begins, each):
     return "%d bytes of memory for %d bytes" % (most, size) if most > SPARE + each * size else None
 
 
+def longer(tcc):
+    """What is wrong with an answer of many long walks, as JSON, or with the memory that it took; None if nothing is."""
+    status, said, _, most = run(tcc, ["explain", "--large", "--json"], [records_of(walked(700, 700)).encode()])
+    if status != 1 or len(said) < LONG << 20:
+        return "status %d, %d bytes of standard output" % (status, len(said))
+    return "%d bytes of memory for an answer of %d" % (most, len(said)) if most > SPARE + BESIDE_ANSWER * len(said) else None
+
+
 def harder(tcc, one):
     """What is wrong with the answer for a hard history, or with its time beside that of an ordinary one; None if nothing is."""
-    _, _, usual, _ = run(tcc, one.words, [ordinary(len(one.records)).encode()])
+    # an ordinary one of as many bytes has more transactions, so it may be past the small limits
+    _, _, usual, _ = run(tcc, [*one.words, *([] if "--large" in one.words else ["--large"])], [ordinary(len(one.records)).encode()])
     got, said, took, _ = run(tcc, one.words, [one.records.encode()])
     if got != (0 if one.begins.startswith("consistent") else 1) or not said.startswith(one.begins.encode()):
         return "status %d, standard output %s" % (got, shown(said[:200]))
@@ -138,6 +150,7 @@ def outcomes(tcc):
     """Each test, with what is wrong, or None."""
     for name, *large in LARGE:
         yield name, larger(tcc, *large)
+    yield "long walks as JSON", longer(tcc)
     for one in hard():
         yield one.name, harder(tcc, one)
     compiler = shutil.which("cc") or shutil.which("clang")
