@@ -37,7 +37,7 @@ from tcc.answers import Link, cycle_of, usual_name
 from tcc.contradicted import Contradicted, Fault, Survey, surveyed
 from tcc.notes import NoNotes, Note, read_notes
 from tcc.program import NoAnswer, Program
-from tcc.progress import INTERRUPTED, Doing
+from tcc.progress import INTERRUPTED, Doing, status_of
 from tcc.rows import History, Json, Operation, Transaction, Unfit, history_of, read_places
 from tcc.words import count
 
@@ -61,7 +61,7 @@ EXAMPLE = """example: session a doesn't see its own write, and b sees one write 
   fractured read: 1
   read your writes: 1
 """
-UNRESOLVED = 2
+UNRESOLVED, UNREAD = 2, 6
 MOST = 10
 
 
@@ -277,18 +277,8 @@ def run(asked: argparse.Namespace, doing: Doing, out: TextIO) -> int:
 def main() -> int:
     asked = arguments()
     gc.disable()  # nothing here is held in a circle, and of millions of operations the collector takes a third of the time
-    try:
-        with Doing("reads the records") as doing:
-            return run(asked, doing, sys.stdout)
-    except KeyboardInterrupt:
-        print("all.py: interrupted while it read the records", file=sys.stderr)
-        return INTERRUPTED
-    except NoAnswer as error:
-        print("all.py: %s" % error, file=sys.stderr)
-        return error.status
-    except (Unfit, NoNotes, OSError, csv.Error, ValueError) as error:
-        print("all.py: %s" % error, file=sys.stderr)
-        return 6
+    return status_of("all.py", "reads the records", lambda doing: run(asked, doing, sys.stdout), "interrupted while it read the records",
+                     (NoAnswer, Unfit, NoNotes, OSError, csv.Error, ValueError), UNREAD)
 
 
 if __name__ == "__main__":

@@ -17,7 +17,7 @@ from collections import Counter
 from dataclasses import dataclass, field
 from typing import Any, Counter as Count, Iterator, List, TextIO
 
-from tcc.progress import INTERRUPTED, Doing
+from tcc.progress import Doing, status_of
 from tcc.rows import Json
 
 EXAMPLE = """example:
@@ -215,16 +215,8 @@ def run(asked: argparse.Namespace, doing: Doing, out: TextIO) -> None:
 
 def main() -> int:
     asked = arguments()
-    try:
-        with Doing("reads EDN") as doing:
-            run(asked, doing, sys.stdout)
-    except KeyboardInterrupt:
-        print("edn.py: interrupted: the lines aren't all there", file=sys.stderr)
-        return INTERRUPTED
-    except (NoEdn, OSError, ValueError, RecursionError) as error:
-        print("edn.py: %s" % error, file=sys.stderr)
-        return 1
-    return 0
+    return status_of("edn.py", "reads EDN", lambda doing: run(asked, doing, sys.stdout), "interrupted: the lines aren't all there",
+                     (NoEdn, OSError, ValueError, RecursionError))
 
 
 if __name__ == "__main__":

@@ -28,7 +28,7 @@ from typing import Dict, Iterable, Iterator, List, Optional, TextIO, Tuple
 
 from tcc.answers import (Link, anomaly_head, columns, cycle_of, key, label, order_head, place, read_answer, sentences,
                      transactions_of)
-from tcc.progress import INTERRUPTED, Doing
+from tcc.progress import Doing, status_of
 from tcc.rows import History, Json, Operation, Transaction, Unfit, open_records, read_history, read_places
 
 EXAMPLE = """example: draw the anomaly of a history, then show the records that it speaks of
@@ -333,16 +333,8 @@ def run(asked: argparse.Namespace, doing: Doing, out: TextIO) -> None:
 
 def main() -> int:
     asked = arguments()
-    try:
-        with Doing("reads the answer") as doing:
-            run(asked, doing, sys.stdout)
-    except KeyboardInterrupt:
-        print("picture.py: interrupted: nothing was printed", file=sys.stderr)
-        return INTERRUPTED
-    except (Unfit, OSError, ValueError, csv.Error) as error:
-        print("picture.py: %s" % error, file=sys.stderr)
-        return 1
-    return 0
+    return status_of("picture.py", "reads the answer", lambda doing: run(asked, doing, sys.stdout), "interrupted: nothing was printed",
+                     (Unfit, OSError, ValueError, csv.Error))
 
 
 if __name__ == "__main__":

@@ -2,7 +2,7 @@
 import sys
 import threading
 import time
-from typing import Optional, TextIO
+from typing import Callable, Optional, TextIO, Tuple, Type
 
 INTERRUPTED = 130  # the status of a script that was interrupted
 AFTER = 2.0
@@ -53,3 +53,18 @@ class Doing:
                     self.out.write("\r\x1b[K%s, %d s" % (self.what, time.monotonic() - self.begun))
                     self.out.flush()
                     self.shown = True
+
+
+def status_of(script: str, what: str, work: Callable[[Doing], Optional[int]], interrupted: str, faults: Tuple[Type[Exception], ...],
+              status: int = 1) -> int:
+    """Does the work of a script, and gives its status. What ends it too soon is said on standard error: that somebody interrupted
+    it, and what there is by then; or one of the faults, which may have a status of its own."""
+    try:
+        with Doing(what) as doing:
+            return work(doing) or 0
+    except KeyboardInterrupt:
+        print("%s: %s" % (script, interrupted), file=sys.stderr)
+        return INTERRUPTED
+    except faults as error:
+        print("%s: %s" % (script, error), file=sys.stderr)
+        return getattr(error, "status", status)

@@ -34,7 +34,7 @@ from tcc.operations import Untold
 from tcc.page import counts, facts, page, text
 from tcc.places import table
 from tcc.program import NoAnswer, Program, last_answer
-from tcc.progress import INTERRUPTED, Doing
+from tcc.progress import Doing, status_of
 from tcc.rows import History, Json, Unfit, open_records, read_history
 
 EXAMPLE = """example: one page of the history that Jepsen left
@@ -613,26 +613,20 @@ def run(asked: argparse.Namespace, doing: Doing, folder: str) -> int:
     return STATUSES[told.verdict]
 
 
+def run_in_a_folder(asked: argparse.Namespace, doing: Doing) -> int:
+    """In the folder that is to be kept, or else in one that goes."""
+    if asked.keep:
+        os.makedirs(asked.keep, exist_ok=True)
+        return run(asked, doing, asked.keep)
+    with tempfile.TemporaryDirectory() as folder:
+        return run(asked, doing, folder)
+
+
 def main() -> int:
     asked = arguments()
     gc.disable()  # nothing here is held in a circle, and of millions of operations the collector takes a third of the time
-    try:
-        with Doing("reads the history") as doing:
-            if asked.keep:
-                os.makedirs(asked.keep, exist_ok=True)
-                return run(asked, doing, asked.keep)
-            with tempfile.TemporaryDirectory() as folder:
-                return run(asked, doing, folder)
-    except KeyboardInterrupt:
-        print("report.py: interrupted: no page was written", file=sys.stderr)
-        return INTERRUPTED
-    except NoAnswer as error:
-        print("report.py: %s" % error, file=sys.stderr)
-        return error.status
-    except (Untold, Unfit, NoNotes, OSError, ValueError) as error:
-        print("report.py: %s" % error, file=sys.stderr)
-        return NOT_READ
-    return 0
+    return status_of("report.py", "reads the history", lambda doing: run_in_a_folder(asked, doing), "interrupted: no page was written",
+                     (NoAnswer, Untold, Unfit, NoNotes, OSError, ValueError), NOT_READ)
 
 
 if __name__ == "__main__":
