@@ -1,5 +1,5 @@
 -- Parts of a cycle that lead back, the first of them, and that a least cycle has none but itself.
-use Rattle.std.proofs.Common.{ℕ, zero, suc, ◌+◌, ◌-◌, ◌<◌, ◌≤◌, ◌≡◌, ◌≢◌, ◌⊎◌, inl, inr, List, [], ◌∷◌, ◌++◌, length, get_or, take, drop, set, map, refl, sym, ap, subst, ◌∙◌, arith}
+use Rattle.std.proofs.Common.{ℕ, zero, suc, ◌+◌, ◌-◌, ◌<◌, ◌≤◌, ◌≡◌, ◌≢◌, ◌⊎◌, inl, inr, List, [], ◌∷◌, length, get_or, take, drop, set, map, refl, sym, ap, subst, ◌∙◌, arith}
 use Rattle.std.specs.Prelude.{slice_index}
 use Rattle.std.proofs.lemmas.Bool.{cases_lt, cases_eq}
 use Rattle.std.proofs.lemmas.List.{get_or-set_same, get_or-set_other, get_or-drop, get_or-take, take-map, drop-map, take-append-drop, length-take-le, length-drop, length-set, get_or-map}
@@ -233,8 +233,3 @@ module _ (n : ℕ) (links : List Link) (positions : List ℕ) (m : ℕ) (closed 
       less,
     );
   }
-
--- the last leads back at the latest
-pub all_passed : (n : ℕ) (links : List Link) (positions : List ℕ) → IsClosed n links → ArePassed n links positions (length links) → ⊥
-all_passed n links positions closed w =
-    omega (arith, w.ahead closed.some, w.kept 0 closed.some, ap (λ z. slice_index positions z) closed.closed)

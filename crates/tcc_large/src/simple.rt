@@ -7,7 +7,6 @@ ghost use Rattle.tcc_large.specs.Cycles.{AreCycle, IsSimple};
 ghost use Rattle.tcc_large.specs.private.Returning.{IsClosed, IsFirstReturn};
 
 use crate::cells::Cells;
-use crate::judging::ends;
 use std::alloc::Global;
 use tcc_graph::Link;
 use tcc_txn::NoMemory;
@@ -19,9 +18,9 @@ fn first_return(alloc: Global, count: u32, links: &[Link]) -> Result<(usize, usi
 {
     let mut positions = Cells::new(alloc, count as usize, 0)?;
     for (index, link) in links.iter().enumerate() {
-        let (from, to) = ends(link);
-        positions.set(from, index as u32 + 1);
-        let before = positions.get(to);
+        let (start, end) = (link.from(), link.to());
+        positions.set(start, index as u32 + 1);
+        let before = positions.get(end);
         if before > 0 {
             return Ok((before as usize - 1, index + 1));
         }

@@ -1,7 +1,7 @@
-use Rattle.std.proofs.Common.{◌≡◌, ◌+◌, ◌-◌, ◌<◌, ℕ, List, set, sym, ap, subst, ◌∙◌, arith}
+use Rattle.std.proofs.Common.{◌≡◌, ◌+◌, ◌-◌, ℕ, List, set, sym, subst, ◌∙◌, arith}
 use Rattle.std.specs.Prelude.{slice_index}
 use Rattle.tcc_large.specs.private.Returning.{start_at, end_at, IsFirstReturn}
-use Rattle.tcc_large.proofs.Returned.{ArePassed, start_is, end_is, passed_room, passed_more, passed_back, all_passed}
+use Rattle.tcc_large.proofs.Returned.{ArePassed, start_is, end_is, passed_room, passed_more, passed_back}
 use Rattle.tcc_large.proofs.simple.first_return.Goals as goal
 
 pub overflow_cast-index : goal.overflow_cast-index
@@ -25,8 +25,8 @@ returns-then-before-gt0 c =
     let links = c.args.links.now in
     let old = c.loop-index.positions in
     let m : ℕ = c.loop-index.index in
-    let from : c.ends-from.result.0 ≡ start_at links m = c.ends-from.ensures.from ∙ start_is links c.index-links-index.result m c.loop-index-test.true c.index-links-index.is in
-    let to : c.ends-from.result.1 ≡ end_at links m = c.ends-from.ensures.to ∙ end_is links c.index-links-index.result m c.loop-index-test.true c.index-links-index.is in
+    let from : c.from-start.result ≡ start_at links m = c.from-start.ensures ∙ start_is links c.index-links-index.result m c.loop-index-test.true c.index-links-index.is in
+    let to : c.to-end.result ≡ end_at links m = c.to-end.ensures ∙ end_is links c.index-links-index.result m c.loop-index-test.true c.index-links-index.is in
     let before : c.get-before.result ≡ slice_index (set old (start_at links m) (m + 1)) (end_at links m) = rw (← from, ← to) (cc) in
     subst (λ (z : ℕ). IsFirstReturn links (z - 1) (m + 1)) (sym before)
     (passed_back c.args.count links old m c.requires c.loop-index.invariant c.loop-index-test.true (omega (arith, before, c.if-before-gt0.true)))
@@ -36,8 +36,8 @@ loop-index-preserved c =
     let links = c.args.links.now in
     let old = c.loop-index.positions in
     let m : ℕ = c.loop-index.index in
-    let from : c.ends-from.result.0 ≡ start_at links m = c.ends-from.ensures.from ∙ start_is links c.index-links-index.result m c.loop-index-test.true c.index-links-index.is in
-    let to : c.ends-from.result.1 ≡ end_at links m = c.ends-from.ensures.to ∙ end_is links c.index-links-index.result m c.loop-index-test.true c.index-links-index.is in
+    let from : c.from-start.result ≡ start_at links m = c.from-start.ensures ∙ start_is links c.index-links-index.result m c.loop-index-test.true c.index-links-index.is in
+    let to : c.to-end.result ≡ end_at links m = c.to-end.ensures ∙ end_is links c.index-links-index.result m c.loop-index-test.true c.index-links-index.is in
     let before : c.get-before.result ≡ slice_index (set old (start_at links m) (m + 1)) (end_at links m) = rw (← from, ← to) (cc) in
     let new : c.set.new.self ≡ set old (start_at links m) (m + 1) = rw (← from) (cc) in
     subst (λ (z : List ℕ). ArePassed c.args.count links z (m + 1)) (sym new)
