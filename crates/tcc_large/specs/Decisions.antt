@@ -5,16 +5,16 @@ use Rattle.tcc_graph.specs.Links.{cost}
 use Rattle.tcc_graph.specs.Orders.{IsFirstOrder}
 use Rattle.tcc_graph.specs.declared.link.Link.{Link}
 use Rattle.tcc_least.specs.Shapes.{AreLeast, NoneBelow}
-use Rattle.tcc_large.specs.Cycles.{AreCycle}
+use Rattle.tcc_large.specs.Cycles.{AreCycle, IsSimple}
 use Rattle.tcc_large.specs.declared.decision.Decision.{Decision}
 use Rattle.tcc_large.specs.declared.decision.Decision.TheVariants as decision
 
--- the first commit order; or the links of a least cycle; or those of a cycle that costs more than four steps, and then none
--- costs less than four
+-- the first commit order; or the links of a least cycle, which passes no transaction twice by the law `least`; or those of a cycle that
+-- costs more than four steps and passes none twice, and then none costs less than four
 abbrev pub IsDecision : Judged → Decision → Type 0
 IsDecision j (decision.Order order) = IsFirstOrder j order.items
 IsDecision j (decision.Least links) = AreLeast j links.items
-IsDecision j (decision.Cycle links) = AreCycle j links.items × (4 < cost links.items) × NoneBelow j 4
+IsDecision j (decision.Cycle links) = AreCycle j links.items × (4 < cost links.items) × NoneBelow j 4 × IsSimple links.items
 
 -- the links of a decision for a cycle; and that it has none
 abbrev pub HasLinks : Decision → List Link → Type 0

@@ -3,3 +3,4 @@ pub mod Carrying
 pub mod Needing
 pub mod Reaching
 pub mod Retracing
+pub mod Returning

@@ -10,7 +10,9 @@ ghost use Rattle.tcc_order.specs.Placements.{IsPlacement, IsStuck};
 use crate::decision::Decision;
 use crate::finding::found_cycle;
 use crate::judging::is_cycle;
+use crate::lining::order_to_judge;
 use crate::retracing::cycle_of;
+use crate::simple::simple_cycle;
 use std::alloc::Global;
 use tcc_graph::{LargeGraph, Level, Link};
 use tcc_least::least_short;
@@ -50,8 +52,8 @@ fn any_cycle(
     cycle_of(alloc, graph, level, stuck)
 }
 
-/// What is decided of a history in which an order stops: a cycle of three steps at most where there is one; else another, which is
-/// a least one where it costs four steps.
+/// What is decided of a history in which an order stops: a cycle of three steps at most where there is one; else another that passes
+/// no transaction twice, which is a least one where it costs four steps.
 fn by_cycle(
     alloc: Global,
     graph: &LargeGraph,
@@ -64,7 +66,8 @@ fn by_cycle(
     if let Some(least) = least_short(alloc, graph, 4)? {
         return Ok(Decision::Least(least));
     }
-    let links = any_cycle(alloc, graph, level, stuck)?;
+    let any = any_cycle(alloc, graph, level, stuck)?;
+    let links = simple_cycle(alloc, graph.count(), any)?;
     if steps_of(&links)? <= 4 {
         Ok(Decision::Least(links))
     } else {
@@ -72,8 +75,30 @@ fn by_cycle(
     }
 }
 
+/// What is decided of a history at a level, as `decide` does; and where it is a cycle of more than four steps, an order of all
+/// transactions to judge by whether it is a least one.
+pub(crate) fn decide_with_order(
+    alloc: Global,
+    graph: &LargeGraph,
+    level: Level,
+) -> Result<(Decision, Option<Vec<u32>>), NoMemory>
+    ensures { IfOk result (λ found. IsDecision (judged graph.now level) found.0) }
+{
+    match place(alloc, graph, level)? {
+        Placement::Order(order) => Ok((Decision::Order(order), None)),
+        Placement::Stuck(stuck) => {
+            let decision = by_cycle(alloc, graph, level, &stuck)?;
+            let order = match &decision {
+                Decision::Cycle(_) => order_to_judge(alloc, graph, &stuck)?,
+                Decision::Order(_) | Decision::Least(_) => None,
+            };
+            Ok((decision, order))
+        }
+    }
+}
+
 /// The first commit order of a history at a level; or the links of a cycle: of a least one where it costs four steps at most, and
-/// always where some cycle costs three at most.
+/// always where some cycle costs three at most. It passes no transaction twice.
 pub fn decide(alloc: Global, graph: &LargeGraph, level: Level) -> Result<Decision, NoMemory>
     ensures { IfOk result (IsDecision (judged graph.now level)) }
 {

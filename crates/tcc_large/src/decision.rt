@@ -8,7 +8,8 @@ pub enum Decision {
     Order(Vec<u32>),
     /// The links of a least cycle, in order.
     Least(Vec<Link>),
-    /// The links of a cycle that costs more than four steps, in order, where none costs less than four.
+    /// The links of a cycle that costs more than four steps and passes no transaction twice, in order, where none costs less than
+    /// four.
     Cycle(Vec<Link>),
 }
 

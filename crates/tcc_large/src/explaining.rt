@@ -4,7 +4,7 @@ ghost use Rattle.tcc_reads.specs.Refusals.{IsRefusal};
 ghost use Rattle.tcc_large.specs.Explained.{IsLargeAnswer};
 
 use crate::answer::LargeAnswer;
-use crate::deciding::decide;
+use crate::deciding::{decide, decide_with_order};
 use std::alloc::Global;
 use tcc_graph::{LargeGraph, Level};
 use tcc_reads::{ResolveFault, resolve_large};
@@ -25,6 +25,25 @@ pub fn explain_large(
     };
     match decide(alloc, &graph, level) {
         Ok(decision) => Ok(LargeAnswer { graph, decision }),
+        Err(_) => Err(ResolveFault::NoMemory),
+    }
+}
+
+/// As `explain_large`; and where the links are a cycle of more than four steps, an order of all transactions to judge by whether it is a
+/// least one. It begins with `init` and keeps all pairs; there is none where pairs have a circle. Nobody has to trust it.
+pub fn explain_large_with_order(
+    alloc: Global,
+    snapshot: &LargeSnapshot,
+    level: Level,
+) -> Result<(LargeAnswer, Option<Vec<u32>>), ResolveFault>
+    ensures { MatchResult result (λ found. IsLargeAnswer snapshot.now level found.0) (IsRefusal snapshot.now) }
+{
+    let resolved = resolve_large(alloc, snapshot)?;
+    let Ok(graph) = LargeGraph::build(alloc, resolved) else {
+        return Err(ResolveFault::NoMemory);
+    };
+    match decide_with_order(alloc, &graph, level) {
+        Ok((decision, order)) => Ok((LargeAnswer { graph, decision }, order)),
         Err(_) => Err(ResolveFault::NoMemory),
     }
 }

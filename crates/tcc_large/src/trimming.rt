@@ -42,6 +42,11 @@ impl<'a> Trimmed<'a> {
         self.relation.pairs()
     }
 
+    /// Of each transaction 1 where it is marked, else 0.
+    pub(crate) fn marks(&self) -> &Cells {
+        &self.marked
+    }
+
     /// Whether a transaction is marked.
     pub(crate) fn has(&self, number: u32) -> bool {
         self.marked.get(number) != 0
