@@ -3,8 +3,11 @@ from definitions import INIT, stands_before
 from texts import Fault, lowest, read
 
 STATUS = {"accepted": 0, "rejected": 7, "certificate": 8}
-# Up to this cost it is judged that no cycle costs less.
+# Up to this cost it is judged without an order that no cycle costs less, and up to the next one with it.
 MOST_JUDGED = 4
+MOST_STEPS = 64
+# So many transactions may be spanned, and so many keys have a derived link into `init`.
+MOST_MEMBERS = 4096
 
 
 def ends(link):
@@ -127,7 +130,21 @@ def large_cycle_rules(history, said):
     yield 3, first_of((a, c) for a, c in history.read_pairs() if cost in (3, 4) and is_round(history, cost, a, c))
     yield 4, first_of((b, a) for b, a, c in history.contradictions()
                       if cost == 4 and history.is_pair(b, c) and history.is_pair(a, b))
-    yield 6, None if cost <= MOST_JUDGED else (0, 0)
+    if cost > MOST_JUDGED:
+        order = told(history, least)
+        yield 5, first_of((a, c) for a, c in history.read_pairs() if not stands_before(order, a, c))
+        yield 6, None if is_bounded(history, order, cost) else (0, 0)
+    yield 7, (0, 0) if history.least_cost(said["level"]) < cost else None
+
+
+def is_bounded(history, order, cost):
+    """Whether the cost, the transactions over which a derived link leads back in the order, and the keys by which one leads into
+    `init` are within their limits, all at `causal`."""
+    walks = history.walks("causal")
+    reasons = [(b, a, key) for b, a, key, c in history.contradicted_by_key() if (b, c) in walks]
+    spanned = {v for b, a, _ in reasons if a != INIT for v in order
+               if not stands_before(order, v, a) and not stands_before(order, b, v)}
+    return cost <= MOST_STEPS and len(spanned) <= MOST_MEMBERS and len({key for _, a, key in reasons if a == INIT}) <= MOST_MEMBERS
 
 
 def is_round(history, cost, a, c):

@@ -56,7 +56,7 @@ module _ (next clock : List ℕ) (i least : ℕ) where
 
 -- ---- what a clock tells
 -- an earlier one of the session reaches what a later one does
-reaches_too : (h : History) → IsBySession h.entries → (b d c : ℕ) → 0 < b → b ≤ d → d < count h → owner h b ≡ owner h d → IsReached h d c → IsReached h b c
+pub reaches_too : (h : History) → IsBySession h.entries → (b d c : ℕ) → 0 < b → b ≤ d → d < count h → owner h b ≡ owner h d → IsReached h d c → IsReached h b c
 reaches_too h numbered b d c some low below same reached = go (cases_order b d)
   where
     go : (b ≡ d) ⊎ ((b < d) ⊎ (d < b)) → IsReached h b c
@@ -243,7 +243,7 @@ IsBrokenPast h order from = (at : ℕ × ℕ) → BreaksAxiom (causally h) order
 
 module _ (h : History) (numbered : IsBySession h.entries) (order : List ℕ) (onward : LeadsOnward h order) where
   -- `init` stands before all others
-  never_init : (at : ℕ × ℕ) → BreaksAxiom (causally h) order at → 0 < at.0
+  pub never_init : (at : ℕ × ℕ) → BreaksAxiom (causally h) order at → 0 < at.0
   never_init at (x, c, walk, reason, apart) = go (cases_eq at.0 0)
     where
       go : (at.0 ≡ 0) ⊎ (at.0 ≢ 0) → 0 < at.0

@@ -1,13 +1,12 @@
 -- What the rules on a claim of a cycle mean.
-use Rattle.std.proofs.Common.{arith}
+use Rattle.std.proofs.Common.{List, arith}
 use Rattle.tcc_reads.specs.History.{History}
 use Rattle.tcc_graph.specs.Levels.{judged}
 use Rattle.tcc_graph.specs.Routes.{IsCycle, IsLeastCycle}
 use Rattle.tcc_cert.specs.CycleRules.{ends_at}
 use Rattle.tcc_cert.specs.declared.large.LinksClaim.{LinksClaim}
+use Rattle.tcc_cert.specs.declared.large.Run.{Run}
 use Rattle.tcc_check.proofs.RightLinks.{cycle_of_right}
-use Rattle.tcc_least.specs.Shapes.{NoneBelow}
-use Rattle.tcc_least.proofs.Shapes.{none_below}
 use Rattle.tcc_judge.specs.Cycles.{IsRightCycle}
 use Rattle.tcc_judge.specs.Verdicts.{AllHold, least_rules}
 
@@ -15,13 +14,8 @@ module _ (h : History) (k : LinksClaim) (good : IsRightCycle h k) where
   pub right_cycle : IsCycle (judged h k.level) (ends_at 0 k.links) k.links
   right_cycle = cycle_of_right (judged h k.level) k.cost k.links good
 
-  pub least_cycle : AllHold (least_rules h k.cost) → IsLeastCycle (judged h k.level) (ends_at 0 k.links) k.links
-  least_cycle (rounds, (returns, (low, rest))) = record {
+  pub least_cycle : (runs : List Run) → AllHold (least_rules h k.level k.cost runs) → IsLeastCycle (judged h k.level) (ends_at 0 k.links) k.links
+  least_cycle runs (rounds, (returns, (onward, (limits, (none, rest))))) = record {
     cycle = right_cycle;
     least = λ t others cycle. omega (arith, none t others cycle, good.costs);
   }
-    where
-      none : NoneBelow (judged h k.level) k.cost
-      none =
-          none_below (judged h k.level) k.cost low (λ a c round. rounds (a, c) (low, round))
-          (λ four b a return. returns (b, a) (omega (arith, four, low), return))

@@ -5,6 +5,8 @@ pub mod HeldLemmas
 pub mod NextLemmas
 pub mod FoundLemmas
 pub mod BehindLemmas
+pub mod ContradictedLemmas
+pub mod MemberLemmas
 pub mod Firsts
 pub mod Laid
 pub mod Told
@@ -14,3 +16,5 @@ pub mod Cycled
 pub mod Certified
 pub mod Followed
 pub mod Own
+pub mod Cheaper
+pub mod Leastness

@@ -14,7 +14,7 @@ use Rattle.tcc_cert.specs.declared.large.Run.{Run}
 use Rattle.tcc_cert.proofs.OwnLinks.{cycle_right, links_within}
 use Rattle.tcc_least.proofs.Shapes.{below_none}
 use Rattle.tcc_judge.specs.Claims.{links_claim_of, cycle_claim_of, short_claim_of}
-use Rattle.tcc_judge.specs.Cycles.{IsCycleFault, IsRightCycle, BreaksRound, BreaksReturn}
+use Rattle.tcc_judge.specs.Cycles.{IsCycleFault, IsRightCycle, BreaksOnward, BreaksRound, BreaksReturn}
 use Rattle.tcc_judge.specs.Verdicts.{AllHold, Asked, IsFirstBroken, IsVerdictOf, cycle_rules, least_rules_of, rules_of}
 use Rattle.tcc_judge.specs.declared.verdict.Rule.{Rule}
 use Rattle.tcc_judge.specs.declared.verdict.Verdict.{Verdict}
@@ -42,13 +42,16 @@ cycle_apart : (h : History) (k : LinksClaim) (at : ℕ × ℕ) → IsCycleFault 
 cycle_apart h k at (inl wrong) right = right.right at.0 wrong.0
 cycle_apart h k at (inr sum) right = sum.1.1 right
 
-least_apart : (h : History) (most : ℕ) (least : Option (List Run)) → AreApart (least_rules_of h most least)
-least_apart h most None = tt
-least_apart h most (Some runs) = (first_apart (BreaksRound h most), (first_apart (BreaksReturn h most), ((λ at broken. broken.1), tt)))
+least_apart : (h : History) (level : Level) (most : ℕ) (least : Option (List Run)) → AreApart (least_rules_of h level most least)
+least_apart h level most None = tt
+least_apart h level most (Some runs) = (
+  first_apart (BreaksRound h most),
+  (first_apart (BreaksReturn h most), (first_apart (BreaksOnward h most runs), ((λ at broken. broken.1), ((λ at broken. broken.1), tt)))),
+)
 
 rules_apart : (h : History) (claim : LargeCertificate) → AreApart (rules_of h claim)
 rules_apart h (certificate.Order k) = ((λ at broken. broken.1), ((λ at first none. none at first.here), ((λ at first none. none at first.here), tt)))
-rules_apart h (certificate.Cycle k) = ((λ at broken. broken.1), (cycle_apart h k, least_apart h k.cost k.least))
+rules_apart h (certificate.Cycle k) = ((λ at broken. broken.1), (cycle_apart h k, least_apart h k.level k.cost k.least))
 
 pub kept_accepted : (h : History) (claim : LargeCertificate) → AllHold (rules_of h claim) → (said : Verdict) → IsVerdictOf (rules_of h claim) said
     → said ≡ verdict.Accepted
@@ -79,7 +82,7 @@ module _ (h : History) (level : Level) (s : ℕ) (links : List Link) where
         (
           (λ at broken. below_none (judged h level) (cost links) (inr (omega (arith, broken.0), (at.0, at.1, broken.1)))
               (λ t others cycle. least.least t others cycle)),
-          (low, tt),
+          ((λ at broken. absurd (omega (arith, broken.0, low))), ((λ more. absurd (omega (arith, more, low))), ((λ t others cycle. least.least t others cycle), tt))),
         ),
       ),
     ),

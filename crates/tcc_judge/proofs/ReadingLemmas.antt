@@ -46,3 +46,15 @@ module _ (h : History) (a : ℕ) (readers key_indices : List ℕ) (are : AreRead
       go : (k : ℕ) × (k < length (keys h)) × (key_at h k ≡ x)
           → (i : ℕ) × (i < length readers) × (get_or readers i 0 ≡ c) × (key_at h (get_or key_indices i 0) ≡ x)
       go (k, l, is) = by k is ((are.each c k).1 (l, subst (λ (y : List ℕ). IsReadsPair h a c y) (sym is) pair))
+
+  -- so by the index of its key
+  pub reading_index : (c k : ℕ) → k < length (keys h) → IsReadsPair h a c (key_at h k)
+      → (i : ℕ) × (i < length readers) × (get_or readers i 0 ≡ c) × (get_or key_indices i 0 ≡ k)
+  reading_index c k low pair = go ((are.each c k).1 (low, pair))
+    where
+      go : Contains (zip readers key_indices) (c, k) → (i : ℕ) × (i < length readers) × (get_or readers i 0 ≡ c) × (get_or key_indices i 0 ≡ k)
+      go (i, l, e) =
+          let inside : i < length readers = omega (arith, l, zip-long readers key_indices are.long) in
+          let at = zip_at readers key_indices i 0 0 are.long inside in
+          let both = sym at ∙ (get_or_default (zip readers key_indices) i (0, 0) (c, k) l ∙ e) in
+          (i, inside, ap (λ (p : ℕ × ℕ). p.0) both, ap (λ (p : ℕ × ℕ). p.1) both)

@@ -6,7 +6,8 @@ use Rattle.tcc_cert.specs.CycleRules.{AreLinksRight, IsLinkBelow, IsLinksFault}
 use Rattle.tcc_cert.specs.declared.large.LinksClaim.{LinksClaim}
 use Rattle.tcc_cert.specs.declared.large.Run.{Run}
 use Rattle.tcc_least.specs.Shapes.{IsRound, IsReturn}
-use Rattle.tcc_judge.specs.Runs.{AreWhole}
+use Rattle.tcc_judge.specs.Orders.{BreaksPair}
+use Rattle.tcc_judge.specs.Runs.{AreWhole, order_of}
 
 -- the links, one at least, are a cycle of the cost that is claimed
 abbrev pub IsRightCycle : History → LinksClaim → Type 0
@@ -34,3 +35,7 @@ BreaksRound h most at = (most ≤ 4) × IsRound h most at.0 at.1
 -- where the cost is 4: a derived link of two steps with a pair back
 abbrev pub BreaksReturn : History → ℕ → ℕ × ℕ → Type 0
 BreaksReturn h most at = (most ≡ 4) × IsReturn h at.0 at.1
+
+-- past a cost of 4: c reads from a, and a does not stand before it in the order that the runs tell
+abbrev pub BreaksOnward : History → ℕ → List Run → ℕ × ℕ → Type 0
+BreaksOnward h most runs at = (4 < most) × BreaksPair h (order_of h runs) at

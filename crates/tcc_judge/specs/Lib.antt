@@ -1,4 +1,5 @@
 pub mod Runs
+pub mod Spanned
 pub mod Orders
 pub mod Cycles
 pub mod Claims

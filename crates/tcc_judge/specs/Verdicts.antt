@@ -1,19 +1,22 @@
 -- What is answered of a claim: it is accepted, or the first rule that is broken and where it is first.
-use Rattle.std.specs.Prelude.{ℕ, ◌≡◌, ◌≤◌, ◌⊎◌, List, [], ◌∷◌, Option, None, Some, length}
+use Rattle.std.specs.Prelude.{ℕ, ◌≡◌, ◌<◌, ◌⊎◌, List, [], ◌∷◌, Option, None, Some, length}
 use Rattle.tcc_reads.specs.History.{History, count}
 use Rattle.tcc_graph.specs.Levels.{Judged, judged}
+use Rattle.tcc_graph.specs.declared.level.Level.{Level}
+use Rattle.tcc_least.specs.Shapes.{NoneBelow}
 use Rattle.tcc_cert.specs.Tables.{IsFirstAt}
 use Rattle.tcc_cert.specs.Rules.{HoldsEverywhere}
 use Rattle.tcc_cert.specs.declared.large.LargeCertificate.{LargeCertificate}
 use Rattle.tcc_cert.specs.declared.large.LargeCertificate.TheVariants as certificate
 use Rattle.tcc_cert.specs.declared.large.RunsClaim.{RunsClaim}
 use Rattle.tcc_cert.specs.declared.large.LinksClaim.{LinksClaim}
-use Rattle.tcc_judge.specs.Cycles.{HasLinksSizes, IsRightCycle, IsCycleFault, BreaksRound, BreaksReturn}
+use Rattle.tcc_judge.specs.Cycles.{HasLinksSizes, IsRightCycle, IsCycleFault, BreaksRound, BreaksReturn, BreaksOnward}
 use Rattle.tcc_cert.specs.declared.large.Run.{Run}
 use Rattle.tcc_judge.specs.Runs.{AreWhole, order_of}
 use Rattle.tcc_judge.specs.Orders.{BreaksPair, BreaksAxiom}
+use Rattle.tcc_judge.specs.Spanned.{IsBounded}
 use Rattle.tcc_judge.specs.declared.verdict.Rule.{Rule}
-use Rattle.tcc_judge.specs.declared.verdict.Rule.TheVariants.{Sizes, Links, ShortPairs, ShortLinks, Onward, Limits, Windows, Pairs, Axiom}
+use Rattle.tcc_judge.specs.declared.verdict.Rule.TheVariants.{Sizes, Links, ShortPairs, ShortLinks, Onward, Limits, Cheaper, Pairs, Axiom}
 use Rattle.tcc_judge.specs.declared.verdict.Verdict.{Verdict}
 use Rattle.tcc_judge.specs.declared.verdict.Verdict.TheVariants as verdict
 
@@ -24,7 +27,7 @@ rule_number ShortPairs = 3
 rule_number ShortLinks = 4
 rule_number Onward = 5
 rule_number Limits = 6
-rule_number Windows = 7
+rule_number Cheaper = 7
 rule_number Pairs = 8
 rule_number Axiom = 9
 
@@ -75,22 +78,23 @@ order_rules h k = as_whole Sizes (HasOrderSizes h k) ∷ pair_rules (judged h k.
 abbrev pub links_rules : History → LinksClaim → List Asked
 links_rules h k = record { rule = Links; holds = IsRightCycle h k; broken = IsCycleFault h k } ∷ []
 
--- the rules on that no cycle costs less, in turn; past a cost of 4 that is refused, since it isn't decided yet
-abbrev pub least_rules : History → ℕ → List Asked
-least_rules h most =
-    at_each ShortPairs (BreaksRound h most) ∷ at_each ShortLinks (BreaksReturn h most) ∷ as_whole Limits (most ≤ 4) ∷ []
+-- the rules on that no cycle costs less, in turn: up to a cost of 4 without an order, and past that with the one that the runs tell
+abbrev pub least_rules : History → Level → ℕ → List Run → List Asked
+least_rules h level most runs =
+    at_each ShortPairs (BreaksRound h most) ∷ at_each ShortLinks (BreaksReturn h most) ∷ at_each Onward (BreaksOnward h most runs)
+    ∷ as_whole Limits (4 < most → IsBounded h (order_of h runs) most) ∷ as_whole Cheaper (NoneBelow (judged h level) most) ∷ []
 
 -- so where it is claimed
-abbrev pub least_rules_of : History → ℕ → Option (List Run) → List Asked
-least_rules_of h most None = []
-least_rules_of h most (Some runs) = least_rules h most
+abbrev pub least_rules_of : History → Level → ℕ → Option (List Run) → List Asked
+least_rules_of h level most None = []
+least_rules_of h level most (Some runs) = least_rules h level most runs
 
 -- the rules for a claim of a cycle, in turn
 abbrev pub cycle_rules : History → LinksClaim → List Asked
 cycle_rules h k =
     as_whole Sizes (HasLinksSizes h k)
     ∷ record { rule = Links; holds = IsRightCycle h k; broken = IsCycleFault h k }
-    ∷ least_rules_of h k.cost k.least
+    ∷ least_rules_of h k.level k.cost k.least
 
 -- the rules for a claim about a history of any size, in turn
 abbrev pub rules_of : History → LargeCertificate → List Asked

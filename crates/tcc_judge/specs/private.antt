@@ -3,5 +3,8 @@ pub mod Least
 pub mod Positions
 pub mod NextWriters
 pub mod Behind
+pub mod Contradicted
+pub mod Members
 pub mod Telling
 pub mod Singles
+pub mod Onward

@@ -21,7 +21,7 @@ use tcc_graph::LargeGraph;
 use tcc_txn::NoMemory;
 
 /// The least of the numbers of sessions that the clock has come to.
-fn least_within(next: &[u32], clock: &[u32]) -> u32
+pub(crate) fn least_within(next: &[u32], clock: &[u32]) -> u32
     requires { length next.now ≡ length clock.now }
     ensures { IsLeastOf (IsWithin next.now clock.now (length next.now)) result }
 {

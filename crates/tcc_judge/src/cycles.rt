@@ -1,16 +1,20 @@
 //! The judge of a claim that links are a cycle, and perhaps a least one.
 ghost use Rattle.std.specs.Prelude.{◌≡◌, ◌≤◌, ◌↔◌, [], All, IfOk, IsTrue, List};
 ghost use Rattle.tcc_reads.specs.History.{IsBySession, count};
+ghost use Rattle.tcc_graph.specs.declared.level.Level.{Level};
+ghost use Rattle.tcc_cert.specs.declared.large.Run.{Run};
 ghost use Rattle.tcc_cert.specs.CycleRules.{IsLinkBelow};
+ghost use Rattle.tcc_judge.specs.declared.cycles.TheConstants.{SHORT};
 ghost use Rattle.tcc_judge.specs.Cycles.{AreNeeded, HasLinksSizes};
 ghost use Rattle.tcc_judge.specs.Verdicts.{IsVerdictOf, cycle_rules, least_rules};
 
 use crate::links::judge_links;
+use crate::onward::onward_verdict;
 use crate::telling::told;
 use crate::{Rule, Verdict};
 use std::alloc::Global;
 use tcc_cert::{LinksClaim, Run};
-use tcc_graph::{LargeGraph, Link};
+use tcc_graph::{LargeGraph, Level, Link};
 use tcc_least::{ShortCycle, short_cycle};
 use tcc_txn::NoMemory;
 
@@ -65,16 +69,11 @@ fn has_links_sizes(alloc: Global, graph: &LargeGraph, claim: &LinksClaim) -> Res
     }
 }
 
-/// The verdict on that no cycle costs less.
-fn least_verdict(graph: &LargeGraph, cost: u32) -> Verdict
-    ensures { IsVerdictOf (least_rules graph.now cost) result }
+/// What the rules say of that no cycle costs less, up to a cost of 4.
+fn short_verdict(graph: &LargeGraph, cost: u32) -> Verdict
+    requires { cost ≤ SHORT }
+    ensures { (level : Level) (runs : List Run) → IsVerdictOf (least_rules graph.now level cost runs) result }
 {
-    if cost > SHORT {
-        return Verdict::Rejected {
-            rule: Rule::Limits,
-            at: (0, 0),
-        };
-    }
     match short_cycle(graph, u64::from(cost)) {
         Some(ShortCycle::Round { from, to }) => {
             Verdict::Rejected {
@@ -92,9 +91,37 @@ fn least_verdict(graph: &LargeGraph, cost: u32) -> Verdict
     }
 }
 
+/// What the rules say of that no cycle costs less, with the runs that are needed.
+fn least_verdict(
+    alloc: Global,
+    graph: &LargeGraph,
+    level: Level,
+    cost: u32,
+    runs: &[Run],
+) -> Result<Verdict, NoMemory>
+    requires numbered { IsBySession graph.now.entries }
+    requires needed { AreNeeded graph.now cost runs.now }
+    ensures { IfOk result (IsVerdictOf (least_rules graph.now level cost runs.now)) }
+{
+    if cost <= SHORT {
+        return Ok(short_verdict(graph, cost));
+    }
+    // each transaction is of a session, and there is `init`, as these calls say
+    graph.sessions();
+    graph.count();
+    let Some(order) = told(alloc, graph, runs)? else {
+        return Ok(Verdict::Rejected {
+            rule: Rule::Sizes,
+            at: (0, 0),
+        });
+    };
+    let verdict = onward_verdict(alloc, graph, level, cost, &order)?;
+    Ok(verdict)
+}
+
 /// Accepts the claim exactly where the links are a cycle of its cost and its level, and, where that is claimed, no cycle costs
-/// less; otherwise names the first broken rule and where. That no cycle costs less is decided up to a cost of 4, and past that
-/// refused by the rule on limits.
+/// less; otherwise names the first broken rule and where. That no cycle costs less is decided up to a cost of 4 at once, and past that
+/// within the limits of its rule, with the runs of an order that keeps all pairs.
 pub fn judge_cycle(
     alloc: Global,
     graph: &LargeGraph,
@@ -115,7 +142,10 @@ pub fn judge_cycle(
         return Ok(verdict);
     }
     match &claim.least {
-        Some(_runs) => Ok(least_verdict(graph, claim.cost)),
+        Some(runs) => {
+            let verdict = least_verdict(alloc, graph, claim.level, claim.cost, runs.as_slice())?;
+            Ok(verdict)
+        }
         None => Ok(Verdict::Accepted),
     }
 }

@@ -1,5 +1,5 @@
 //! The laws that what is accepted is true, and that one's own claims are accepted.
-ghost use Rattle.std.specs.Prelude.{◌≡◌, ◌≤◌, ◌↔◌, ℕ, List};
+ghost use Rattle.std.specs.Prelude.{◌≡◌, ◌≤◌, ◌↔◌, ℕ, List, Some};
 ghost use Rattle.tcc_reads.specs.History.{History};
 ghost use Rattle.tcc_graph.specs.declared.level.Level.{Level};
 ghost use Rattle.tcc_graph.specs.declared.link.Link.{Link};
@@ -10,7 +10,9 @@ ghost use Rattle.tcc_graph.specs.Routes.{IsCycle, IsLeastCycle};
 ghost use Rattle.tcc_cert.specs.RunsTold.{order_claim_of};
 ghost use Rattle.tcc_cert.specs.declared.large.LargeCertificate.{LargeCertificate};
 ghost use Rattle.tcc_cert.specs.declared.large.LinksClaim.{LinksClaim};
+ghost use Rattle.tcc_cert.specs.declared.large.Run.{Run};
 ghost use Rattle.tcc_cert.specs.declared.large.RunsClaim.{RunsClaim};
+ghost use Rattle.tcc_least.specs.Shapes.{AreLeast};
 ghost use Rattle.tcc_judge.specs.Runs.{order_of};
 ghost use Rattle.tcc_judge.specs.Claims.{cycle_claim_of, short_claim_of};
 ghost use Rattle.tcc_judge.specs.Cycles.{IsRightCycle};
@@ -38,8 +40,13 @@ pub fn accepted_cycle()
 
 /// Where the rules on that no cycle costs less hold too, it is a least one.
 pub fn accepted_least()
-    ensures { (h : History) (k : LinksClaim) → IsRightCycle h k → AllHold (least_rules h k.cost)
+    ensures { (h : History) (k : LinksClaim) (runs : List Run) → IsRightCycle h k → AllHold (least_rules h k.level k.cost runs)
         → (s : ℕ) × IsLeastCycle (judged h k.level) s k.links }
+{}
+
+/// A claim that keeps the rules, and claims a least cycle, is true, whatever it costs.
+pub fn is_least()
+    ensures { (h : History) (k : LinksClaim) (runs : List Run) → k.least ≡ Some runs → AllHold (cycle_rules h k) → AreLeast (judged h k.level) k.links }
 {}
 
 /// Of a history whose reads are resolved, each commit order keeps the rules, told by its runs.

@@ -1,14 +1,17 @@
 //! The judge of claims on a history of any size: an order that is told by runs, or a cycle by its links. It uses the history
-//! and the claim alone, and searches nothing.
+//! and the claim alone, and nothing of how the claim was found.
 #![tactic(auto)]
 
 mod behind;
+mod contradicted;
 mod cycles;
 mod judging;
 pub mod laws;
 mod least;
 mod links;
+mod members;
 mod next_writers;
+mod onward;
 mod ordering;
 mod positions;
 mod singles;

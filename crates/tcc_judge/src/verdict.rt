@@ -16,10 +16,11 @@ pub enum Rule {
     ShortLinks,
     /// Every reads-from pair is in order by the runs beside the cycle.
     Onward,
-    /// The cost and the work that the claim asks for are within their limits.
+    /// The cost, the transactions over which a derived link leads back in that order, and the keys by which one leads into `init` are
+    /// within their limits.
     Limits,
-    /// No cycle through a link that leads back in the order costs less.
-    Windows,
+    /// No cycle costs less.
+    Cheaper,
     /// Every reads-from pair is in order.
     Pairs,
     /// What is contradicted stands behind what contradicts it.
@@ -38,7 +39,7 @@ impl Rule {
             Rule::ShortLinks => 4,
             Rule::Onward => 5,
             Rule::Limits => 6,
-            Rule::Windows => 7,
+            Rule::Cheaper => 7,
             Rule::Pairs => 8,
             Rule::Axiom => 9,
         }

@@ -20,10 +20,10 @@ use Rattle.tcc_large_check.specs.LargeChecks.{IsTrueLargeClaim}
 use Rattle.tcc_large_check.proofs.Owned.{owned}
 
 -- a cycle, and a least one where that is claimed
-cycle_true : (h : History) (k : LinksClaim) (least : Option (List Run)) → IsRightCycle h k → AllHold (least_rules_of h k.cost least)
+cycle_true : (h : History) (k : LinksClaim) (least : Option (List Run)) → IsRightCycle h k → AllHold (least_rules_of h k.level k.cost least)
     → MatchOption least ((s : ℕ) × IsCycle (judged h k.level) s k.links) (λ _. (s : ℕ) × IsLeastCycle (judged h k.level) s k.links)
 cycle_true h k None good rules = (ends_at 0 k.links, right_cycle h k good)
-cycle_true h k (Some runs) good rules = (ends_at 0 k.links, least_cycle h k good rules)
+cycle_true h k (Some runs) good rules = (ends_at 0 k.links, least_cycle h k good runs rules)
 
 some : (s : Sessions) → 0 < count (history s)
 some s = omega arith

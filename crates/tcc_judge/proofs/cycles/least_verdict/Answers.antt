@@ -1,24 +1,24 @@
-use Rattle.std.proofs.Common.{◌≡◌, ◌≤◌, ◌⊎◌, inl, inr, refl, ◌∙◌, arith}
-use Rattle.tcc_graph.specs.declared.level.Level.TheVariants.{Causal}
-use Rattle.tcc_judge.proofs.Cycled.{first_round, no_round, first_return, none_round, none_return}
+use Rattle.std.proofs.Common.{◌≡◌, ◌<◌, length, arith}
+use Rattle.tcc_reads.specs.History.{count}
+use Rattle.tcc_judge.proofs.Leastness.{past_four, runs_ordered}
 use Rattle.tcc_judge.proofs.cycles.least_verdict.Goals as goal
 
-pub returns-in-Some-Round : goal.returns-in-Some-Round
-returns-in-Some-Round c =
-    let place = rw (c.in-Some-Round.is, c.in-Some-Round.field-0-is, c.from.ensures) at c.short_cycle.ensures.place in
-    inl (refl, first_round c.args.graph.now c.args.cost c.if-cost-gt-SHORT.false c.in-Some-Round.from c.in-Some-Round.to place)
+pub returns-then-cost-le-SHORT : goal.returns-then-cost-le-SHORT
+returns-then-cost-le-SHORT c = c.short_verdict.ensures c.args.level c.args.runs.now
 
-pub returns-in-Some-Return : goal.returns-in-Some-Return
-returns-in-Some-Return c =
-    let place = rw (c.in-Some-Return.is, c.in-Some-Return.field-0-is, c.from.ensures) at c.short_cycle.ensures.place in
-    let h = c.args.graph.now in
-    inr (
-      no_round h c.args.cost c.if-cost-gt-SHORT.false place.0,
-      inl (refl, first_return h c.args.cost c.if-cost-gt-SHORT.false c.in-Some-Return.from c.in-Some-Return.to place.1 place.2),
-    )
+pub returns-in_default : goal.returns-in_default
+returns-in_default c = absurd ((rw c.in_default.is at c.in_ok-order.ensures) (c.requires.needed.whole c.if-cost-le-SHORT.false))
 
-pub returns-in-None : goal.returns-in-None
-returns-in-None c =
-    let none = rw (c.in-None.is, c.from.ensures) at c.short_cycle.ensures.cycle Causal in
-    let h = c.args.graph.now in
-    (none_round h c.args.cost c.if-cost-gt-SHORT.false none, (none_return h c.args.cost c.if-cost-gt-SHORT.false none, (c.if-cost-gt-SHORT.false, tt)))
+pub onward_verdict-requires-clause-ordered : goal.onward_verdict-requires-clause-ordered
+onward_verdict-requires-clause-ordered c =
+    let claimed = rw c.in-Some.is at c.in_ok-order.ensures in
+    let some : 0 < count c.args.graph.now = omega (arith, c.count.ensures.value, c.count.ensures.some) in
+    rw (c.deref.ensures.value, claimed.1)
+    (runs_ordered c.args.graph.now c.sessions.ensures.numbered some (λ n above l. rw c.sessions.ensures.value at (c.sessions.ensures.owners n above l))
+    c.args.runs.now claimed.0)
+
+pub returns : goal.returns
+returns c =
+    let claimed = rw c.in-Some.is at c.in_ok-order.ensures in
+    past_four c.args.graph.now c.args.level c.args.cost c.args.runs.now c.if-cost-le-SHORT.false c.in_ok-verdict.verdict
+    (rw (c.deref.ensures.value, claimed.1) at c.in_ok-verdict.ensures)

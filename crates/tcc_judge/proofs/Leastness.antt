@@ -1,0 +1,153 @@
+-- What the rules with an order say of a claim that no cycle costs less.
+use Rattle.std.proofs.Common.{◌≡◌, ◌≢◌, ◌<◌, ◌≤◌, ◌⊎◌, ◌↔◌, ◌∙◌, inl, inr, ℕ, Bool, Option, Some, List, [], ◌∷◌, length, get_or, refl, sym, ap, subst, arith}
+use Rattle.std.specs.Prelude.{IsTrue, false}
+use Rattle.std.specs.List.{All, AllPairs}
+use Rattle.std.proofs.lemmas.List.{get_or_default}
+use Rattle.std.proofs.lemmas.Bool.{cases_eq, false≢true}
+use Rattle.tcc_reads.specs.History.{History, IsBySession, count, owner}
+use Rattle.tcc_graph.specs.Keys.{keys}
+use Rattle.tcc_graph.specs.Levels.{judged}
+use Rattle.tcc_graph.specs.Orders.{Before, IsNumbering}
+use Rattle.tcc_graph.specs.declared.level.Level.{Level}
+use Rattle.tcc_cert.specs.declared.large.LinksClaim.{LinksClaim}
+use Rattle.tcc_cert.specs.declared.large.Run.{Run}
+use Rattle.tcc_judge.specs.Runs.{AreWhole, order_of}
+use Rattle.tcc_least.specs.Shapes.{NoneBelow}
+use Rattle.tcc_judge.specs.Cycles.{BreaksOnward, HasLinksSizes, IsRightCycle}
+use Rattle.tcc_judge.specs.Spanned.{AreFew, IsBounded, IsSpanned, IsStaleKey}
+use Rattle.tcc_judge.specs.Verdicts.{AllHold, IsFirstBroken, IsVerdictOf, as_whole, at_each, cycle_rules, least_rules, least_rules_of}
+use Rattle.tcc_judge.specs.declared.verdict.Rule.{Rule}
+use Rattle.tcc_judge.specs.declared.verdict.Rule.TheVariants.{Onward, Limits, Cheaper}
+use Rattle.tcc_judge.specs.declared.verdict.Verdict.{Verdict}
+use Rattle.tcc_judge.specs.declared.verdict.Verdict.TheVariants as verdict
+use Rattle.tcc_judge.specs.private.Telling.{IsOrdered}
+use Rattle.tcc_judge.specs.private.Contradicted.{AreContradicted}
+use Rattle.tcc_judge.specs.private.Members.{AreMarkedUnder, AreThose, IsMarked}
+use Rattle.tcc_judge.specs.private.Onward.{onward_rules}
+use Rattle.tcc_judge.specs.private.Positions.{ArePositions}
+use Rattle.tcc_graph.proofs.Numberings.{has_index}
+use Rattle.tcc_clocks.specs.Clocks.{LeadsOnward}
+use Rattle.tcc_lanes.specs.Among.{HasCheaperAmong, HasCheaperIntoInit}
+use Rattle.tcc_lanes.specs.declared.limits.TheConstants.{MOST_MEMBERS, MOST_STEPS}
+use Rattle.tcc_judge.proofs.Cheaper.{below_among, below_into, none_costs_less}
+use Rattle.tcc_judge.proofs.Laid.{told_numbering, told_sessions}
+use Rattle.tcc_judge.proofs.MemberLemmas.{few_same, marked_spanned, marked_stale, spanned_marked, stale_marked, those_all, those_few, those_same}
+
+pub runs_ordered : (h : History) → IsBySession h.entries → 0 < count h → ((n : ℕ) → 0 < n → n < count h → owner h n < length h.sessions) → (runs : List Run)
+    → AreWhole h runs → IsOrdered h (order_of h runs)
+runs_ordered h numbered some owned runs whole = record {
+  numbering = told_numbering h numbered some owned runs whole;
+  sessions = λ a b pair. told_sessions h numbered some owned runs whole a b pair;
+}
+
+by_order : (h : History) (level : Level) (most : ℕ) (runs : List Run) → 4 < most → (rule : Rule) (at : ℕ × ℕ)
+    → IsFirstBroken (onward_rules (judged h level) (order_of h runs) most) rule at
+    → IsFirstBroken (at_each Onward (BreaksOnward h most runs) ∷ as_whole Limits (4 < most → IsBounded h (order_of h runs) most)
+    ∷ as_whole Cheaper (NoneBelow (judged h level) most) ∷ []) rule at
+by_order h level most runs more rule at (inl (same, w)) =
+    inl (same, record { here = (more, w.here); first = λ earlier less is. w.first earlier less is.1 })
+by_order h level most runs more rule at (inr (pairs, inl (same, (none, apart)))) =
+    inr ((λ at is. pairs at is.1), inl (same, (none, λ bounded. apart (bounded more))))
+by_order h level most runs more rule at (inr (pairs, inr (bounded, inl broken))) = inr ((λ at is. pairs at is.1), inr ((λ _. bounded), inl broken))
+by_order h level most runs more rule at (inr (pairs, inr (bounded, inr later))) = inr ((λ at is. pairs at is.1), inr ((λ _. bounded), inr later))
+
+-- past a cost of 4 those are the rules
+pub past_four : (h : History) (level : Level) (most : ℕ) (runs : List Run) → 4 < most → (said : Verdict)
+    → IsVerdictOf (onward_rules (judged h level) (order_of h runs) most) said → IsVerdictOf (least_rules h level most runs) said
+past_four h level most runs more verdict.Accepted (pairs, (bounded, (none, rest))) = (
+  (λ at broken. absurd (omega (arith, broken.0, more))),
+  ((λ at broken. absurd (omega (arith, broken.0, more))), ((λ at broken. pairs at broken.1), ((λ _. bounded), (none, tt)))),
+)
+past_four h level most runs more (verdict.Rejected rule at) broken =
+    inr ((λ at is. absurd (omega (arith, is.0, more))), inr ((λ at is. absurd (omega (arith, is.0, more))), by_order h level most runs more rule at broken))
+
+-- the verdict on that no cycle costs less is that on the claim where the sizes and the links are right
+pub with_links : (h : History) (k : LinksClaim) (runs : List Run) → k.least ≡ Some runs → HasLinksSizes h k → IsRightCycle h k → (said : Verdict)
+    → IsVerdictOf (least_rules h k.level k.cost runs) said → IsVerdictOf (cycle_rules h k) said
+with_links h k runs is sizes right verdict.Accepted w =
+    (sizes, (right, subst (λ (z : Option (List Run)). AllHold (least_rules_of h k.level k.cost z)) (sym is) w))
+with_links h k runs is sizes right (verdict.Rejected rule at) w =
+    inr (sizes, inr (right, subst (λ (z : Option (List Run)). IsFirstBroken (least_rules_of h k.level k.cost z) rule at) (sym is) w))
+
+-- ---- what two searches found
+pub either_found : (Among Into : Type 0) (into among : Bool) → into ≡ false → (IsTrue into ↔ Into) → (IsTrue among ↔ Among) → IsTrue among ↔ (Among ⊎ Into)
+either_found Among Into into among none first second = ((λ is. inl (second.0 is)), back)
+  where
+    back : Among ⊎ Into → IsTrue among
+    back (inl is) = second.1 is
+    back (inr is) = absurd (false≢true (sym none ∙ first.1 is))
+
+-- ---- where a cycle that costs less can be
+module _ (h : History) (order positions : List ℕ) (numbering : IsNumbering (count h) order) (first : get_or order 0 0 ≡ 0) (some : 0 < length order)
+    (are : ArePositions (count h) order positions) (lasts : List ℕ) (stale : List Bool) (w : AreContradicted h order positions lasts stale)
+    (marks : List Bool) (m : AreMarkedUnder (count h) order lasts (length order) marks) (most : ℕ) where
+  spanned : (v : ℕ) → IsMarked marks v → IsSpanned h order v
+  spanned v is = marked_spanned h order positions lasts stale numbering first some are w marks m v is
+
+  pub too_many_members : (AreFew MOST_MEMBERS (IsMarked marks) → ⊥) → IsBounded h order most → ⊥
+  too_many_members none bounded = none (few_same MOST_MEMBERS (IsSpanned h order) (IsMarked marks) spanned bounded.members)
+
+  pub too_many_keys : (AreFew MOST_MEMBERS (IsMarked stale) → ⊥) → IsBounded h order most → ⊥
+  too_many_keys none bounded =
+      none (few_same MOST_MEMBERS (IsStaleKey h) (IsMarked stale) (λ k is. marked_stale h order positions lasts stale w k is) bounded.keys)
+
+  pub narrowed : (members key_indices : List ℕ) → most ≤ MOST_STEPS → AreThose MOST_MEMBERS (IsMarked marks) members
+      → AreThose MOST_MEMBERS (IsMarked stale) key_indices
+      → IsBounded h order most × (AreThose MOST_MEMBERS (IsSpanned h order) members × AreThose MOST_MEMBERS (IsStaleKey h) key_indices)
+  narrowed members key_indices low these keys =
+      let members_are : AreThose MOST_MEMBERS (IsSpanned h order) members
+      = those_same MOST_MEMBERS (IsMarked marks) (IsSpanned h order) members spanned
+      (λ v is. spanned_marked h order positions lasts stale numbering first some are w marks m v is) these in
+      let keys_are : AreThose MOST_MEMBERS (IsStaleKey h) key_indices
+      = those_same MOST_MEMBERS (IsMarked stale) (IsStaleKey h) key_indices (λ k is. marked_stale h order positions lasts stale w k is)
+      (λ k is. stale_marked h order positions lasts stale w k is) keys in (
+        record {
+          steps = low;
+          members = those_few MOST_MEMBERS (IsSpanned h order) members members_are;
+          keys = those_few MOST_MEMBERS (IsStaleKey h) key_indices keys_are;
+        },
+        (members_are, keys_are),
+      )
+
+-- ---- and what is found there
+module _ (h : History) (order : List ℕ) (numbering : IsNumbering (count h) order) (first : get_or order 0 0 ≡ 0) (some : 0 < length order)
+    (members key_indices : List ℕ) (these : AreThose MOST_MEMBERS (IsSpanned h order) members) (keys_are : AreThose MOST_MEMBERS (IsStaleKey h) key_indices) where
+  pub members_inside : All (λ v. v < count h) members
+  members_inside = those_all MOST_MEMBERS (IsSpanned h order) (λ v. v < count h) members these (λ v is. is.7)
+
+  -- `init` stands before all others
+  never_init : (v : ℕ) → IsSpanned h order v → 0 < v
+  never_init v (b, a, x, c, walk, reason, more, low, late, early) = go (cases_eq v 0)
+    where
+      before : (i : ℕ) × (i < length order) × (get_or order i 0 ≡ a) → v ≡ 0 → Before order v a
+      before (i, l, e) none = by (cases_eq i 0)
+        where
+          by : (i ≡ 0) ⊎ (i ≢ 0) → Before order v a
+          by (inl zero_) = absurd (omega (arith, more, e, ap (λ z. get_or order z 0) zero_, first))
+          by (inr other) = (0, i, omega arith, l, first ∙ sym none, e)
+
+      go : (v ≡ 0) ⊎ (v ≢ 0) → 0 < v
+      go (inl none) = absurd (late (before (has_index numbering a reason.0.1.0) none))
+      go (inr other) = omega arith
+
+  pub members_aside : All (λ v. 0 < v) members
+  members_aside = those_all MOST_MEMBERS (IsSpanned h order) (λ v. 0 < v) members these never_init
+
+  pub members_ascend : AllPairs (λ u v. u < v) members
+  members_ascend i j d less l =
+      omega (arith, get_or_default members i d 0 (omega arith), get_or_default members j d 0 l, these.ascend i j less l)
+
+  pub keys_inside : All (λ k. k < length (keys h)) key_indices
+  keys_inside = those_all MOST_MEMBERS (IsStaleKey h) (λ k. k < length (keys h)) key_indices keys_are (λ k is. is.0)
+
+  module _ (level : Level) (there : 0 < count h) (most : ℕ) where
+    pub some_cheaper : HasCheaperAmong (judged h level) members most ⊎ HasCheaperIntoInit (judged h level) key_indices most
+        → NoneBelow (judged h level) most → ⊥
+    some_cheaper (inl is) none = below_among (judged h level) members most none is
+    some_cheaper (inr is) none = below_into (judged h level) key_indices most there none is
+
+    pub none_cheaper : (positions : List ℕ) → ArePositions (count h) order positions → LeadsOnward h order
+        → (HasCheaperAmong (judged h level) members most ⊎ HasCheaperIntoInit (judged h level) key_indices most → ⊥) → NoneBelow (judged h level) most
+    none_cheaper positions are onward none =
+        none_costs_less h level order positions numbering some first are onward members key_indices (λ v is. (these.each v).1 is)
+        (λ k is. (keys_are.each k).1 is) there most (λ is. none (inl is)) (λ is. none (inr is))

@@ -1,0 +1,61 @@
+//! The transactions over which a derived link leads back, and what is marked as a list, while there are few enough. For N
+//! transactions that takes N steps.
+ghost use Rattle.std.specs.Prelude.{◌≡◌, ◌<◌, ◌≤◌, ℕ, List, ◌↔◌, length, slice_index, IfOk, IsTrue, MatchOption};
+ghost use Rattle.tcc_graph.specs.Orders.{IsNumbering};
+ghost use Rattle.tcc_judge.specs.Spanned.{AreFew};
+ghost use Rattle.tcc_judge.specs.private.Members.{AreMarkedUnder, AreThose, IsMarked};
+
+use std::alloc::Global;
+use tcc_txn::NoMemory;
+
+/// Whether a place is not behind a last one, if there is one.
+fn is_under(place: usize, far: u32) -> bool
+    ensures { IsTrue result ↔ ((0 < far) × (place ≤ far)) }
+{
+    0 < far && place <= far as usize
+}
+
+/// Marks the transactions whose place is not behind the last one of a place up to it.
+pub(crate) fn marked_under(
+    alloc: Global,
+    count: u32,
+    order: &[u32],
+    lasts: &[u32],
+) -> Result<Vec<bool>, NoMemory>
+    requires numbering { IsNumbering count order.now }
+    requires long { length lasts.now ≡ length order.now }
+    ensures { IfOk result (λ marks. AreMarkedUnder count order.now lasts.now (length order.now) marks.items) }
+{
+    let mut marks = vec![in alloc; false; count as usize]?;
+    let mut far = 0;
+    for (place, number) in order.iter().enumerate() {
+        far = lasts[place].max(far);
+        marks[*number as usize] = is_under(place, far);
+    }
+    Ok(marks)
+}
+
+/// The indices that are marked, ascending; none where there are more than so many.
+pub(crate) fn marked(
+    alloc: Global,
+    marks: &[bool],
+    most: usize,
+) -> Result<Option<Vec<u32>>, NoMemory>
+    ensures { IfOk result (λ found. MatchOption found
+        (AreFew most (IsMarked marks.now) → ⊥)
+        (λ list. AreThose most (IsMarked marks.now) list.items)) }
+{
+    let mut found = Vec::new(alloc);
+    for (index, mark) in marks.iter().enumerate() {
+        if *mark {
+            if found.len() >= most {
+                return Ok(None);
+            }
+            let Ok(number) = u32::try_from(index) else {
+                return Err(NoMemory);
+            };
+            found.push(number)?;
+        }
+    }
+    Ok(Some(found))
+}

@@ -1,0 +1,134 @@
+//! The rules on that no cycle costs less, past a cost of 4. Where the order that runs tell keeps all pairs, a cycle that costs less
+//! goes through `init`, or else a derived link leads back in the order over each of its transactions; so it is looked for there.
+ghost use Rattle.std.specs.Prelude.{◌≡◌, ◌<◌, ◌≤◌, ◌⊎◌, ◌↔◌, ℕ, length, slice_index, All, AllPairs, IfOk, IsTrue, MatchOption};
+ghost use Rattle.tcc_reads.specs.History.{IsBySession, count};
+ghost use Rattle.tcc_graph.specs.Keys.{keys};
+ghost use Rattle.tcc_graph.specs.Levels.{judged};
+ghost use Rattle.tcc_graph.specs.Orders.{IsNumbering};
+ghost use Rattle.tcc_clocks.specs.Clocks.{LeadsOnward};
+ghost use Rattle.tcc_lanes.specs.Among.{HasCheaperAmong, HasCheaperIntoInit};
+ghost use Rattle.tcc_lanes.specs.declared.limits.TheConstants.{MOST_MEMBERS, MOST_STEPS};
+ghost use Rattle.tcc_judge.specs.Spanned.{IsBounded, IsSpanned, IsStaleKey};
+ghost use Rattle.tcc_judge.specs.Verdicts.{IsVerdictOf};
+ghost use Rattle.tcc_judge.specs.private.Members.{AreThose};
+ghost use Rattle.tcc_judge.specs.private.Onward.{onward_rules};
+ghost use Rattle.tcc_judge.specs.private.Positions.{ArePositions};
+ghost use Rattle.tcc_judge.specs.private.Telling.{IsOrdered};
+
+use crate::contradicted::contradicted_along;
+use crate::members::{marked, marked_under};
+use crate::positions::positions_of;
+use crate::turned::first_turned;
+use crate::{Rule, Verdict};
+use std::alloc::Global;
+use tcc_graph::{LargeGraph, Level};
+use tcc_lanes::{MOST_MEMBERS, MOST_STEPS, has_cheaper_among, has_cheaper_into_init};
+use tcc_txn::NoMemory;
+
+/// Where a cycle that costs less can be.
+#[derive(Drop)]
+struct Narrowed {
+    /// The transactions over which a derived link leads back, ascending.
+    members: Vec<u32>,
+    /// The keys by which a derived link leads into `init`, ascending.
+    key_indices: Vec<u32>,
+}
+
+/// Where a cycle that costs less can be; nothing where that is past the limits.
+fn narrow_down(
+    alloc: Global,
+    graph: &LargeGraph,
+    order: &[u32],
+    positions: &[u32],
+    most: u32,
+) -> Result<Option<Narrowed>, NoMemory>
+    requires numbered { IsBySession graph.now.entries }
+    requires numbering { IsNumbering (count graph.now) order.now }
+    requires some { 0 < length order.now }
+    requires init { slice_index order.now 0 ≡ 0 }
+    requires onward { LeadsOnward graph.now order.now }
+    requires positions { ArePositions (count graph.now) order.now positions.now }
+    ensures { IfOk result (λ found. MatchOption found
+        (IsBounded graph.now order.now most → ⊥)
+        (λ narrowed. IsBounded graph.now order.now most
+        × (AreThose MOST_MEMBERS (IsSpanned graph.now order.now) narrowed.members.items
+        × AreThose MOST_MEMBERS (IsStaleKey graph.now) narrowed.key_indices.items))) }
+{
+    if most > MOST_STEPS {
+        return Ok(None);
+    }
+    let found = contradicted_along(alloc, graph, order, positions)?;
+    let marks = marked_under(alloc, graph.count(), order, &found.lasts)?;
+    let Some(members) = marked(alloc, &marks, MOST_MEMBERS)? else {
+        return Ok(None);
+    };
+    let Some(key_indices) = marked(alloc, &found.stale, MOST_MEMBERS)? else {
+        return Ok(None);
+    };
+    Ok(Some(Narrowed {
+        members,
+        key_indices,
+    }))
+}
+
+/// Whether a cycle there costs less.
+fn has_cheaper(
+    alloc: Global,
+    graph: &LargeGraph,
+    level: Level,
+    narrowed: &Narrowed,
+    most: u32,
+) -> Result<bool, NoMemory>
+    requires inside { All (λ v. v < count graph.now) narrowed.now.members.items }
+    requires aside { All (λ v. 0 < v) narrowed.now.members.items }
+    requires ascend { AllPairs (λ u v. u < v) narrowed.now.members.items }
+    requires few { length narrowed.now.members.items ≤ MOST_MEMBERS }
+    requires keys { All (λ k. k < length (keys graph.now)) narrowed.now.key_indices.items }
+    requires steps { most ≤ MOST_STEPS }
+    ensures { IfOk result (λ found. IsTrue found
+        ↔ (HasCheaperAmong (judged graph.now level) narrowed.now.members.items most
+        ⊎ HasCheaperIntoInit (judged graph.now level) narrowed.now.key_indices.items most)) }
+{
+    if has_cheaper_into_init(alloc, graph, level, &narrowed.key_indices, most)? {
+        return Ok(true);
+    }
+    let found = has_cheaper_among(alloc, graph, level, &narrowed.members, most)?;
+    Ok(found)
+}
+
+/// What the rules say of that no cycle costs less, with an order that has each transaction once, and every session pair in order.
+pub(crate) fn onward_verdict(
+    alloc: Global,
+    graph: &LargeGraph,
+    level: Level,
+    most: u32,
+    order: &[u32],
+) -> Result<Verdict, NoMemory>
+    requires numbered { IsBySession graph.now.entries }
+    requires there { 0 < count graph.now }
+    requires ordered { IsOrdered graph.now order.now }
+    requires some { 0 < length order.now }
+    requires init { slice_index order.now 0 ≡ 0 }
+    ensures { IfOk result (IsVerdictOf (onward_rules (judged graph.now level) order.now most)) }
+{
+    let positions = positions_of(alloc, order, graph.count())?;
+    if let Some(at) = first_turned(graph, &positions) {
+        return Ok(Verdict::Rejected {
+            rule: Rule::Onward,
+            at,
+        });
+    }
+    let Some(narrowed) = narrow_down(alloc, graph, order, &positions, most)? else {
+        return Ok(Verdict::Rejected {
+            rule: Rule::Limits,
+            at: (0, 0),
+        });
+    };
+    if has_cheaper(alloc, graph, level, &narrowed, most)? {
+        return Ok(Verdict::Rejected {
+            rule: Rule::Cheaper,
+            at: (0, 0),
+        });
+    }
+    Ok(Verdict::Accepted)
+}
