@@ -1,0 +1,5 @@
+pub mod Rows
+pub mod Recorded
+pub mod Links
+pub mod Objects
+pub mod private

@@ -1,0 +1,130 @@
+//! At which rows the operations of transactions stand among the records of a text.
+ghost use Rattle.std.specs.Prelude.{◌≡◌, ◌++◌, ◌∷◌, [], IfOk, OnOk, map, option_map};
+ghost use Rattle.csv.specs.Records.{fields_of};
+ghost use Rattle.tcc_full.specs.Rows.{HasRowsOf, add_last, row_of};
+ghost use Rattle.tcc_full.specs.private.Noting.{Changes, NotesRecord, is_begin};
+
+use csv::{ByteRecord, ReaderBuilder};
+use std::alloc::Global;
+use std::collections::BTreeMap;
+use tcc_txn::{Name, NoMemory};
+
+/// Of each session the rows of the operations of each of its transactions, in their order.
+#[derive(Drop)]
+pub struct OperationRows {
+    sessions: BTreeMap<Name, Vec<Vec<u32>>>,
+}
+
+/// The last transaction has one row more.
+fn add_last(transactions: &mut Vec<Vec<u32>>, row: u32) -> Result<(), NoMemory>
+    ensures { OnOk result (map (λ transaction. transaction.items) transactions.new.items
+        ≡ add_last row (map (λ transaction. transaction.items) transactions.old.items)) }
+{
+    let Some(last) = transactions.len().checked_sub(1) else {
+        return Ok(());
+    };
+    transactions[last].push(row)?;
+    Ok(())
+}
+
+/// One transaction more, without operations.
+fn add_transaction(alloc: Global, transactions: &mut Vec<Vec<u32>>) -> Result<(), NoMemory>
+    ensures { OnOk result (map (λ transaction. transaction.items) transactions.new.items
+        ≡ map (λ transaction. transaction.items) transactions.old.items ++ [] ∷ []) }
+{
+    transactions.push(Vec::new(alloc))?;
+    Ok(())
+}
+
+/// Whether a record is a begin.
+fn is_begin(fields: &ByteRecord) -> bool
+    ensures { result ≡ is_begin (fields_of fields.now) }
+{
+    if fields.len() != 2 {
+        return false;
+    }
+    match fields.get(1) {
+        Some(word) => word == b"begin".as_slice(),
+        None => false,
+    }
+}
+
+impl OperationRows {
+    /// The session begins a transaction.
+    fn begin(&mut self, alloc: Global, session: Name) -> Result<(), NoMemory>
+        ensures { OnOk result (Changes session (λ transactions. transactions ++ [] ∷ []) self.old self.new) }
+    {
+        match self.sessions.get_mut(&session) {
+            Some(transactions) => return add_transaction(alloc, transactions),
+            None => {}
+        }
+        let mut transactions = Vec::new(alloc);
+        add_transaction(alloc, &mut transactions)?;
+        match self.sessions.insert(session, transactions) {
+            Ok(_) => Ok(()),
+            Err(_) => Err(NoMemory),
+        }
+    }
+
+    /// The session has an operation at this row.
+    fn operate(&mut self, session: &Name, row: u32) -> Result<(), NoMemory>
+        ensures { OnOk result (Changes session.now (add_last row) self.old self.new) }
+    {
+        match self.sessions.get_mut(session) {
+            Some(transactions) => add_last(transactions, row),
+            None => Ok(()),
+        }
+    }
+
+    /// The record of this row.
+    fn note(&mut self, alloc: Global, fields: &ByteRecord, row: u32) -> Result<(), NoMemory>
+        ensures { OnOk result (NotesRecord (fields_of fields.now) row self.old self.new) }
+    {
+        let Some(session) = fields.get(0) else {
+            return Ok(());
+        };
+        let Ok(session) = Name::read(session) else {
+            return Ok(());
+        };
+        if fields.len() == 4 {
+            return self.operate(&session, row);
+        }
+        if is_begin(fields) {
+            return self.begin(alloc, session);
+        }
+        Ok(())
+    }
+
+    /// The row of an operation of the session's transaction at a place, by its index from 0.
+    pub fn row(&self, session: &Name, place: u32, index: usize) -> Option<u32>
+        ensures { result ≡ row_of self.now session.now place index }
+    {
+        let transactions = self.sessions.get(session)?;
+        let rows = transactions.get((place as usize).saturating_sub(1))?;
+        rows.get(index).copied()
+    }
+}
+
+/// The rows of all operations among the records of a text.
+pub fn operation_rows(alloc: Global, text: &[u8]) -> Result<OperationRows, NoMemory>
+    ensures { IfOk result (HasRowsOf text.now) }
+{
+    let mut reader = ReaderBuilder::new()
+        .has_headers(false)
+        .flexible(true)
+        .from_reader(alloc, text);
+    let mut fields = ByteRecord::new(alloc);
+    let mut rows = OperationRows {
+        sessions: BTreeMap::new(alloc),
+    };
+    for row in 1..u32::MAX {
+        match reader.read_byte_record(&mut fields) {
+            Ok(true) => rows.note(alloc, &fields, row)?,
+            Ok(false) => return Ok(rows),
+            // A text can be read, so memory is wanting.
+            Err(_) => return Err(NoMemory),
+        }
+    }
+    // No text has so many records.
+    Err(NoMemory)
+}
