@@ -111,10 +111,7 @@ fn assert_slice(rt: &impl Abort, alloc: Global, whole: &str, wanted: &str) {
     let snapshot = snapshot_of(alloc, whole.as_bytes())
         .expect(rt, whole)
         .large();
-    let found = slice(alloc, &snapshot, &graph, Level::Causal, &links).expect(
-        rt,
-        "no memory",
-    );
+    let found = slice(alloc, &snapshot, &graph, Level::Causal, &links).expect(rt, "no memory");
     let part = found.expect(rt, whole);
     let text = records(alloc, &part).expect(rt, "no memory");
     assert!(rt; text.as_slice() == wanted.as_bytes(), "of {whole}");
