@@ -11,15 +11,16 @@ use Rattle.std.specs.Ordering.{nat_cmp, eq_by_cmp}
 use Rattle.std.specs.declared.cmp.Ordering.{Ordering}
 use Rattle.std.specs.declared.cmp.Ordering.TheVariants.{Less, Equal, Greater}
 use Rattle.std.proofs.lemmas.List.Elements.{All-nil, All-cons, All-head, All-tail, All-append, All-take}
-use Rattle.tcc_rows.specs.Answers.{Answers, after_item, answers_of, go_on, records_of}
-use Rattle.tcc_rows.specs.private.Words.{answers_after, judged}
+use Rattle.tcc_rows.specs.Answers.{Answers, after_item, answers_after_within, answers_of, answers_within, go_on, judged_within, records_within}
 use Rattle.tcc_txn.specs.Finished.{with_transaction}
 use Rattle.tcc_rows.specs.Items.{finished_in, with_item}
 use Rattle.tcc_txn.specs.Bytes.{same}
 use Rattle.tcc_rows.specs.Lines.{Record, is_cut, line_of, accessed, op_of, in_session, value_of}
 use Rattle.tcc_txn.specs.Names.{name_fault}
-use Rattle.tcc_rows.specs.Past.{begins, fault_of, is_mark, item_of, ops_in, ops_since}
+use Rattle.tcc_rows.specs.Past.{begins, fault_within, is_mark, item_of, ops_in, ops_since}
 use Rattle.tcc_txn.specs.Snapshots.{Sessions}
+use Rattle.tcc_txn.specs.declared.limits.Limits.{Limits}
+use Rattle.tcc_txn.specs.declared.limits.Limits.TheVariants.{Small}
 use Rattle.tcc_txn.specs.Transactions.{Transaction}
 use Rattle.tcc_txn.specs.declared.name.NameFault.{NameFault}
 use Rattle.tcc_txn.specs.declared.op.Op.{Op}
@@ -140,32 +141,32 @@ line_sound (session ∷ word ∷ key ∷ value ∷ []) l e =
     (in_session_sound session (op_of true key value) l (op_named true key value))
 line_sound (a ∷ b ∷ c ∷ d ∷ f ∷ more) l e = cc e
 
-judged_sound : (past : List Line) (fields : Record) (last : Line) → judged past fields ≡ Ok last → IsSound last
-judged_sound past fields last = go (is_cut fields) (line_of fields) refl refl
+judged_sound : (limits : Limits) (past : List Line) (fields : Record) (last : Line) → judged_within limits past fields ≡ Ok last → IsSound last
+judged_sound limits past fields last = go (is_cut fields) (line_of fields) refl refl
   where
     of : (found : Line) (o : Option RowFaultKind) → IsSound found → option_map_or Err o (Ok found) ≡ Ok last → IsSound last
     of found None sound e = of_ok IsSound found last e sound
     of found (Some k) sound e = cc e
 
-    go : (cut : Bool) (r : Result Line RowFaultKind) → is_cut fields ≡ cut → line_of fields ≡ r → judged past fields ≡ Ok last → IsSound last
-    go true r whole is e = (let faulty : judged past fields ≡ Err kind.Read = rw whole refl in cc (faulty, e))
-    go false (Err k) whole is e = (let faulty : judged past fields ≡ Err k = rw (whole, is) refl in cc (faulty, e))
+    go : (cut : Bool) (r : Result Line RowFaultKind) → is_cut fields ≡ cut → line_of fields ≡ r → judged_within limits past fields ≡ Ok last → IsSound last
+    go true r whole is e = (let faulty : judged_within limits past fields ≡ Err kind.Read = rw whole refl in cc (faulty, e))
+    go false (Err k) whole is e = (let faulty : judged_within limits past fields ≡ Err k = rw (whole, is) refl in cc (faulty, e))
     go false (Ok found) whole is e =
-        let after : judged past fields ≡ option_map_or Err (fault_of past found) (Ok found) = rw (whole, is) refl in
-        of found (fault_of past found) (line_sound fields found is) (sym after ∙ e)
+        let after : judged_within limits past fields ≡ option_map_or Err (fault_within limits past found) (Ok found) = rw (whole, is) refl in
+        of found (fault_within limits past found) (line_sound fields found is) (sym after ∙ e)
 
 -- ---- items
 
-items_named : (left : List Record) (past : List Line) → All LineNames past → All ItemNames (answers_after past left).items
-items_named [] past all = All-nil ItemNames
-items_named (fields ∷ rest) past all = go (judged past fields) refl (items_named rest)
+items_named : (limits : Limits) (left : List Record) (past : List Line) → All LineNames past → All ItemNames (answers_after_within limits past left).items
+items_named limits [] past all = All-nil ItemNames
+items_named limits (fields ∷ rest) past all = go (judged_within limits past fields) refl (items_named limits rest)
   where
-    go : (r : Result Line RowFaultKind) → judged past fields ≡ r → ((lines : List Line) → All LineNames lines → All ItemNames (answers_after lines rest).items)
-        → All ItemNames (go_on past (λ lines. answers_after lines rest) r).items
+    go : (r : Result Line RowFaultKind) → judged_within limits past fields ≡ r → ((lines : List Line) → All LineNames lines → All ItemNames (answers_after_within limits lines rest).items)
+        → All ItemNames (go_on past (λ lines. answers_after_within limits lines rest) r).items
     go (Err k) e later = All-nil ItemNames
     go (Ok last) e later =
-        let sound : IsSound last = judged_sound past fields last e in
-        sound.1 past all (answers_after (last ∷ past) rest) (later (last ∷ past) (All-cons LineNames last past sound.0 all))
+        let sound : IsSound last = judged_sound limits past fields last e in
+        sound.1 past all (answers_after_within limits (last ∷ past) rest) (later (last ∷ past) (All-cons LineNames last past sound.0 all))
 
 -- ---- what they finish
 
@@ -220,8 +221,11 @@ none_named =
     (sym (no_entries (finite.entries finite.empty) (sym (finite.len-entries finite.empty) ∙ finite.len-empty name_cmp (List Transaction))))
     (All-nil AreNamed)
 
--- what the first items of a text finish, however many
+-- what the first items of a text finish, however many, within either limits
+pub recorded_within : (limits : Limits) (text : List ℕ) (n : ℕ) → HasNames (finished_in (take n (answers_within limits text).items))
+recorded_within limits text n =
+    fold_named (take n (answers_within limits text).items) finite.empty none_named
+    (All-take ItemNames n (answers_within limits text).items (items_named limits (records_within limits text) [] (All-nil LineNames)))
+
 pub recorded : (text : List ℕ) (n : ℕ) → HasNames (finished_in (take n (answers_of text).items))
-recorded text n =
-    fold_named (take n (answers_of text).items) finite.empty none_named
-    (All-take ItemNames n (answers_of text).items (items_named (records_of text) [] (All-nil LineNames)))
+recorded text n = recorded_within Small text n

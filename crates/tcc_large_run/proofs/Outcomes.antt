@@ -9,6 +9,7 @@ use Rattle.tcc_reads.specs.Sources.{history}
 use Rattle.tcc_graph.specs.Levels.{judged}
 use Rattle.tcc_graph.specs.declared.level.Level.{Level}
 use Rattle.tcc_graph.specs.declared.link.Link.{Link}
+use Rattle.tcc_cert.specs.LargeTexts.{HasLargeText}
 use Rattle.tcc_answer.specs.declared.answer.Answer.{Answer}
 use Rattle.tcc_answer.specs.declared.answer.Answer.TheVariants as answer
 use Rattle.tcc_large.specs.Decisions.{HasLinks, IsDecision}
@@ -19,7 +20,7 @@ use Rattle.tcc_large.specs.declared.decision.Decision.TheVariants as decision
 use Rattle.tcc_print.specs.Courses.{Said, faults_said}
 use Rattle.tcc_print.specs.declared.options.Options.{Options}
 use Rattle.tcc_print.specs.declared.status.Status.TheVariants.{Anomaly}
-use Rattle.tcc_large_run.specs.LargeRuns.{HasSaid, IsSaidOfSnapshot, decision_said}
+use Rattle.tcc_large_run.specs.LargeRuns.{HasSaid, IsSaidOfSnapshot, claim_of, decision_said}
 use Rattle.tcc_large_run.specs.private.Stages.{IsDecided, IsOutcome, answer_links, outcome_links, outcome_of, outcome_said}
 use Rattle.tcc_large_run.specs.declared.outcome.Outcome.{Outcome}
 use Rattle.tcc_large_run.specs.declared.outcome.Outcome.TheVariants as outcome
@@ -36,7 +37,7 @@ decided_said options s h o is =
     ap (outcome_said options) is.outcome ∙ decided options h is.decided ∙ ap (λ (h : History). decision_said options h is.decided) is.own
 
 past_limits : (options : Options) (s : Sessions) (h : History) (o : Outcome) → IsDecided options.level s h o → IsSaidOfSnapshot options s (outcome_said options o)
-past_limits options s h o is = inl (is.resolved, inr (is.past, is.decided, is.is, decided_said options s h o is))
+past_limits options s h o is = inl (is.resolved, inr (is.past, is.decided, is.is, is.room, decided_said options s h o is))
 
 pub said_of : (options : Options) (s : Sessions) (o : Outcome) → IsOutcome options.level s o → IsSaidOfSnapshot options s (outcome_said options o)
 said_of options s (outcome.Unresolved faults) (faulty, same) = inr (faulty, ap (faults_said options) same)
@@ -46,18 +47,23 @@ said_of options s (outcome.Cycle h labels links) is = past_limits options s h (o
 
 -- past the small limits what is answered for a large snapshot is what is to be said of it
 decided_outcome : (level : Level) (s : Sessions) (h : History) (d : Decision) → read_faults s ≡ [] → (KeepsLimits s → ⊥) → h ≡ history s
-    → IsDecision (judged (history s) level) d → IsOutcome level s (outcome_of level h d)
-decided_outcome level s h (decision.Order order) none past same is =
-    record { resolved = none; past = past; own = same; decided = decision.Order order; is = is; outcome = refl }
-decided_outcome level s h (decision.Least links) none past same is =
-    record { resolved = none; past = past; own = same; decided = decision.Least links; is = is; outcome = refl }
-decided_outcome level s h (decision.Cycle links) none past same is =
-    record { resolved = none; past = past; own = same; decided = decision.Cycle links; is = is; outcome = refl }
+    → IsDecision (judged (history s) level) d → HasLargeText (claim_of level (history s) d) → IsOutcome level s (outcome_of level h d)
+decided_outcome level s h (decision.Order order) none past same is room =
+    record { resolved = none; past = past; own = same; decided = decision.Order order; is = is; room = room; outcome = refl }
+decided_outcome level s h (decision.Least links) none past same is room =
+    record { resolved = none; past = past; own = same; decided = decision.Least links; is = is; room = room; outcome = refl }
+decided_outcome level s h (decision.Cycle links) none past same is room =
+    record { resolved = none; past = past; own = same; decided = decision.Cycle links; is = is; room = room; outcome = refl }
 
 pub large_outcome : (level : Level) (s : Sessions) (a : LargeAnswer) (o : Outcome) → (KeepsLimits s → ⊥) → IsLargeAnswer s level a
-    → o ≡ outcome_of level a.graph a.decision → IsOutcome level s o
-large_outcome level s a o past (none, same, is) said =
-    subst (λ (o : Outcome). IsOutcome level s o) (sym said) (decided_outcome level s a.graph a.decision none past same is)
+    → (o ≡ outcome_of level a.graph a.decision) × HasLargeText (claim_of level a.graph a.decision) → IsOutcome level s o
+large_outcome level s a o past (none, same, is) (said, room) =
+    subst (λ (o : Outcome). IsOutcome level s o) (sym said)
+    (decided_outcome level s a.graph a.decision none past same is (subst (λ (h : History). HasLargeText (claim_of level h a.decision)) same room))
+
+-- what is answered for a large snapshot is decided of its graph
+pub decided_of : (level : Level) (s : Sessions) (a : LargeAnswer) → IsLargeAnswer s level a → IsDecision (judged a.graph level) a.decision
+decided_of level s a (none, same, is) = subst (λ (h : History). IsDecision (judged h level) a.decision) (sym same) is
 
 -- ---- the links of what was said
 

@@ -13,7 +13,7 @@ use Rattle.tcc_graph.specs.Levels.{judged}
 use Rattle.tcc_graph.specs.Links.{cost}
 use Rattle.tcc_graph.specs.declared.level.Level.{Level}
 use Rattle.tcc_graph.specs.declared.link.Link.{Link}
-use Rattle.tcc_cert.specs.LargeTexts.{large_certificate_text}
+use Rattle.tcc_cert.specs.LargeTexts.{HasLargeText, large_certificate_text}
 use Rattle.tcc_cert.specs.RunsTold.{order_claim_of}
 use Rattle.tcc_cert.specs.declared.large.LargeCertificate.{LargeCertificate}
 use Rattle.tcc_cert.specs.declared.large.LargeCertificate.TheVariants as claims
@@ -86,11 +86,12 @@ decision_said options h (decision.Cycle links) = record {
 -- ---- one answer
 
 -- what is said of a snapshot whose reads all have sources: within the small limits its first answer, which is what is said
--- without --large; past them what is decided of its history
+-- without --large; past them what is decided of its history, where version 3 of the text has room for what is claimed by that
 abbrev pub IsResolvedAs : Options → Sessions → Said → Type 0
 IsResolvedAs options s said =
     (KeepsLimits s × (a : Answer) × IsAnswerOfHistory (judged (history s) options.level) a × (said ≡ answer_said options a))
-    ⊎ ((KeepsLimits s → ⊥) × (d : Decision) × IsDecision (judged (history s) options.level) d × (said ≡ decision_said options (history s) d))
+    ⊎ ((KeepsLimits s → ⊥) × (d : Decision) × IsDecision (judged (history s) options.level) d × HasLargeText (claim_of options.level (history s) d)
+    × (said ≡ decision_said options (history s) d))
 
 -- what is said of a snapshot; all its read faults, where there are some
 abbrev pub IsSaidOfSnapshot : Options → Sessions → Said → Type 0

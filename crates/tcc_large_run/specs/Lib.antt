@@ -1,2 +1,3 @@
+pub mod LargeClosing
 pub mod LargeRuns
 pub mod private

@@ -1,7 +1,8 @@
 //! What an answer past the small limits claims: an order by its runs, a cycle by its links.
-ghost use Rattle.std.specs.Prelude.{◌≡◌, IfOk};
+ghost use Rattle.std.specs.Prelude.{◌≡◌, ◌≤◌, IfOk};
 ghost use Rattle.tcc_graph.specs.Links.{cost};
 ghost use Rattle.tcc_cert.specs.declared.large.LargeCertificate.TheVariants as claims;
+ghost use Rattle.tcc_cert.specs.declared.version_3.TheConstants.{V3_MAX_COST};
 ghost use Rattle.tcc_judge.specs.Claims.{links_claim_of};
 ghost use Rattle.tcc_large_run.specs.LargeRuns.{short_runs};
 ghost use Rattle.tcc_large_run.specs.private.Stages.{answer_claim};
@@ -14,19 +15,20 @@ use tcc_txn::NoMemory;
 
 /// How many steps the links have together.
 pub(crate) fn steps_of(links: &[Link]) -> Result<u32, NoMemory>
-    ensures { IfOk result (λ steps. steps ≡ cost links.now) }
+    ensures steps { IfOk result (λ steps. steps ≡ cost links.now) }
+    ensures room { IfOk result (λ _. cost links.now ≤ V3_MAX_COST) }
 {
-    let mut steps: u32 = 0;
+    let mut steps: usize = 0;
     for link in links {
-        // More steps are held by no memory.
-        let Ok(cost) = u32::try_from(link.cost()) else {
-            return Err(NoMemory);
-        };
-        let Some(more) = steps.checked_add(cost) else {
+        let Some(more) = steps.checked_add(link.cost()) else {
             return Err(NoMemory);
         };
         steps = more;
     }
+    // More steps are held by no memory.
+    let Ok(steps) = u32::try_from(steps) else {
+        return Err(NoMemory);
+    };
     Ok(steps)
 }
 

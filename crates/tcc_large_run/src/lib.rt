@@ -6,6 +6,7 @@ mod certifying;
 mod claims;
 pub mod laws;
 mod outcome;
+mod room;
 mod running;
 mod slicing;
 mod watching;

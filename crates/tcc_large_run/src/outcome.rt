@@ -2,12 +2,16 @@
 ghost use Rattle.std.specs.Prelude.{◌≡◌, IfErr, IfOk, IfSome, OnOk, Some};
 ghost use Rattle.std.specs.Io.KnownBytes.{Appends};
 ghost use Rattle.tcc_txn.specs.Finished.{KeepsLimits};
+ghost use Rattle.tcc_graph.specs.Levels.{judged};
+ghost use Rattle.tcc_cert.specs.LargeTexts.{HasLargeText};
 ghost use Rattle.tcc_answer.specs.declared.answer.Answer.TheVariants as answer;
+ghost use Rattle.tcc_large.specs.Decisions.{IsDecision};
 ghost use Rattle.tcc_print.specs.Printed.{EndsIn};
-ghost use Rattle.tcc_large_run.specs.LargeRuns.{bare_cycle, bare_order};
+ghost use Rattle.tcc_large_run.specs.LargeRuns.{bare_cycle, bare_order, claim_of};
 ghost use Rattle.tcc_large_run.specs.private.Stages.{IsOutcome, outcome_links, outcome_of, outcome_status, outcome_text};
 
 use crate::claims::steps_of;
+use crate::room::check_room;
 use std::alloc::Global;
 use std::io::Write;
 use std::thread::Threads;
@@ -106,9 +110,11 @@ impl Outcome {
 
     /// What is said of a history by what is decided of it.
     fn of_decision(alloc: Global, level: Level, answer: LargeAnswer) -> Result<Outcome, NoMemory>
-        ensures { IfOk result (λ outcome. outcome ≡ outcome_of level answer.graph answer.decision) }
+        ensures { IsDecision (judged answer.graph level) answer.decision
+            → IfOk result (λ outcome. (outcome ≡ outcome_of level answer.graph answer.decision) × HasLargeText (claim_of level answer.graph answer.decision)) }
     {
         let LargeAnswer { graph, decision } = answer;
+        check_room(&graph, &decision)?;
         match decision {
             Decision::Order(order) => {
                 let answer = order_answer(alloc, &graph, level, order)?;

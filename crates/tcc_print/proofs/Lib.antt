@@ -4,5 +4,6 @@ pub mod JsonPieces
 pub mod Counted
 pub mod Moments
 pub mod Courses
+pub mod LastSaid
 pub mod Noted
 pub mod LargeJson

@@ -13,13 +13,13 @@ use Rattle.tcc_print.specs.declared.halt.Halt.{Halt}
 use Rattle.tcc_print.specs.declared.options.Options.{Options}
 use Rattle.tcc_verdict.specs.Checks.{IsCheck, MayBeCheck}
 use Rattle.tcc_run.specs.Closing.{IsAcceptance, acceptance}
-use Rattle.tcc_print.specs.Printed.{Prints, device_line}
+use Rattle.tcc_print.specs.Printed.{device_line}
 use Rattle.tcc_print.specs.Statuses.{code_of}
 use Rattle.tcc_print.specs.declared.status.Status.TheVariants.{Device}
 use Rattle.tcc_print.specs.Courses.{Said, halt_said}
 use Rattle.tcc_run.specs.Runs.{IsSaidOfSnapshot, IsEnded, IsRun, IsWhole}
 use Rattle.tcc_run.proofs.Closing.{accepted, only}
-use Rattle.tcc_run.proofs.LastSnapshot.{last_said}
+use Rattle.tcc_print.proofs.LastSaid.{device_code, last_said}
 use Rattle.tcc_print.proofs.Moments.{last-push}
 
 -- the check of these records accepts the text as that of the certificate, unless a reader fails or memory is refused
@@ -49,11 +49,6 @@ module _ (options : Options) (records text : List ℕ) (limits : KeepsLimits (fi
       let pushed : last_or None said ≡ Some (halt_said options why) = ap (last_or None) same ∙ last-push None before (halt_said options why) in
       let halted : halt_said options why ≡ last = inside _ _ (sym pushed ∙ end) in
       absurd (nothing text (ap (λ (s : Said). s.certificate) halted ∙ has))
-
--- what is printed for a device that failed has its status
-pub device_code : (before after : Option (List ℕ)) (text : List ℕ) (code : ℕ) → Prints before after text Device code → code ≡ code_of Device
-device_code before after text code (inl whole) = whole.1
-device_code before after text code (inr part) = part.1
 
 -- what stands in a file that was empty is the certificate of the last, where no device failed
 pub left : (options : Options) (records text : List ℕ) → KeepsLimits (finished_in (answers_of records).items) → (before after : Option (List ℕ)) (code : ℕ)

@@ -1,5 +1,5 @@
 -- A run that no device and no refused memory ends prints last the answer for all that the records finish.
-use Rattle.std.proofs.Common.{ℕ, ◌≡◌, ◌≢◌, List, [], ◌∷◌, ◌++◌, Option, None, Some, sym, ap, subst, ◌∙◌, inl, inr, ◌⊎◌, append_assoc, append-nil}
+use Rattle.std.proofs.Common.{ℕ, ◌≡◌, ◌≢◌, List, [], ◌++◌, Option, None, Some, sym, ap, subst, ◌∙◌, inl, inr, ◌⊎◌}
 use Rattle.std.specs.Prelude.{unwrap_or}
 use Rattle.std.specs.Io.KnownBytes.{Appends}
 use Rattle.std.specs.List.{last_or}
@@ -21,9 +21,8 @@ use Rattle.tcc_run.specs.Headline.{IsExplained}
 use Rattle.tcc_run.specs.HeadlineRuns.{PrintsExplained, SaysExplained, finished_by}
 use Rattle.tcc_print.specs.Courses.{Contents, Gains, MayEnd, Said, halt_said, texts}
 use Rattle.tcc_run.specs.Runs.{AllGoesOut, IsSaidOfSnapshot, IsEnded, IsRun, IsWhole}
-use Rattle.tcc_run.proofs.Closes.{device_code}
 use Rattle.tcc_run.proofs.Closing.{accepted, only}
-use Rattle.tcc_run.proofs.LastSnapshot.{last_said}
+use Rattle.tcc_print.proofs.LastSaid.{device_code, last_said, texts_end}
 use Rattle.tcc_print.proofs.Moments.{last-push}
 
 inside : {X : Type 0} (x y : X) → Some x ≡ Some y → x ≡ y
@@ -31,18 +30,6 @@ inside x y e = cc e
 
 nothing : {X : Type 0} (x : X) → None ≡ Some x → ⊥
 nothing x e = cc e
-
--- the text of the last is the end of all texts
-texts_from : (one : Said) (said : List Said) (last : Said) → last_or (Some one) said ≡ Some last
-    → (front : List ℕ) × (one.text ++ texts said ≡ front ++ last.text)
-texts_from one [] last e = ([], append-nil one.text ∙ ap (λ (s : Said). s.text) (inside one last e))
-texts_from one (next ∷ said) last e =
-    let (front, is) = texts_from next said last e in
-    (one.text ++ front, ap (λ rest. one.text ++ rest) is ∙ sym (append_assoc one.text front last.text))
-
-texts_end : (said : List Said) (last : Said) → last_or None said ≡ Some last → (front : List ℕ) × (texts said ≡ front ++ last.text)
-texts_end [] last e = absurd (nothing last e)
-texts_end (one ∷ said) last e = texts_from one said last e
 
 module _ (law : (s : Sessions) (level : Level) (a : Answer) → IsAnswerOfSnapshot s level a → IsExplained s level a) (options : Options) where
   -- what is said of a snapshot is what the main theorem says

@@ -1,6 +1,5 @@
 pub mod Closing
 pub mod Interleaving
-pub mod LastSnapshot
 pub mod Closes
 pub mod HeadlineRuns
 pub mod OneRun

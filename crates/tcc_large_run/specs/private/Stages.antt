@@ -10,7 +10,7 @@ use Rattle.tcc_reads.specs.Sources.{history}
 use Rattle.tcc_graph.specs.Links.{cost}
 use Rattle.tcc_graph.specs.declared.level.Level.{Level}
 use Rattle.tcc_graph.specs.declared.link.Link.{Link}
-use Rattle.tcc_cert.specs.LargeTexts.{large_certificate_text}
+use Rattle.tcc_cert.specs.LargeTexts.{HasLargeText, large_certificate_text}
 use Rattle.tcc_cert.specs.RunsTold.{order_claim_of}
 use Rattle.tcc_cert.specs.Texts.{certificate_text}
 use Rattle.tcc_cert.specs.declared.large.LargeCertificate.{LargeCertificate}
@@ -34,7 +34,7 @@ use Rattle.tcc_print.specs.declared.options.Options.{Options}
 use Rattle.tcc_print.specs.declared.status.Status.{Status}
 use Rattle.tcc_print.specs.declared.status.Status.TheVariants.{Anomaly, Device, Memory, ReadFaults}
 use Rattle.tcc_print.specs.private.Courses.{Course}
-use Rattle.tcc_large_run.specs.LargeRuns.{CertificateStops, Files, IsCertified, IsSaidOfSnapshot, IsSliceText, IsSliced, SliceStops, Stops, bare_cycle, bare_order, short_runs}
+use Rattle.tcc_large_run.specs.LargeRuns.{CertificateStops, Files, IsCertified, IsSaidOfSnapshot, IsSliceText, IsSliced, SliceStops, Stops, bare_cycle, bare_order, claim_of, short_runs}
 use Rattle.tcc_large_run.specs.declared.outcome.Outcome.{Outcome}
 use Rattle.tcc_large_run.specs.declared.outcome.Outcome.TheVariants as outcome
 
@@ -53,6 +53,7 @@ pub record IsDecided (level : Level) (s : Sessions) (h : History) (o : Outcome) 
   pub own : h ≡ history s
   pub decided : Decision
   pub is : IsDecision (judged (history s) level) decided
+  pub room : HasLargeText (claim_of level (history s) decided)
   pub outcome : o ≡ outcome_of level h decided
 
 -- what is to be said of a snapshot at a level

@@ -2,7 +2,7 @@ use Rattle.std.proofs.Common.{◌∙◌, subst, rules}
 use Rattle.std.proofs.lemmas.Result.{IfOk-weaker}
 use Rattle.tcc_txn.specs.Finished.{KeepsLimits}
 use Rattle.tcc_reads.specs.Refusals.{IsRefusal}
-use Rattle.tcc_large_run.proofs.Outcomes.{large_outcome}
+use Rattle.tcc_large_run.proofs.Outcomes.{decided_of, large_outcome}
 use Rattle.tcc_large_run.proofs.outcome.Outcome.of.Goals as goal
 
 pub returns-in-Err-Reads : goal.returns-in-Err-Reads
@@ -14,4 +14,5 @@ pub returns-in-Ok : goal.returns-in-Ok
 returns-in-Ok g c =
     let past : KeepsLimits c.args.snapshot.now → ⊥ = search rules in
     IfOk-weaker c.of_decision.result _ _
-    (λ outcome said. large_outcome c.args.run.now.options.now.level c.args.snapshot.now c.in-Ok.answer outcome past c.in-Ok.ensures said) c.of_decision.ensures
+    (λ outcome said. large_outcome c.args.run.now.options.now.level c.args.snapshot.now c.in-Ok.answer outcome past c.in-Ok.ensures said)
+    (c.of_decision.ensures (decided_of c.args.run.now.options.now.level c.args.snapshot.now c.in-Ok.answer c.in-Ok.ensures))

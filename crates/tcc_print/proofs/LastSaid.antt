@@ -1,5 +1,5 @@
--- The last of the snapshots that a run answers is that of all that was finished.
-use Rattle.std.proofs.Common.{◌≡◌, Bool, true, false, cond, List, [], ◌∷◌, ◌++◌, Option, None, Some}
+-- The last of the snapshots that a run answers is that of all that was finished, and what was said last is the end of all texts.
+use Rattle.std.proofs.Common.{◌≡◌, ℕ, Bool, true, false, cond, List, [], ◌∷◌, ◌++◌, Option, None, Some}
 use Rattle.std.proofs.Common.{refl, sym, ap, subst, ◌∙◌, inl, inr, ◌⊎◌, append_assoc, append-nil}
 use Rattle.std.specs.List.{AllZip, last_or}
 use Rattle.std.specs.FinMap as finite
@@ -8,7 +8,11 @@ use Rattle.tcc_rows.specs.Items.{finished_in, with_item}
 use Rattle.tcc_txn.specs.Snapshots.{Sessions}
 use Rattle.tcc_rows.specs.declared.rows.Item.{Item}
 use Rattle.tcc_rows.specs.declared.rows.Item.TheVariants as item
+use Rattle.tcc_print.specs.Courses.{Said, texts}
 use Rattle.tcc_print.specs.Moments.{at_end, is_due_after, sealed_after, sealed_in}
+use Rattle.tcc_print.specs.Printed.{Prints}
+use Rattle.tcc_print.specs.Statuses.{code_of}
+use Rattle.tcc_print.specs.declared.status.Status.TheVariants.{Device}
 
 -- some snapshots, and this one behind them
 abbrev EndsWith : List Sessions → Sessions → Type 0
@@ -75,3 +79,28 @@ pub last_said : {T : Type 0} (R : Sessions → T → Type 0) (items : List Item)
 last_said R items said last all e =
     let (front, is) = last_snapshot items in
     last_paired R front (finished_in items) said None last (subst (λ snapshots. AllZip R snapshots said) is all) e
+
+-- ---- the texts
+
+inside : {X : Type 0} (x y : X) → Some x ≡ Some y → x ≡ y
+inside x y e = cc e
+
+nothing : {X : Type 0} (x : X) → None ≡ Some x → ⊥
+nothing x e = cc e
+
+-- the text of the last is the end of all texts
+texts_from : (one : Said) (said : List Said) (last : Said) → last_or (Some one) said ≡ Some last
+    → (front : List ℕ) × (one.text ++ texts said ≡ front ++ last.text)
+texts_from one [] last e = ([], append-nil one.text ∙ ap (λ (s : Said). s.text) (inside one last e))
+texts_from one (next ∷ said) last e =
+    let (front, is) = texts_from next said last e in
+    (one.text ++ front, ap (λ rest. one.text ++ rest) is ∙ sym (append_assoc one.text front last.text))
+
+pub texts_end : (said : List Said) (last : Said) → last_or None said ≡ Some last → (front : List ℕ) × (texts said ≡ front ++ last.text)
+texts_end [] last e = absurd (nothing last e)
+texts_end (one ∷ said) last e = texts_from one said last e
+
+-- what is printed for a device that failed has its status
+pub device_code : (before after : Option (List ℕ)) (text : List ℕ) (code : ℕ) → Prints before after text Device code → code ≡ code_of Device
+device_code before after text code (inl whole) = whole.1
+device_code before after text code (inr part) = part.1

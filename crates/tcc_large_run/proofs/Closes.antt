@@ -1,0 +1,155 @@
+-- What a run of explain --large puts into the file for the certificate is accepted by the check of the same records.
+use Rattle.std.proofs.Common.{ℕ, ◌≡◌, ◌≢◌, List, [], ◌∷◌, ◌++◌, Option, None, Some, refl, sym, ap, subst, ◌∙◌, inl, inr, ◌⊎◌}
+use Rattle.std.specs.Prelude.{unwrap_or}
+use Rattle.std.specs.Io.KnownBytes.{Appends}
+use Rattle.std.specs.List.{last_or}
+use Rattle.tcc_txn.specs.declared.limits.Limits.TheVariants.{Large}
+use Rattle.tcc_reads.specs.Faults.{read_faults}
+use Rattle.tcc_print.specs.Courses.{Contents, Gains, IsEnded, IsWhole, MayEnd, Said, halt_said, texts}
+use Rattle.tcc_print.specs.Printed.{Prints, device_line, memory_line}
+use Rattle.tcc_print.specs.Statuses.{code_of, halt_status, row_status}
+use Rattle.tcc_print.specs.declared.halt.Halt.{Halt}
+use Rattle.tcc_print.specs.declared.halt.Halt.TheVariants as halt
+use Rattle.tcc_print.specs.declared.options.Options.{Options}
+use Rattle.tcc_print.specs.declared.status.Status.TheVariants.{Device, Memory}
+use Rattle.tcc_print.proofs.LastSaid.{device_code, last_said, texts_end}
+use Rattle.tcc_print.proofs.Moments.{last-push}
+use Rattle.tcc_large_run.specs.LargeClosing.{IsAcceptedWith, PrintsDecided}
+use Rattle.tcc_large_run.specs.LargeRuns.{AllGoesOut, CertificateStops, FileFails, Files, IsLargeRun, IsSaidOfSnapshot, SliceStops, Stops, answers_of, finished}
+use Rattle.tcc_large_run.proofs.Accepted.{Laws, said_accepted, said_certified}
+
+inside : {X : Type 0} (x y : X) → Some x ≡ Some y → x ≡ y
+inside x y e = cc e
+
+nothing : {X : Type 0} (x : X) → None ≡ Some x → ⊥
+nothing x e = cc e
+
+-- what is printed where memory is out has its status, or that of a device
+memory_code : (before after : Option (List ℕ)) (text : List ℕ) (code : ℕ) → Prints before after text Memory code → (code ≡ code_of Memory) ⊎ (code ≡ code_of Device)
+memory_code before after text code (inl whole) = inl whole.1
+memory_code before after text code (inr part) = inr part.1
+
+-- what ended a run has no certificate
+ended_without : (options : Options) (why : Halt) (answers said : List Said) (last : Said) (text : List ℕ) → said ≡ answers ++ halt_said options why ∷ []
+    → last_or None said ≡ Some last → last.certificate ≡ Some text → ⊥
+ended_without options why answers said last text same end has =
+    let pushed : last_or None said ≡ Some (halt_said options why) = ap (last_or None) same ∙ last-push None answers (halt_said options why) in
+    let halted : halt_said options why ≡ last = inside _ _ (sym pushed ∙ end) in
+    nothing text (ap (λ (s : Said). s.certificate) halted ∙ has)
+
+module _ (laws : Laws) (options : Options) (records : List ℕ) where
+  -- ---- what is left in a file
+
+  of_said : (last : Said) (text : List ℕ) → last.certificate ≡ Some text → (answers_of records).fault ≡ None
+      → IsSaidOfSnapshot options (finished records) last → IsAcceptedWith options records text
+  of_said last text has unfaulted (inl (resolved, is)) = said_accepted laws options records unfaulted resolved last text has is
+  of_said last text has unfaulted (inr (faulty, same)) = absurd (nothing text (sym (ap (λ (s : Said). s.certificate) same) ∙ has))
+
+  closes : (said : List Said) (last : Said) (text : List ℕ) → last_or None said ≡ Some last → last.certificate ≡ Some text
+      → IsWhole (IsSaidOfSnapshot options) (answers_of records) said ⊎ IsEnded Large (IsSaidOfSnapshot options) options records said
+      → IsAcceptedWith options records text
+  closes said last text end has (inl (unfaulted, answered)) =
+      of_said last text has unfaulted (last_said (IsSaidOfSnapshot options) (answers_of records).items said last answered end)
+  closes said last text end has (inr (answers, (n, why, may, are, same))) =
+      absurd (ended_without options why answers said last text same end has)
+
+  module _ (text : List ℕ) (some : text ≢ []) (said : List Said) (last : Said) (end : last_or None said ≡ Some last)
+      (ends : IsWhole (IsSaidOfSnapshot options) (answers_of records) said ⊎ IsEnded Large (IsSaidOfSnapshot options) options records said) where
+    of_gains : Gains (Some (Some [])) (Some (Some text)) (unwrap_or last.certificate []) → IsAcceptedWith options records text
+    of_gains gains = go last.certificate refl
+      where
+        go : (kept : Option (List ℕ)) → last.certificate ≡ kept → IsAcceptedWith options records text
+        go None has = absurd (some (gains ∙ ap (λ (k : Option (List ℕ)). unwrap_or k []) has))
+        go (Some written) has =
+            let same : text ≡ written = gains ∙ ap (λ (k : Option (List ℕ)). unwrap_or k []) has in
+            closes said last text end (has ∙ ap Some (sym same)) ends
+
+    of_certificate : (before after : Option (List ℕ)) (code : ℕ) → code ≢ code_of Device
+        → CertificateStops options last before after (Some (Some [])) (Some (Some text)) code → IsAcceptedWith options records text
+    of_certificate before after code fine (inl (whole, is, part, prints)) =
+        absurd (fine (device_code before after (device_line options.json) code prints))
+    of_certificate before after code fine (inr (claim, is, gains, prints)) = absurd (some gains.0)
+
+    of_stops : (before after : Option (List ℕ)) (slice slice' : Contents) (code : ℕ) → code ≢ code_of Device
+        → Stops options (finished records) last before after (record { certificate = Some (Some []); slice = slice })
+        (record { certificate = Some (Some text); slice = slice' }) code
+        → IsAcceptedWith options records text
+    of_stops before after slice slice' code fine (inl stops) = of_certificate before after code fine stops.0
+    of_stops before after slice slice' code fine (inr stops) = of_gains stops.0
+
+  pub left : (text : List ℕ) (before after : Option (List ℕ)) (slice slice' : Contents) (code : ℕ)
+      → IsLargeRun options records before after (record { certificate = Some (Some []); slice = slice })
+      (record { certificate = Some (Some text); slice = slice' }) code
+      → text ≢ [] → code ≢ code_of Device → IsAcceptedWith options records text
+  left text before after slice slice' code (said, last, ends, end, inl goes) some fine =
+      of_gains text some said last end ends goes.1
+  left text before after slice slice' code (said, last, ends, end, inr (inl fails)) some fine = absurd (fine fails.0.0.1)
+  left text before after slice slice' code (said, last, ends, end, inr (inr (between, out, stops))) some fine =
+      of_stops text some said last end ends between after slice slice' code fine stops
+
+  -- ---- what was printed last
+
+  module _ (unfaulted : (answers_of records).fault ≡ None) (resolved : read_faults (finished records) ≡ []) (before after : Option (List ℕ))
+      (files files' : Files) (code : ℕ) (fine : code ≢ code_of Device) (space : code ≢ code_of Memory) where
+    abbrev Printed : Type 0
+    Printed = PrintsDecided options records before after files files' code
+
+    of_resolved : (said : List Said) (last : Said) → last_or None said ≡ Some last
+        → AllGoesOut options (finished records) before after files files' (texts said) last code → IsSaidOfSnapshot options (finished records) last → Printed
+    of_resolved said last end (out, gains, sliced, ends_by) (inl (none, is)) =
+        let (front, whole) = texts_end said last end in
+        let (text, has) = said_certified laws options records unfaulted resolved last is in
+        record {
+          said = last;
+          resolved = is;
+          front = front;
+          printed = subst (Appends before after) whole out;
+          text = text;
+          certificate = has;
+          written = subst (λ (kept : Option (List ℕ)). Gains files.certificate files'.certificate (unwrap_or kept [])) has gains;
+          sliced = sliced;
+          status = ends_by;
+          accepted = said_accepted laws options records unfaulted resolved last text has is;
+        }
+    of_resolved said last end goes (inr (faulty, same)) = absurd (faulty resolved)
+
+    -- what ends a run early ends it by a device or by memory, since the records have no fault
+    ended : (n : ℕ) (why : Halt) → MayEnd Large records n why → code ≡ code_of (halt_status why) → ⊥
+    ended n (halt.Row fault) (inl (found, at)) ends = nothing fault (sym unfaulted ∙ found)
+    ended n (halt.Row fault) (inr (read, at, count)) ends = fine (ends ∙ ap (λ kind. code_of (row_status kind)) read)
+    ended n halt.NoMemory may ends = space ends
+    ended n (halt.Reads faults) may ends = may
+    ended n (halt.Text fault) may ends = may
+
+    of_ends : (said : List Said) (last : Said) → last_or None said ≡ Some last
+        → AllGoesOut options (finished records) before after files files' (texts said) last code
+        → IsWhole (IsSaidOfSnapshot options) (answers_of records) said ⊎ IsEnded Large (IsSaidOfSnapshot options) options records said → Printed
+    of_ends said last end goes (inl (none, answered)) =
+        of_resolved said last end goes (last_said (IsSaidOfSnapshot options) (answers_of records).items said last answered end)
+    of_ends said last end goes (inr (answers, (n, why, may, are, same))) =
+        let pushed : last_or None said ≡ Some (halt_said options why) = ap (last_or None) same ∙ last-push None answers (halt_said options why) in
+        let halted : last ≡ halt_said options why = inside last (halt_said options why) (sym end ∙ pushed) in
+        absurd (ended n why may (goes.3 ∙ ap (λ (s : Said). code_of s.status) halted))
+
+    out_of_memory : (between : Option (List ℕ)) → Prints between after (memory_line options.json) Memory code → ⊥
+    out_of_memory between prints = elim (memory_code between after (memory_line options.json) code prints) [
+      | inl memory ↦ space memory
+      | inr device ↦ fine device
+    ]
+
+    certificate_fails : (last : Said) (between : Option (List ℕ)) → CertificateStops options last between after files.certificate files'.certificate code → ⊥
+    certificate_fails last between (inl (text, is, part, prints)) = fine (device_code between after (device_line options.json) code prints)
+    certificate_fails last between (inr (claim, is, none, prints)) = out_of_memory between prints
+
+    slice_fails : (last : Said) (between : Option (List ℕ)) → SliceStops options (finished records) last between after files.slice files'.slice code → ⊥
+    slice_fails last between (inl (slice, n, cut, gains, prints)) = fine (device_code between after (device_line options.json) code prints)
+    slice_fails last between (inr (anomalous, none, prints)) = out_of_memory between prints
+
+    file_fails : (text : List ℕ) (last : Said) → FileFails options (finished records) before after files files' text last code → ⊥
+    file_fails text last (between, out, inl stops) = certificate_fails last between stops.0
+    file_fails text last (between, out, inr stops) = slice_fails last between stops.1
+
+    pub prints : IsLargeRun options records before after files files' code → Printed
+    prints (said, last, ends, end, inl goes) = of_ends said last end goes ends
+    prints (said, last, ends, end, inr (inl fails)) = absurd (fine fails.0.0.1)
+    prints (said, last, ends, end, inr (inr fails)) = absurd (file_fails (texts said) last fails)
