@@ -16,9 +16,10 @@ ARCHITECTURE has to have a row for each crate; CONTRACTS and MODULES have to be 
 (`contracts.py`, `modules.py`), and so have the examples in doc comments (`examples.py`) and
 what is told of statuses and limits (`told.py`). The public names that callers rely on have to be there (`surface.py`), and the
 JSON schema of answers has to be that of the answers in the rows (`schema.py`). What has to be believed stands in `specs/`, and
-nothing else does (`trust.py`). CHANGELOG tells of the past, and is left out. No script may define a name twice at one level. The
-man page and the completion for bash have to name each command and option of the program's help, and the completion to complete
-them; and the stack that docs/GUIDE.md names has to be enough. Each difference is one line; the last line is `N passed, M failed`.
+nothing else does (`trust.py`). CHANGELOG tells of the past, and is left out. No script may define a name twice at one level, and
+what a wrong body replaces has to stand once in its file. The man page and the completion for bash have to name each command and
+option of the program's help, and the completion to complete them; and the stack that docs/GUIDE.md names has to be enough. Each
+difference is one line; the last line is `N passed, M failed`.
 """
 import ast
 import collections
@@ -170,6 +171,19 @@ def defined(level: ast.AST) -> Iterator[str]:
             yield from (target.id for target in one.targets if isinstance(target, ast.Name))
 
 
+def faults_of_edits() -> Iterator[Outcome]:
+    """Whether what each wrong body replaces stands once in the file that it names: else it shows nothing, and the gate fails late."""
+    for path in (path[1:] for path in files() if path.endswith(".edit")):
+        file, wrong = "", []
+        for line in (TOP / path).read_text().splitlines():
+            word, _, text = line.partition(" ")
+            if word == "file:":
+                file = (TOP / path).parent.parent.joinpath(text).read_text()
+            elif word == "old:" and file.count(text) != 1:
+                wrong.append("'%s' stands in it %d times" % (text.strip(), file.count(text)))
+        yield path, "; ".join(wrong) or None
+
+
 def faults_of_scripts() -> Iterator[Outcome]:
     """Whether each script defines a name once at each level: the second of two takes all uses of the first."""
     for path in (path[1:] for path in files() if path.endswith(".py")):
@@ -234,6 +248,7 @@ def outcomes(tcc: List[str]) -> Iterator[Outcome]:
     yield from schema.outcomes()
     yield from faults_of_trust()
     yield from faults_of_scripts()
+    yield from faults_of_edits()
     if not shutil.which(tcc[0]):
         yield tcc[0], "there is no such program"
         return
