@@ -6,7 +6,9 @@ use crate::tests::histories::{
 use std::alloc::Global;
 use std::process::Abort;
 use tcc_graph::{Level, Link};
-use tcc_large::{Decision, decide, explain_large, is_cycle, records, slice};
+use tcc_large::{
+    Decision, decide, explain_large, explain_large_with_order, is_cycle, records, slice,
+};
 use tcc_order::order;
 use tcc_reads::ResolveFault;
 use tcc_rows::snapshot_of;
@@ -137,6 +139,29 @@ fn slices(rt: HostRuntime) {
         b,begin\nb,w,u,1\nb,commit\na,begin\na,r,y,1\na,r,x,0\na,r,u,1\na,commit\n",
         "a,begin\na,w,x,5\na,commit\na,begin\na,r,x,0\na,commit\n",
     );
+}
+
+/// With a cycle of more than four steps comes an order that keeps all pairs, `init` first: the only one there is where they lead along
+/// all transactions. There is none where pairs have a circle, and none with another answer.
+#[test]
+fn orders_to_judge(rt: HostRuntime) {
+    let alloc = rt.alloc();
+    let cases: [(&str, &[u32]); 4] = [
+        (FAR_INIT, &[0, 1, 2, 3, 4, 5, 6]),
+        (PAIRS, &[]),
+        (STALE_READ, &[]),
+        (ONE_READ, &[]),
+    ];
+    for (records, wanted) in cases {
+        let snapshot = snapshot_of(alloc, records.as_bytes())
+            .expect(&rt, records)
+            .large();
+        let (_answer, order) = explain_large_with_order(alloc, &snapshot, Level::Causal).expect(
+            &rt, records,
+        );
+        let found = order.unwrap_or(Vec::new(alloc));
+        assert!(&rt; found.as_slice() == wanted, "of {records}");
+    }
 }
 
 /// A large snapshot is answered for with its graph, at the level that was asked for; or with its read faults.
