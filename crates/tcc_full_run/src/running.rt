@@ -1,0 +1,200 @@
+//! From the bytes of records to all that is told of their answer.
+ghost use Rattle.std.specs.Prelude.{◌≡◌, ◌⊎◌, ◌++◌, ℕ, Err, IfSome, MatchResult};
+ghost use Rattle.tcc_rows.specs.Recordings.{IsRecorded};
+ghost use Rattle.tcc_txn.specs.declared.limits.Limits.TheVariants.{Large, Small};
+ghost use Rattle.tcc_full_run.specs.Runs.{IsFullRun, TellsFound, TellsMemory};
+
+use crate::finding::{Found, find_large, find_small};
+use crate::reading::{Failed, within};
+use crate::telling::{tell_fault, tell_found, tell_memory};
+use std::alloc::Global;
+use std::io::{ErrorKind, Read, Write};
+use std::thread::Threads;
+use tcc_explain::Gate;
+use tcc_full::Asked;
+use tcc_print::Run;
+use tcc_print::notes::{note_last, note_reads};
+use tcc_rows::{LargeRecording, Recording, RowFault, RowFaultKind};
+use tcc_txn::{Bounds, LargeLimits, Limits, NoMemory, SmallLimits, SnapshotWithin};
+use tcc_verdict::recorded;
+
+/// Notes of an order that it has too few transactions, and of the first read faults which write each of them is about.
+fn note<B: Bounds, N: Write>(
+    alloc: Global,
+    snapshot: &SnapshotWithin<B>,
+    found: Found,
+    required: u32,
+    notes: &mut N,
+) {
+    match found {
+        Found::Answered(answer) => note_last(alloc, &Some(answer), required, notes),
+        Found::Decided(_) => {}
+        Found::Unresolved(faults) => note_reads(alloc, snapshot, &faults, notes),
+    }
+}
+
+/// Tells what was found for a snapshot, with the rows of the operations in a text.
+fn say<T: Threads + Sync, G: Gate, B: Bounds, W: Write, N: Write>(
+    run: &Run<T, G>,
+    asked: &Asked,
+    text: &[u8],
+    snapshot: &SnapshotWithin<B>,
+    found: Result<Found, NoMemory>,
+    out: &mut W,
+    notes: &mut N,
+) -> u8
+    ensures { MatchResult found
+        (λ found. TellsFound asked.now run.now.options.now.required text.now snapshot.now found (W.contents out.old) (W.contents out.new) result
+        ⊎ TellsMemory asked.now (W.contents out.old) (W.contents out.new) result)
+        (λ _. TellsMemory asked.now (W.contents out.old) (W.contents out.new) result) }
+{
+    let required = run.options.required;
+    match found {
+        Ok(found) => {
+            let code = tell_found(run.alloc, asked, required, text, snapshot, &found, out);
+            note(run.alloc, snapshot, found, required, notes);
+            code
+        }
+        Err(NoMemory) => tell_memory(run.alloc, asked, out),
+    }
+}
+
+/// The run of a text within the small limits.
+fn run_small<T: Threads + Sync, G: Gate, W: Write, N: Write>(
+    run: &Run<T, G>,
+    asked: &Asked,
+    text: &[u8],
+    out: &mut W,
+    notes: &mut N,
+) -> u8
+    requires { asked.now.limits ≡ Small }
+    ensures { IsFullRun asked.now run.now.options.now.required text.now (W.contents out.old) (W.contents out.new) result }
+{
+    let recording: Recording<&[u8]> = match recorded(run.alloc, text, notes) {
+        Ok(recording) => recording,
+        Err(fault) => return tell_fault(run.alloc, asked, &fault, out),
+    };
+    let snapshot = recording.snapshot();
+    let workers = run.options.workers;
+    let found = find_small(run.rt, run.alloc, snapshot, asked.level, workers, run.gate);
+    say(
+        run,
+        asked,
+        within(text, asked.limits),
+        snapshot,
+        found,
+        out,
+        notes,
+    )
+}
+
+/// The run of a text within the large limits.
+fn run_large<T: Threads + Sync, G: Gate, W: Write, N: Write>(
+    run: &Run<T, G>,
+    asked: &Asked,
+    text: &[u8],
+    out: &mut W,
+    notes: &mut N,
+) -> u8
+    requires { asked.now.limits ≡ Large }
+    ensures { IsFullRun asked.now run.now.options.now.required text.now (W.contents out.old) (W.contents out.new) result }
+{
+    let recording: LargeRecording<&[u8]> = match recorded(run.alloc, text, notes) {
+        Ok(recording) => recording,
+        Err(fault) => return tell_fault(run.alloc, asked, &fault, out),
+    };
+    let snapshot = recording.snapshot();
+    let workers = run.options.workers;
+    let found = find_large(run.rt, run.alloc, snapshot, asked.level, workers, run.gate);
+    say(
+        run,
+        asked,
+        within(text, asked.limits),
+        snapshot,
+        found,
+        out,
+        notes,
+    )
+}
+
+/// The run of a text that was read whole.
+fn run_text<T: Threads + Sync, G: Gate, W: Write, N: Write>(
+    run: &Run<T, G>,
+    asked: &Asked,
+    text: &[u8],
+    out: &mut W,
+    notes: &mut N,
+) -> u8
+    ensures { IsFullRun asked.now run.now.options.now.required text.now (W.contents out.old) (W.contents out.new) result }
+{
+    match asked.limits {
+        Limits::Small => run_small(run, asked, text, out, notes),
+        Limits::Large => run_large(run, asked, text, out, notes),
+    }
+}
+
+/// The fault of records whose reader failed: one of a record before, or that of the reader.
+fn fault_of<R: Read + Drop, B: Bounds, N: Write>(
+    alloc: Global,
+    reader: R,
+    notes: &mut N,
+) -> RowFault
+    ensures { IfSome (R.remaining reader) (λ bytes. IsRecorded B.limits bytes (Err result)) }
+{
+    match recorded::<R, B, N>(alloc, reader, notes) {
+        Ok(recording) => {
+            // It read on in spite of its failure.
+            drop(recording);
+            RowFault {
+                row: 1,
+                kind: RowFaultKind::Read,
+            }
+        }
+        Err(fault) => fault,
+    }
+}
+
+/// The run of a text behind which the reader failed.
+fn run_failed<R: Read + Drop, W: Write, N: Write>(
+    alloc: Global,
+    asked: &Asked,
+    text: &[u8],
+    reader: R,
+    out: &mut W,
+    notes: &mut N,
+) -> u8
+    ensures { IfSome (R.remaining reader) (λ rest. (required : ℕ)
+        → IsFullRun asked.now required (text.now ++ rest) (W.contents out.old) (W.contents out.new) result) }
+{
+    let whole = text.chain(Failed::new(reader));
+    let fault = match asked.limits {
+        Limits::Small => fault_of::<_, SmallLimits, N>(alloc, whole, notes),
+        Limits::Large => fault_of::<_, LargeLimits, N>(alloc, whole, notes),
+    };
+    tell_fault(alloc, asked, &fault, out)
+}
+
+/// Writes in one line of JSON all about the answer, at the level, to what the records of the reader finish, whatever they seal, or
+/// why nothing was judged; and gives the number that the run ends with. The bytes of the records are held. What to mend, where
+/// records or reads have faults, goes to the notes.
+pub fn run_full<T: Threads + Sync, G: Gate, R: Read + Drop, W: Write, N: Write>(
+    run: &Run<T, G>,
+    asked: &Asked,
+    reader: R,
+    out: &mut W,
+    notes: &mut N,
+) -> u8
+    ensures { IfSome (R.remaining reader) (λ bytes.
+        IsFullRun asked.now run.now.options.now.required bytes (W.contents out.old) (W.contents out.new) result) }
+{
+    // One byte more shows that there are too many.
+    let mut taken = reader.take(asked.limits.bytes() + 1);
+    let mut text = Vec::new(run.alloc);
+    match taken.read_to_end(&mut text) {
+        Ok(_) => run_text(run, asked, &text, out, notes),
+        Err(error) if error.kind() == ErrorKind::OutOfMemory => {
+            tell_memory(run.alloc, asked, out)
+        }
+        Err(_) => run_failed(run.alloc, asked, &text, taken, out, notes),
+    }
+}
