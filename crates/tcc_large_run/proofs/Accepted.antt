@@ -62,9 +62,9 @@ use Rattle.tcc_print.specs.declared.options.Options.{Options}
 use Rattle.tcc_print.specs.declared.status.Status.TheVariants as status
 use Rattle.tcc_verdict.specs.Checking.{IsOfRecords, IsOfSnapshot, IsOutcome, MayBe}
 use Rattle.tcc_large_run.specs.LargeClosing.{IsAcceptedClaim, IsAcceptedWith, IsJudgedAs}
-use Rattle.tcc_large_run.specs.LargeRuns.{IsResolvedAs, answers_of, claim_of, finished}
+use Rattle.tcc_large_run.specs.LargeRuns.{IsClaimedOf, IsResolvedAs, answers_of, claim_of, finished}
 use Rattle.tcc_large_run.proofs.FirstLines.{claim_version, answer_version}
-use Rattle.tcc_large_run.proofs.Own.{has_claim, keeps_rules}
+use Rattle.tcc_large_run.proofs.Own.{claim_keeps, claim_said, keeps_rules}
 
 ok_not_err : {X E : Type 0} (o : Result X E) (x : X) (e : E) → o ≡ Ok x → o ≡ Err e → ⊥
 ok_not_err o x e fine failed = (let both : Ok x ≡ Err e = sym fine ∙ failed in cc both)
@@ -233,29 +233,25 @@ module _ (laws : Laws) (options : Options) (records : List ℕ) (unfaulted : (an
       (small_accepted (finished records) within all_named options.level a is) refl (within, a, is, refl, refl)
       (small_own (finished records) within all_named options.level a is) (small_others (finished records) within all_named options.level a is)
 
-  of_decision : (KeepsLimits (finished records) → ⊥) → (d : Decision) → IsDecision (judged (history (finished records)) options.level) d
-      → HasLargeText (claim_of options.level (history (finished records)) d)
-      → IsAcceptedWith options records (large_certificate_text (claim_of options.level (history (finished records)) d))
-  of_decision past d is room =
+  of_claim : (KeepsLimits (finished records) → ⊥) → (claim : LargeCertificate) (said : Said)
+      → IsClaimedOf options (history (finished records)) claim said → HasLargeText claim → IsAcceptedWith options records (large_certificate_text claim)
+  of_claim past claim said is room =
       let s = finished records in
-      let k = claim_of options.level (history s) d in
-      whole laws.true_small laws.true_large options records (large_certificate_text k) unfaulted resolved
-      (large_accepted laws.kept s k room (laws.back k room) (rules_kept d is)) refl (past, d, is, refl, refl, refl)
-      (large_own laws.kept s k room (laws.back k room) (rules_kept d is)) (large_others laws.kept s k room (laws.back k room) (rules_kept d is))
+      let keeps_all = claim_keeps options (history s) rules_kept claim said is in
+      whole laws.true_small laws.true_large options records (large_certificate_text claim) unfaulted resolved
+      (large_accepted laws.kept s claim room (laws.back claim room) keeps_all) refl (past, claim, said, is, refl, refl, refl)
+      (large_own laws.kept s claim room (laws.back claim room) keeps_all) (large_others laws.kept s claim room (laws.back claim room) keeps_all)
 
   -- the certificate of what was said of all that was finished
   pub said_accepted : (said : Said) (text : List ℕ) → said.certificate ≡ Some text → IsResolvedAs options (finished records) said
       → IsAcceptedWith options records text
   said_accepted said text has (inl (within, a, is, same)) =
       subst (IsAcceptedWith options records) (inside _ _ (sym (ap (λ (one : Said). one.certificate) same) ∙ has)) (of_answer within a is)
-  said_accepted said text has (inr (past, d, is, room, same)) =
-      let at = sym (has_claim options (history (finished records)) d) ∙ sym (ap (λ (one : Said). one.certificate) same) ∙ has in
-      subst (IsAcceptedWith options records) (inside _ _ at) (of_decision past d is room)
+  said_accepted said text has (inr (past, claim, is, room)) =
+      subst (IsAcceptedWith options records) (inside _ _ (sym (claim_said options (history (finished records)) claim said is) ∙ has))
+      (of_claim past claim said is room)
 
   -- and it has one
   pub said_certified : (said : Said) → IsResolvedAs options (finished records) said → (text : List ℕ) × (said.certificate ≡ Some text)
   said_certified said (inl (within, a, is, same)) = (certificate_text (certificate_of a), ap (λ (one : Said). one.certificate) same)
-  said_certified said (inr (past, d, is, room, same)) = (
-    large_certificate_text (claim_of options.level (history (finished records)) d),
-    ap (λ (one : Said). one.certificate) same ∙ has_claim options (history (finished records)) d,
-  )
+  said_certified said (inr (past, claim, is, room)) = (large_certificate_text claim, claim_said options (history (finished records)) claim said is)

@@ -10,6 +10,7 @@ use Rattle.tcc_graph.specs.Levels.{judged}
 use Rattle.tcc_graph.specs.declared.level.Level.{Level}
 use Rattle.tcc_graph.specs.declared.link.Link.{Link}
 use Rattle.tcc_cert.specs.LargeTexts.{HasLargeText}
+use Rattle.tcc_cert.specs.declared.large.Run.{Run}
 use Rattle.tcc_answer.specs.declared.answer.Answer.{Answer}
 use Rattle.tcc_answer.specs.declared.answer.Answer.TheVariants as answer
 use Rattle.tcc_large.specs.Decisions.{HasLinks, IsDecision}
@@ -20,8 +21,8 @@ use Rattle.tcc_large.specs.declared.decision.Decision.TheVariants as decision
 use Rattle.tcc_print.specs.Courses.{Said, faults_said}
 use Rattle.tcc_print.specs.declared.options.Options.{Options}
 use Rattle.tcc_print.specs.declared.status.Status.TheVariants.{Anomaly}
-use Rattle.tcc_large_run.specs.LargeRuns.{HasSaid, IsSaidOfSnapshot, claim_of, decision_said}
-use Rattle.tcc_large_run.specs.private.Stages.{IsDecided, IsOutcome, answer_links, outcome_links, outcome_of, outcome_said}
+use Rattle.tcc_large_run.specs.LargeRuns.{HasSaid, IsProvedLeast, IsSaidOfSnapshot, bare_cycle, claim_of, decision_said, proved_claim, proved_said}
+use Rattle.tcc_large_run.specs.private.Stages.{IsDecided, IsFoundOf, IsOutcome, IsProved, answer_links, outcome_links, outcome_of, outcome_said}
 use Rattle.tcc_large_run.specs.declared.outcome.Outcome.{Outcome}
 use Rattle.tcc_large_run.specs.declared.outcome.Outcome.TheVariants as outcome
 
@@ -37,12 +38,35 @@ decided_said options s h o is =
     ap (outcome_said options) is.outcome ∙ decided options h is.decided ∙ ap (λ (h : History). decision_said options h is.decided) is.own
 
 past_limits : (options : Options) (s : Sessions) (h : History) (o : Outcome) → IsDecided options.level s h o → IsSaidOfSnapshot options s (outcome_said options o)
-past_limits options s h o is = inl (is.resolved, inr (is.past, is.decided, is.is, is.room, decided_said options s h o is))
+past_limits options s h o is =
+    inl (
+      is.resolved,
+      inr (is.past, claim_of options.level (history s) is.decided, inl (is.decided, is.is, refl, decided_said options s h o is), is.room),
+    )
+
+-- what is said of a least cycle that was proved
+proved_is : (options : Options) (s : Sessions) (h : History) (o : Outcome) (is : IsProved options.level s h o)
+    → outcome_said options o ≡ proved_said options (history s) is.links is.runs
+proved_is options s h o is =
+    ap (outcome_said options) is.outcome ∙ ap (λ (h : History). proved_said options h is.links is.runs) is.own
+
+past_proved : (options : Options) (s : Sessions) (h : History) (o : Outcome) → IsProved options.level s h o → IsSaidOfSnapshot options s (outcome_said options o)
+past_proved options s h o is =
+    inl (
+      is.resolved,
+      inr (
+        is.past,
+        proved_claim options.level (history s) is.links is.runs,
+        inr (is.links, is.runs, is.is, refl, proved_is options s h o is),
+        is.room,
+      ),
+    )
 
 pub said_of : (options : Options) (s : Sessions) (o : Outcome) → IsOutcome options.level s o → IsSaidOfSnapshot options s (outcome_said options o)
 said_of options s (outcome.Unresolved faults) (faulty, same) = inr (faulty, ap (faults_said options) same)
 said_of options s (outcome.Small a) (resolved, keeps, is) = inl (resolved, inl (keeps, a, is, refl))
 said_of options s (outcome.Large h a) is = past_limits options s h (outcome.Large h a) is
+said_of options s (outcome.Proved h a claim) is = past_proved options s h (outcome.Proved h a claim) is
 said_of options s (outcome.Cycle h labels links) is = past_limits options s h (outcome.Cycle h labels links) is
 
 -- past the small limits what is answered for a large snapshot is what is to be said of it
@@ -55,11 +79,21 @@ decided_outcome level s h (decision.Least links) none past same is room =
 decided_outcome level s h (decision.Cycle links) none past same is room =
     record { resolved = none; past = past; own = same; decided = decision.Cycle links; is = is; room = room; outcome = refl }
 
+proved_outcome : (level : Level) (s : Sessions) (h : History) (links : List Link) (runs : List Run) → read_faults s ≡ [] → (KeepsLimits s → ⊥) → h ≡ history s
+    → IsProvedLeast level (history s) links runs → HasLargeText (proved_claim level (history s) links runs)
+    → IsOutcome level s (outcome.Proved h (answer.Anomaly (bare_cycle level h links)) (proved_claim level h links runs))
+proved_outcome level s h links runs none past same is room =
+    record { resolved = none; past = past; own = same; links = links; runs = runs; is = is; room = room; outcome = refl }
+
 pub large_outcome : (level : Level) (s : Sessions) (a : LargeAnswer) (o : Outcome) → (KeepsLimits s → ⊥) → IsLargeAnswer s level a
-    → (o ≡ outcome_of level a.graph a.decision) × HasLargeText (claim_of level a.graph a.decision) → IsOutcome level s o
-large_outcome level s a o past (none, same, is) (said, room) =
+    → IsFoundOf level a.graph a.decision o → IsOutcome level s o
+large_outcome level s a o past (none, same, is) (inl (said, room)) =
     subst (λ (o : Outcome). IsOutcome level s o) (sym said)
     (decided_outcome level s a.graph a.decision none past same is (subst (λ (h : History). HasLargeText (claim_of level h a.decision)) same room))
+large_outcome level s a o past (none, same, is) (inr (links, runs, proved, room, said)) =
+    subst (λ (o : Outcome). IsOutcome level s o) (sym said)
+    (proved_outcome level s a.graph links runs none past same (subst (λ (h : History). IsProvedLeast level h links runs) same proved)
+    (subst (λ (h : History). HasLargeText (proved_claim level h links runs)) same room))
 
 -- what is answered for a large snapshot is decided of its graph
 pub decided_of : (level : Level) (s : Sessions) (a : LargeAnswer) → IsLargeAnswer s level a → IsDecision (judged a.graph level) a.decision
@@ -82,9 +116,19 @@ past_links : (options : Options) (s : Sessions) (h : History) (o : Outcome) (lin
     → HasSaid options (history s) (outcome_said options o) links
 past_links options s h o links is e =
     inr (
+    inl (
       is.decided,
       decided_said options s h o is,
       decided_links options.level h is.decided links (sym (ap outcome_links is.outcome) ∙ e),
+    )
+    )
+
+proved_links : (options : Options) (s : Sessions) (h : History) (o : Outcome) (links : List Link) → IsProved options.level s h o → outcome_links o ≡ Some links
+    → HasSaid options (history s) (outcome_said options o) links
+proved_links options s h o links is e =
+    let own : links ≡ is.links = inside is.links links (sym (ap outcome_links is.outcome) ∙ e) in
+    inr (
+    inr (is.runs, proved_is options s h o is ∙ ap (λ (ls : List Link). proved_said options (history s) ls is.runs) (sym own))
     )
 
 small_links : (options : Options) (h : History) (a : Answer) (links : List Link) → answer_links a ≡ Some links
@@ -97,6 +141,7 @@ pub has_said : (options : Options) (s : Sessions) (o : Outcome) (links : List Li
 has_said options s (outcome.Unresolved faults) links is e = absurd (nothing links e)
 has_said options s (outcome.Small a) links is e = small_links options (history s) a links e
 has_said options s (outcome.Large h a) links is e = past_links options s h (outcome.Large h a) links is e
+has_said options s (outcome.Proved h a claim) links is e = proved_links options s h (outcome.Proved h a claim) links is e
 has_said options s (outcome.Cycle h labels found) links is e = past_links options s h (outcome.Cycle h labels found) links is e
 
 -- what has links is an anomaly
@@ -107,7 +152,8 @@ decided_anomalous options h (decision.Cycle found) links has = refl
 
 pub said_anomalous : (options : Options) (h : History) (said : Said) (links : List Link) → HasSaid options h said links → said.status ≡ Anomaly
 said_anomalous options h said links (inl (a, same, is)) = ap (λ (one : Said). one.status) same
-said_anomalous options h said links (inr (d, same, has)) = ap (λ (one : Said). one.status) same ∙ decided_anomalous options h d links has
+said_anomalous options h said links (inr (inl (d, same, has))) = ap (λ (one : Said). one.status) same ∙ decided_anomalous options h d links has
+said_anomalous options h said links (inr (inr (runs, same))) = ap (λ (one : Said). one.status) same
 
 -- ---- the graph of what was said
 

@@ -9,14 +9,13 @@ use Rattle.tcc_graph.specs.Levels.{judged}
 use Rattle.tcc_cert.specs.LargeTexts.{large_certificate_text}
 use Rattle.tcc_cert.specs.Texts.{certificate_text}
 use Rattle.tcc_cert.specs.declared.fault.CertFaultKind.TheVariants as text_kind
+use Rattle.tcc_cert.specs.declared.large.LargeCertificate.{LargeCertificate}
 use Rattle.tcc_check.specs.Streams as small
 use Rattle.tcc_check.specs.declared.verdict.Verdict.TheVariants as small_verdict
 use Rattle.tcc_answer.specs.Claims.{certificate_of}
 use Rattle.tcc_answer.specs.declared.answer.Answer.{Answer}
 use Rattle.tcc_explain.specs.Explained.{IsAnswerOfHistory}
 use Rattle.tcc_judge.specs.declared.verdict.Verdict.TheVariants as verdict
-use Rattle.tcc_large.specs.Decisions.{IsDecision}
-use Rattle.tcc_large.specs.declared.decision.Decision.{Decision}
 use Rattle.tcc_large_check.specs.LargeChecks.{IsLargeShown, large_check, large_claim_of}
 use Rattle.tcc_large_check.specs.LargeTexts.{large_verdict_text}
 use Rattle.tcc_large_check.specs.declared.judgement.LargeJudgement.{LargeJudgement}
@@ -28,7 +27,7 @@ use Rattle.tcc_print.specs.declared.halt.Halt.TheVariants.{Row, Reads, Text, NoM
 use Rattle.tcc_print.specs.declared.options.Options.{Options}
 use Rattle.tcc_print.specs.declared.status.Status.TheVariants.{Device, Memory}
 use Rattle.tcc_verdict.specs.Checking.{IsOutcome, IsRun, MayBe}
-use Rattle.tcc_large_run.specs.LargeRuns.{Files, IsResolvedAs, IsSliced, claim_of, finished}
+use Rattle.tcc_large_run.specs.LargeRuns.{Files, IsClaimedOf, IsResolvedAs, IsSliced, finished}
 
 -- the text is that of the certificate of what is answered for the snapshot, and the judgement says that its claim is accepted: within
 -- the small limits the certificate is of version 2, past them of version 3
@@ -37,9 +36,8 @@ IsAcceptedClaim options s text (Small j) =
     KeepsLimits s × (a : Answer) × IsAnswerOfHistory (judged (history s) options.level) a × (text ≡ certificate_text (certificate_of a))
     × (j ≡ record { claim = small.claim_of (certificate_of a); verdict = small_verdict.Accepted })
 IsAcceptedClaim options s text (Large said v) =
-    (KeepsLimits s → ⊥) × (d : Decision) × IsDecision (judged (history s) options.level) d
-    × (text ≡ large_certificate_text (claim_of options.level (history s) d)) × (said ≡ large_claim_of (claim_of options.level (history s) d))
-    × (v ≡ verdict.Accepted)
+    (KeepsLimits s → ⊥) × (claim : LargeCertificate) × (one : Said) × IsClaimedOf options (history s) claim one
+    × (text ≡ large_certificate_text claim) × (said ≡ large_claim_of claim) × (v ≡ verdict.Accepted)
 
 -- this judgement, unless a reader failed or memory was refused
 abbrev pub IsJudgedAs : LargeJudgement → Result LargeJudgement Halt → Type 0

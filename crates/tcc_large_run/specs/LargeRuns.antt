@@ -23,6 +23,7 @@ use Rattle.tcc_answer.specs.Labels.{labels_of}
 use Rattle.tcc_answer.specs.declared.answer.Answer.{Answer}
 use Rattle.tcc_answer.specs.declared.answer.Answer.TheVariants as answer
 use Rattle.tcc_explain.specs.Explained.{IsAnswerOfHistory}
+use Rattle.tcc_least.specs.Shapes.{AreLeast}
 use Rattle.tcc_large.specs.Decisions.{HasLinks, IsDecision}
 use Rattle.tcc_large.specs.Cuts.{IsCutOf}
 use Rattle.tcc_large.specs.Slices.{IsSliceOf}
@@ -30,7 +31,7 @@ use Rattle.tcc_large.specs.Texts.{records_text}
 use Rattle.tcc_large.specs.declared.decision.Decision.{Decision}
 use Rattle.tcc_large.specs.declared.decision.Decision.TheVariants as decision
 use Rattle.tcc_judge.specs.Claims.{links_claim_of}
-use Rattle.tcc_judge.specs.Verdicts.{IsVerdictOf, rules_of}
+use Rattle.tcc_judge.specs.Verdicts.{AllHold, IsVerdictOf, rules_of}
 use Rattle.tcc_judge.specs.declared.verdict.Verdict.{Verdict}
 use Rattle.tcc_judge.specs.declared.verdict.Verdict.TheVariants as verdict
 use Rattle.tcc_print.specs.Courses.{Contents, Gains, IsCourse, Said, TextFails, answer_said, faults_said}
@@ -51,7 +52,7 @@ abbrev pub bare_cycle : Level → History → List Link → LabelledCycle
 bare_cycle level h links = record { level = level; links = links; near = []; far = []; labels = labels_of h }
 
 -- the runs beside a claim that a cycle of so many steps is a least one: none are needed for four steps at most, and of more it isn't
--- claimed
+-- claimed by what is decided alone
 abbrev pub short_runs : ℕ → Option (List Run)
 short_runs steps = if nat_le steps 4 then Some [] else None
 
@@ -83,15 +84,35 @@ decision_said options h (decision.Cycle links) = record {
   certificate = Some (large_certificate_text (claim_of options.level h (decision.Cycle links)));
 }
 
+-- the claim that these links are a least cycle, with the runs by which that is judged
+abbrev pub proved_claim : Level → History → List Link → List Run → LargeCertificate
+proved_claim level h links runs = claims.Cycle (links_claim_of level h links (Some runs))
+
+-- a least cycle of any cost, as it is said of a small history
+abbrev pub proved_said : Options → History → List Link → List Run → Said
+proved_said options h links runs = claimed options (answer.Anomaly (bare_cycle options.level h links)) (proved_claim options.level h links runs)
+
+-- the links are a least cycle of a history; and the claim that they are one, with these runs, keeps all rules of the judge
+pub record IsProvedLeast (level : Level) (h : History) (links : List Link) (runs : List Run) : Type 0 where
+  pub least : AreLeast (judged h level) links
+  pub rules : AllHold (rules_of h (proved_claim level h links runs))
+
 -- ---- one answer
 
+-- what is said of a history past the small limits, and the claim of its certificate: what is decided; or a least cycle that the judge
+-- takes for one
+abbrev pub IsClaimedOf : Options → History → LargeCertificate → Said → Type 0
+IsClaimedOf options h claim said =
+    ((d : Decision) × IsDecision (judged h options.level) d × (claim ≡ claim_of options.level h d) × (said ≡ decision_said options h d))
+    ⊎ ((links : List Link) × (runs : List Run) × IsProvedLeast options.level h links runs × (claim ≡ proved_claim options.level h links runs)
+    × (said ≡ proved_said options h links runs))
+
 -- what is said of a snapshot whose reads all have sources: within the small limits its first answer, which is what is said
--- without --large; past them what is decided of its history, where version 3 of the text has room for what is claimed by that
+-- without --large; past them what is claimed of its history, for which version 3 of the text has room
 abbrev pub IsResolvedAs : Options → Sessions → Said → Type 0
 IsResolvedAs options s said =
     (KeepsLimits s × (a : Answer) × IsAnswerOfHistory (judged (history s) options.level) a × (said ≡ answer_said options a))
-    ⊎ ((KeepsLimits s → ⊥) × (d : Decision) × IsDecision (judged (history s) options.level) d × HasLargeText (claim_of options.level (history s) d)
-    × (said ≡ decision_said options (history s) d))
+    ⊎ ((KeepsLimits s → ⊥) × (claim : LargeCertificate) × IsClaimedOf options (history s) claim said × HasLargeText claim)
 
 -- what is said of a snapshot; all its read faults, where there are some
 abbrev pub IsSaidOfSnapshot : Options → Sessions → Said → Type 0
@@ -103,7 +124,8 @@ IsSaidOfSnapshot options s said =
 abbrev pub HasSaid : Options → History → Said → List Link → Type 0
 HasSaid options h said links =
     ((a : LabelledCycle) × (said ≡ answer_said options (answer.Anomaly a)) × (links ≡ a.links))
-    ⊎ ((d : Decision) × (said ≡ decision_said options h d) × HasLinks d links)
+    ⊎ (((d : Decision) × (said ≡ decision_said options h d) × HasLinks d links)
+    ⊎ ((runs : List Run) × (said ≡ proved_said options h links runs)))
 
 -- ---- a run
 

@@ -30,6 +30,21 @@ fn send_small<W: Write, C: Write>(
     }
 }
 
+/// Writes a claim; else the run ends with this number.
+fn write_claim<W: Write, C: Write>(
+    claim: &LargeCertificate,
+    json: bool,
+    file: &mut C,
+    out: &mut W,
+) -> Result<(), u8>
+    ensures { SendsClaim json claim.now result (W.contents out.old) (W.contents out.new) (C.contents file.old) (C.contents file.new) }
+{
+    match write_large(claim, file) {
+        Ok(()) => Ok(()),
+        Err(_) => Err(print_device(out, json)),
+    }
+}
+
 /// Writes a claim that was made, if memory sufficed for it; else the run ends with this number.
 fn send_claim<W: Write, C: Write>(
     made: Result<LargeCertificate, NoMemory>,
@@ -41,10 +56,7 @@ fn send_claim<W: Write, C: Write>(
         → SendsClaim json claim result (W.contents out.old) (W.contents out.new) (C.contents file.old) (C.contents file.new) }
 {
     match made {
-        Ok(claim) => match write_large(&claim, file) {
-            Ok(()) => Ok(()),
-            Err(_) => Err(print_device(out, json)),
-        },
+        Ok(claim) => write_claim(&claim, json, file, out),
         Err(NoMemory) => Err(print_memory(out, json)),
     }
 }
@@ -68,6 +80,7 @@ fn send_certificate<W: Write, C: Write>(
             let made = answer_claim(alloc, graph, level, answer);
             send_claim(made, options.json, file, out)
         }
+        Outcome::Proved { claim, .. } => write_claim(claim, options.json, file, out),
         Outcome::Cycle { graph, links, .. } => {
             let made = cycle_claim(alloc, graph, level, links, None);
             send_claim(made, options.json, file, out)

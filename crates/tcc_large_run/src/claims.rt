@@ -33,7 +33,7 @@ pub(crate) fn steps_of(links: &[Link]) -> Result<u32, NoMemory>
 }
 
 /// Equal links.
-fn copied(alloc: Global, links: &[Link]) -> Result<Vec<Link>, NoMemory>
+pub(crate) fn copied(alloc: Global, links: &[Link]) -> Result<Vec<Link>, NoMemory>
     ensures { IfOk result (λ copy. copy.items ≡ links.now) }
 {
     let mut copy = Vec::new(alloc);
@@ -65,7 +65,7 @@ pub(crate) fn cycle_claim(
 }
 
 /// The runs beside a claim that a cycle of so many steps is a least one: none are needed for four steps at most, and of more it isn't
-/// claimed.
+/// claimed by what is decided alone.
 fn short_runs(alloc: Global, steps: u32) -> Option<Runs>
     ensures { result ≡ short_runs steps }
 {

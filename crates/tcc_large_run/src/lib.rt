@@ -6,6 +6,7 @@ mod certifying;
 mod claims;
 pub mod laws;
 mod outcome;
+mod proving;
 mod room;
 mod running;
 mod slicing;

@@ -6,20 +6,23 @@ ghost use Rattle.tcc_graph.specs.Levels.{judged};
 ghost use Rattle.tcc_cert.specs.LargeTexts.{HasLargeText};
 ghost use Rattle.tcc_answer.specs.declared.answer.Answer.TheVariants as answer;
 ghost use Rattle.tcc_large.specs.Decisions.{IsDecision};
+ghost use Rattle.tcc_large.specs.declared.decision.Decision.TheVariants as decision;
 ghost use Rattle.tcc_print.specs.Printed.{EndsIn};
 ghost use Rattle.tcc_large_run.specs.LargeRuns.{bare_cycle, bare_order, claim_of};
-ghost use Rattle.tcc_large_run.specs.private.Stages.{IsOutcome, outcome_links, outcome_of, outcome_status, outcome_text};
+ghost use Rattle.tcc_large_run.specs.private.Stages.{IsFoundOf, IsOutcome, outcome_links, outcome_status, outcome_text};
 
 use crate::claims::steps_of;
+use crate::proving::proved_claim;
 use crate::room::check_room;
 use std::alloc::Global;
 use std::io::Write;
 use std::thread::Threads;
 use tcc_answer::{Anomaly, Answer, CappedRows, Commit, Labels};
-use tcc_cert::{Links, Numbers, Table};
+use tcc_cert::{LargeCertificate, Links, Numbers, Table};
 use tcc_explain::{ExplainFault, Gate, explain};
 use tcc_graph::{LargeGraph, Level, Link};
-use tcc_large::{Decision, LargeAnswer, explain_large};
+use tcc_judge::laws::is_least;
+use tcc_large::{Decision, LargeAnswer, explain_large_with_order};
 use tcc_print::large::send_unproved;
 use tcc_print::notes::note_reads;
 use tcc_print::printing::{send_answer, send_unresolved};
@@ -39,6 +42,13 @@ pub(crate) enum Outcome {
     Large {
         graph: LargeGraph,
         answer: Answer,
+    },
+    /// Past them: its graph, a least cycle of more than four steps, as an answer without distances, and the claim that it is one, which
+    /// the judge accepts.
+    Proved {
+        graph: LargeGraph,
+        answer: Answer,
+        claim: LargeCertificate,
     },
     /// Past them: its graph, and a cycle that isn't known to be a least one, with the names of the transactions.
     Cycle {
@@ -108,10 +118,45 @@ impl Outcome {
         }
     }
 
-    /// What is said of a history by what is decided of it.
-    fn of_decision(alloc: Global, level: Level, answer: LargeAnswer) -> Result<Outcome, NoMemory>
-        ensures { IsDecision (judged answer.graph level) answer.decision
-            → IfOk result (λ outcome. (outcome ≡ outcome_of level answer.graph answer.decision) × HasLargeText (claim_of level answer.graph answer.decision)) }
+    /// What is said of a cycle of more than four steps, of which no more is decided: that it is a least one, where the judge takes it for
+    /// one by the order.
+    fn of_cycle(
+        alloc: Global,
+        level: Level,
+        graph: LargeGraph,
+        links: Vec<Link>,
+        order: Option<Vec<u32>>,
+    ) -> Result<Outcome, NoMemory>
+        ensures { HasLargeText (claim_of level graph (decision.Cycle links)) → IfOk result (IsFoundOf level graph (decision.Cycle links)) }
+    {
+        // What the judge accepts is a least cycle, as this law says.
+        is_least();
+        if let Some(order) = order {
+            if let Some(claim) = proved_claim(alloc, &graph, level, &links, &order)? {
+                let answer = cycle_answer(alloc, &graph, level, links)?;
+                return Ok(Outcome::Proved {
+                    graph,
+                    answer,
+                    claim: LargeCertificate::Cycle(claim),
+                });
+            }
+        }
+        let labels = Labels::of_large(alloc, &graph)?;
+        Ok(Outcome::Cycle {
+            graph,
+            labels,
+            links,
+        })
+    }
+
+    /// What is said of a history by what is decided of it, and by an order that may come with a cycle.
+    fn of_decision(
+        alloc: Global,
+        level: Level,
+        answer: LargeAnswer,
+        order: Option<Vec<u32>>,
+    ) -> Result<Outcome, NoMemory>
+        ensures { IsDecision (judged answer.graph level) answer.decision → IfOk result (IsFoundOf level answer.graph answer.decision) }
     {
         let LargeAnswer { graph, decision } = answer;
         check_room(&graph, &decision)?;
@@ -124,14 +169,7 @@ impl Outcome {
                 let answer = cycle_answer(alloc, &graph, level, links)?;
                 Ok(Outcome::Large { graph, answer })
             }
-            Decision::Cycle(links) => {
-                let labels = Labels::of_large(alloc, &graph)?;
-                Ok(Outcome::Cycle {
-                    graph,
-                    labels,
-                    links,
-                })
-            }
+            Decision::Cycle(links) => Outcome::of_cycle(alloc, level, graph, links, order),
         }
     }
 
@@ -146,8 +184,8 @@ impl Outcome {
             return Outcome::of_small(run, &small);
         }
         let level = run.options.level;
-        match explain_large(run.alloc, snapshot, level) {
-            Ok(answer) => Outcome::of_decision(run.alloc, level, answer),
+        match explain_large_with_order(run.alloc, snapshot, level) {
+            Ok((answer, order)) => Outcome::of_decision(run.alloc, level, answer, order),
             Err(ResolveFault::Reads(faults)) => Ok(Outcome::Unresolved(faults)),
             Err(ResolveFault::NoMemory) => Err(NoMemory),
         }
@@ -161,7 +199,9 @@ impl Outcome {
         match self {
             Outcome::Unresolved(faults) => send_unresolved(alloc, faults, json, out),
             Outcome::Small(answer) => send_answer(alloc, answer, json, out),
-            Outcome::Large { answer, .. } => send_answer(alloc, answer, json, out),
+            Outcome::Large { answer, .. } | Outcome::Proved { answer, .. } => {
+                send_answer(alloc, answer, json, out)
+            }
             Outcome::Cycle { labels, links, .. } => send_unproved(alloc, labels, links, json, out),
         }
     }
@@ -180,7 +220,9 @@ impl Outcome {
         match self {
             Outcome::Unresolved(_) => Status::ReadFaults,
             Outcome::Small(answer) => answer_status(answer, required),
-            Outcome::Large { answer, .. } => answer_status(answer, required),
+            Outcome::Large { answer, .. } | Outcome::Proved { answer, .. } => {
+                answer_status(answer, required)
+            }
             Outcome::Cycle { .. } => Status::Anomaly,
         }
     }
@@ -192,6 +234,10 @@ impl Outcome {
         match self {
             Outcome::Small(Answer::Anomaly(anomaly)) => Some(anomaly.links()),
             Outcome::Large {
+                answer: Answer::Anomaly(anomaly),
+                ..
+            }
+            | Outcome::Proved {
                 answer: Answer::Anomaly(anomaly),
                 ..
             } => Some(anomaly.links()),
@@ -208,6 +254,7 @@ impl Outcome {
                 drop(graph);
                 Some(answer)
             }
+            Outcome::Proved { answer, .. } => Some(answer),
             _ => None,
         }
     }

@@ -15,6 +15,7 @@ use Rattle.tcc_cert.specs.RunsTold.{order_claim_of}
 use Rattle.tcc_cert.specs.Texts.{certificate_text}
 use Rattle.tcc_cert.specs.declared.large.LargeCertificate.{LargeCertificate}
 use Rattle.tcc_cert.specs.declared.large.LargeCertificate.TheVariants as claims
+use Rattle.tcc_cert.specs.declared.large.Run.{Run}
 use Rattle.tcc_answer.specs.Claims.{certificate_of}
 use Rattle.tcc_answer.specs.Labels.{labels_of}
 use Rattle.tcc_answer.specs.declared.answer.Answer.{Answer}
@@ -34,7 +35,7 @@ use Rattle.tcc_print.specs.declared.options.Options.{Options}
 use Rattle.tcc_print.specs.declared.status.Status.{Status}
 use Rattle.tcc_print.specs.declared.status.Status.TheVariants.{Anomaly, Device, Memory, ReadFaults}
 use Rattle.tcc_print.specs.private.Courses.{Course}
-use Rattle.tcc_large_run.specs.LargeRuns.{CertificateStops, Files, IsCertified, IsSaidOfSnapshot, IsSliceText, IsSliced, SliceStops, Stops, bare_cycle, bare_order, claim_of, short_runs}
+use Rattle.tcc_large_run.specs.LargeRuns.{CertificateStops, Files, IsCertified, IsProvedLeast, IsSaidOfSnapshot, IsSliceText, IsSliced, SliceStops, Stops, bare_cycle, bare_order, claim_of, proved_claim, short_runs}
 use Rattle.tcc_large_run.specs.declared.outcome.Outcome.{Outcome}
 use Rattle.tcc_large_run.specs.declared.outcome.Outcome.TheVariants as outcome
 
@@ -46,6 +47,13 @@ outcome_of level h (decision.Order order) = outcome.Large h (answer.Commit (bare
 outcome_of level h (decision.Least links) = outcome.Large h (answer.Anomaly (bare_cycle level h links.items))
 outcome_of level h (decision.Cycle links) = outcome.Cycle h (labels_of h) links
 
+-- what is said of a history by what is decided of it, or by a claim that a cycle is a least one
+abbrev pub IsFoundOf : Level → History → Decision → Outcome → Type 0
+IsFoundOf level h d o =
+    ((o ≡ outcome_of level h d) × HasLargeText (claim_of level h d))
+    ⊎ ((links : List Link) × (runs : List Run) × IsProvedLeast level h links runs × HasLargeText (proved_claim level h links runs)
+    × (o ≡ outcome.Proved h (answer.Anomaly (bare_cycle level h links)) (proved_claim level h links runs)))
+
 -- it is what is decided of the history of a snapshot past the small limits
 pub record IsDecided (level : Level) (s : Sessions) (h : History) (o : Outcome) : Type 0 where
   pub resolved : read_faults s ≡ []
@@ -56,11 +64,23 @@ pub record IsDecided (level : Level) (s : Sessions) (h : History) (o : Outcome) 
   pub room : HasLargeText (claim_of level (history s) decided)
   pub outcome : o ≡ outcome_of level h decided
 
+-- it is a least cycle of more than four steps of the history of a snapshot past the small limits, which the judge takes for one
+pub record IsProved (level : Level) (s : Sessions) (h : History) (o : Outcome) : Type 0 where
+  pub resolved : read_faults s ≡ []
+  pub past : KeepsLimits s → ⊥
+  pub own : h ≡ history s
+  pub links : List Link
+  pub runs : List Run
+  pub is : IsProvedLeast level (history s) links runs
+  pub room : HasLargeText (proved_claim level (history s) links runs)
+  pub outcome : o ≡ outcome.Proved h (answer.Anomaly (bare_cycle level h links)) (proved_claim level h links runs)
+
 -- what is to be said of a snapshot at a level
 abbrev pub IsOutcome : Level → Sessions → Outcome → Type 0
 IsOutcome level s (outcome.Unresolved faults) = (read_faults s ≢ []) × (faults.items ≡ read_faults s)
 IsOutcome level s (outcome.Small a) = (read_faults s ≡ []) × KeepsLimits s × IsAnswerOfHistory (judged (history s) level) a
 IsOutcome level s (outcome.Large h a) = IsDecided level s h (outcome.Large h a)
+IsOutcome level s (outcome.Proved h a claim) = IsProved level s h (outcome.Proved h a claim)
 IsOutcome level s (outcome.Cycle h labels links) = IsDecided level s h (outcome.Cycle h labels links)
 
 -- how it goes out, and how a run ends whose last answer it is
@@ -68,12 +88,14 @@ abbrev pub outcome_text : Bool → Outcome → List ℕ
 outcome_text json (outcome.Unresolved faults) = unresolved json faults.items
 outcome_text json (outcome.Small a) = answered json a
 outcome_text json (outcome.Large h a) = answered json a
+outcome_text json (outcome.Proved h a claim) = answered json a
 outcome_text json (outcome.Cycle h labels links) = unproved json labels links.items
 
 abbrev pub outcome_status : ℕ → Outcome → Status
 outcome_status required (outcome.Unresolved faults) = ReadFaults
 outcome_status required (outcome.Small a) = answer_status required a
 outcome_status required (outcome.Large h a) = answer_status required a
+outcome_status required (outcome.Proved h a claim) = answer_status required a
 outcome_status required (outcome.Cycle h labels links) = Anomaly
 
 -- what an answer past the small limits claims
@@ -86,6 +108,7 @@ abbrev pub outcome_certificate : Level → Outcome → Option (List ℕ)
 outcome_certificate level (outcome.Unresolved faults) = None
 outcome_certificate level (outcome.Small a) = Some (certificate_text (certificate_of a))
 outcome_certificate level (outcome.Large h a) = Some (large_certificate_text (answer_claim level h a))
+outcome_certificate level (outcome.Proved h a claim) = Some (large_certificate_text claim)
 outcome_certificate level (outcome.Cycle h labels links) =
     Some (large_certificate_text (claims.Cycle (links_claim_of level h links.items None)))
 
@@ -105,6 +128,7 @@ abbrev pub outcome_links : Outcome → Option (List Link)
 outcome_links (outcome.Unresolved faults) = None
 outcome_links (outcome.Small a) = answer_links a
 outcome_links (outcome.Large h a) = answer_links a
+outcome_links (outcome.Proved h a claim) = answer_links a
 outcome_links (outcome.Cycle h labels links) = Some links.items
 
 -- the course of a run, which keeps what was said last

@@ -13,6 +13,12 @@ returns-in-Large g c =
     claim_sent options (outcome_said options c.args.outcome.now) claim c.send_claim.result _ _ _ _
     (ap (λ (o : Outcome). (outcome_said options o).certificate) c.in-Large.is) (c.send_claim.ensures claim c.answer_claim-made.ensures)
 
+pub returns-in-Proved : goal.returns-in-Proved
+returns-in-Proved g c =
+    let options = c.args.options.now in
+    claim_sent options (outcome_said options c.args.outcome.now) c.in-Proved.claim c.write_claim.result _ _ _ _
+    (ap (λ (o : Outcome). (outcome_said options o).certificate) c.in-Proved.is) c.write_claim.ensures
+
 pub returns-in-Cycle : goal.returns-in-Cycle
 returns-in-Cycle g c =
     let options = c.args.options.now in

@@ -14,5 +14,5 @@ pub returns-in-Ok : goal.returns-in-Ok
 returns-in-Ok g c =
     let past : KeepsLimits c.args.snapshot.now → ⊥ = search rules in
     IfOk-weaker c.of_decision.result _ _
-    (λ outcome said. large_outcome c.args.run.now.options.now.level c.args.snapshot.now c.in-Ok.answer outcome past c.in-Ok.ensures said)
+    (λ outcome found. large_outcome c.args.run.now.options.now.level c.args.snapshot.now c.in-Ok.answer outcome past c.in-Ok.ensures found)
     (c.of_decision.ensures (decided_of c.args.run.now.options.now.level c.args.snapshot.now c.in-Ok.answer c.in-Ok.ensures))
