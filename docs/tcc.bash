@@ -18,7 +18,7 @@ _tcc() {
             --level) COMPREPLY=($(compgen -W 'causal atomic' -- "$word")) ;;
             --workers) COMPREPLY=($(compgen -W '1 2 4 8 16 32' -- "$word")) ;;
             --certificate|--slice|--require) ;;
-            *) [[ $word == -* ]] && COMPREPLY=($(compgen -W '--level --workers --json --quiet --large --slice --certificate --require --help' -- "$word")) ;;
+            *) [[ $word == -* ]] && COMPREPLY=($(compgen -W '--level --workers --json --quiet --full --large --slice --certificate --require --help' -- "$word")) ;;
         esac
     elif [ "$command" = survey ]; then
         case $before in

@@ -1,6 +1,6 @@
 #!/usr/bin/env python3
 """Holds docs/answer.schema.json against the lines of `--json` that the rows want, and docs/full.schema.json against those that
-the cases of recipes/full.py want.
+rows of `--full` and the cases of recipes/full.py want.
 
     schema.py
 
@@ -143,7 +143,9 @@ def by_library(schema: Json, lines: List[str]) -> Iterator[Outcome]:
 
 
 def outcomes() -> Iterator[Outcome]:
-    for name, cases in (("answer", (TOP / "tests/rows/cases").glob("*.json")), ("full", [TOP / "tests/recipes/cases/full.json"])):
+    rows = set((TOP / "tests/rows/cases").glob("*.json"))
+    full = set((TOP / "tests/rows/cases").glob("full-*.json"))
+    for name, cases in (("answer", rows - full), ("full", full | {TOP / "tests/recipes/cases/full.json"})):
         yield from outcomes_of(json.loads((TOP / "docs" / (name + ".schema.json")).read_text()), lines_of(cases))
 
 

@@ -42,11 +42,6 @@ HELD = {
         "Names of sessions and keys have 1 to {MAX_NAME_BYTES} bytes",
         "lets N threads search for an anomaly, 1 to {MAX_WORKERS}."),
     "python/tcc/clients.py": ("MOST_TRANSACTIONS = {!LARGE_TRANSACTIONS}", "MOST_KEYS = {!LARGE_KEYS}"),
-    "python/tcc/full.py": (
-        'LIMITS = {"sessions": {!MAX_SESSIONS}, "transactions": {!MAX_TRANSACTIONS}, "operations": {!MAX_OPERATIONS}, '
-        '"keys": {!MAX_KEYS}, "seals": {!MAX_SEALS}, "bytes": {!MAX_INPUT_BYTES}}',
-        'LARGE = {"sessions": {!LARGE_SESSIONS}, "transactions": {!LARGE_TRANSACTIONS}, "operations": {!MAX_OPERATIONS}, '
-        '"keys": {!LARGE_KEYS}, "seals": {!MAX_SEALS}, "bytes": {!LARGE_INPUT_BYTES}}'),
     "python/tcc/noted.py": (
         'LIMITS = {"sessions": {!MAX_SESSIONS}, "transactions": {!MAX_TRANSACTIONS}, "keys": {!MAX_KEYS}}',
         'LARGE = {"sessions": {!LARGE_SESSIONS}, "transactions": {!LARGE_TRANSACTIONS}, "keys": {!LARGE_KEYS}}'),

@@ -4,7 +4,7 @@
 
 mod watch;
 
-use std::io::Write;
+use std::io::{ErrorKind, Write};
 use std::process::ExitCode;
 use std::sync::Wait;
 use std::thread::{self, Threads};
@@ -13,10 +13,11 @@ use tcc_files::{
     Apart, Input, Quiet, Telling, check_large_opened, check_opened, is_waited_for, open_both,
     open_input, open_output, open_outputs, print_unopened,
 };
+use tcc_full_run::{Asked, Limits, Run, run_full, tell_unread};
 use tcc_large_run::run_large;
 use tcc_run::{OpenGate, Options, Status, run_explain};
 use tcc_survey_run::{SurveyOptions, run_survey};
-use tcc_words::{Request, read};
+use tcc_words::{Request, VERSION, read};
 use watch::Watch;
 
 /// Runs `explain --large`, with files for the certificate and for a slice if they are given. At a terminal a run that takes longer
@@ -105,6 +106,62 @@ fn explain<W: Write>(
     }
 }
 
+/// Writes in one line of JSON all about the answer to the records at the path, or of the standard input, and gives the status of the
+/// run.
+fn explain_full<W: Write>(
+    rt: &HostRuntime,
+    threads: &(impl Threads + Sync),
+    options: Options,
+    large: bool,
+    history: Option<&str>,
+    out: &mut W,
+) -> u8 {
+    let asked = Asked {
+        version: VERSION,
+        level: options.level,
+        limits: if large { Limits::Large } else { Limits::Small },
+    };
+    match open_input(rt, history) {
+        Ok(input) => {
+            let run = Run {
+                rt: threads,
+                alloc: rt.alloc(),
+                options: &options,
+                gate: &OpenGate,
+            };
+            run_full(&run, &asked, input, out, &mut rt.stderr())
+        }
+        Err(error) => {
+            let memory = error.kind() == ErrorKind::OutOfMemory;
+            tell_unread(rt.alloc(), &asked, memory, out)
+        }
+    }
+}
+
+/// Explains the records at the path, or of the standard input, and gives the status of the run. If paths are given, their files are
+/// for what comes behind the answers.
+fn explain_records<W: Write>(
+    rt: &HostRuntime,
+    threads: &(impl Threads + Wait + Clock + Sync),
+    options: Options,
+    history: Option<&str>,
+    certificate: &Option<String>,
+    large: bool,
+    slice: &Option<String>,
+    out: &mut W,
+) -> u8 {
+    match open_input(rt, history) {
+        Ok(input) => {
+            if large {
+                explain_large(rt, threads, options, input, certificate, slice, out)
+            } else {
+                explain(rt, threads, options, input, certificate, out)
+            }
+        }
+        Err(error) => print_unopened(error.kind(), options.json, out),
+    }
+}
+
 /// Lists the contradicted reads of the records at the path, or of the standard input, and gives the status of the run.
 fn survey<W: Write>(
     rt: &HostRuntime,
@@ -130,18 +187,23 @@ fn main(rt: HostRuntime) -> ExitCode {
                 large,
                 slice,
                 quiet,
+                full,
             },
         ) => {
             out.leave_out_orders(quiet);
-            match open_input(&rt, history.as_deref()) {
-                Ok(input) => {
-                    if large {
-                        explain_large(&rt, &rt, options, input, &certificate, &slice, &mut out)
-                    } else {
-                        explain(&rt, &rt, options, input, &certificate, &mut out)
-                    }
-                }
-                Err(error) => print_unopened(error.kind(), options.json, &mut out),
+            if full {
+                explain_full(&rt, &rt, options, large, history.as_deref(), &mut out)
+            } else {
+                explain_records(
+                    &rt,
+                    &rt,
+                    options,
+                    history.as_deref(),
+                    &certificate,
+                    large,
+                    &slice,
+                    &mut out,
+                )
             }
         }
         Ok(

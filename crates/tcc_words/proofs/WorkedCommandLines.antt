@@ -45,6 +45,7 @@ record Asked : Type 0 where
   workers : Option Text
   json : Option Text
   quiet : Option Text
+  full : Option Text
   large : Option Text
   slice : Option Text
   certificate : Option Text
@@ -59,6 +60,7 @@ asks words =
       workers = workers_text met;
       json = flag_text (codes "json") met;
       quiet = flag_text (codes "quiet") met;
+      full = flag_text (codes "full") met;
       large = flag_text (codes "large") met;
       slice = slice_path met;
       certificate = certificate_path met;
@@ -73,6 +75,7 @@ plain = record {
   workers = Some (codes "1");
   json = Some (codes "false");
   quiet = Some (codes "false");
+  full = Some (codes "false");
   large = Some (codes "false");
   slice = None;
   certificate = None;
@@ -86,6 +89,7 @@ explain_lines =
     ([], plain)
     ∷ (codes "--json" ∷ [], record plain { json = Some (codes "true") })
     ∷ (codes "--quiet" ∷ [], record plain { quiet = Some (codes "true") })
+    ∷ (codes "--full" ∷ codes "h.csv" ∷ [], record plain { full = Some (codes "true"); history = Some (codes "h.csv") })
     ∷ (codes "--level" ∷ codes "atomic" ∷ [], record plain { level = Some (codes "atomic") })
     ∷ (codes "--level=atomic" ∷ codes "--json" ∷ [], record plain { level = Some (codes "atomic"); json = Some (codes "true") })
     ∷ (codes "--certificate" ∷ codes "c.txt" ∷ [], record plain { certificate = Some (codes "c.txt") })

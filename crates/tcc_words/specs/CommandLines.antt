@@ -79,11 +79,11 @@ slice_option = path_option (codes "slice")
 abbrev pub path : Text → Bool → Rule
 path id needed = record (new_rule id) { value_names = 1; required = needed }
 
--- explain [--level LEVEL] [--workers N] [--json] [--quiet] [--large] [--slice PATH] [--certificate PATH] [--require N] [FILE]
+-- explain [--level LEVEL] [--workers N] [--json] [--quiet] [--full] [--large] [--slice PATH] [--certificate PATH] [--require N] [FILE]
 abbrev pub explain_command : Words → App
 explain_command levels =
     let judged : App = with_rule (with_rule (new_app (codes "explain")) (level_option levels)) workers_option in
-    let answered : App = with_rule (with_rule judged (flag (codes "json"))) (flag (codes "quiet")) in
+    let answered : App = with_rule (with_rule (with_rule judged (flag (codes "json"))) (flag (codes "quiet"))) (flag (codes "full")) in
     let sized : App = with_rule (with_rule answered (flag (codes "large"))) slice_option in
     with_rule (with_rule (with_rule sized certificate_option) require_option) (path (codes "history") false)
 
@@ -167,16 +167,16 @@ IsInput None path = path ≡ None
 IsInput (Some word) None = word ≡ codes "-"
 IsInput (Some word) (Some path) = (word ≢ codes "-") × (path ≡ word)
 
--- the answers are as JSON, without orders and within the large limits by the flags, at the level of the word, by as many workers as the word
+-- the answers are as JSON, without orders, in full and within the large limits by the flags, at the level of the word, by as many workers as the word
 -- says, and for as many transactions; the records are those of the file, and the certificate and the slice go to their paths,
 -- if there are any
 abbrev pub AsksExplain : Option (Text × List Row) → Request → Type 0
-AsksExplain met (Explain options history certificate large slice quiet) =
+AsksExplain met (Explain options history certificate large slice quiet full) =
     IsFlag (flag_text (codes "json") met) options.json × IsLevel (level_text met) options.level × IsWorkers (workers_text met) options.workers
     × IsRequired (required_text met) options.required × IsInput (history_path met) (option_map string_bytes history)
     × (option_map string_bytes certificate ≡ certificate_path met)
     × IsFlag (flag_text (codes "large") met) large × (option_map string_bytes slice ≡ slice_path met)
-    × IsFlag (flag_text (codes "quiet") met) quiet
+    × IsFlag (flag_text (codes "quiet") met) quiet × IsFlag (flag_text (codes "full") met) full
 AsksExplain met (Survey level json large history) = ⊥
 AsksExplain met (Check history certificate large) = ⊥
 
@@ -185,12 +185,12 @@ abbrev pub AsksSurvey : Option (Text × List Row) → Request → Type 0
 AsksSurvey met (Survey level json large history) =
     IsLevel (level_text met) level × IsFlag (flag_text (codes "json") met) json × IsFlag (flag_text (codes "large") met) large
     × IsInput (history_path met) (option_map string_bytes history)
-AsksSurvey met (Explain options history certificate large slice quiet) = ⊥
+AsksSurvey met (Explain options history certificate large slice quiet full) = ⊥
 AsksSurvey met (Check history certificate large) = ⊥
 
 -- the paths are those that clap finds, and it is within the large limits by the flag
 abbrev pub AsksCheck : List Row → Request → Type 0
-AsksCheck rows (Explain options history certificate large slice quiet) = ⊥
+AsksCheck rows (Explain options history certificate large slice quiet full) = ⊥
 AsksCheck rows (Survey level json large history) = ⊥
 AsksCheck rows (Check history certificate large) =
     (first_of (codes "history") rows ≡ Some (string_bytes history)) × (first_of (codes "certificate") rows ≡ Some (string_bytes certificate))
@@ -198,9 +198,9 @@ AsksCheck rows (Check history certificate large) =
 
 -- what the subcommand that was met asks for: a check by its name with its two paths; a survey by its name; else answers
 abbrev pub AsksBy : Option (Text × List Row) → Request → Type 0
-AsksBy met (Explain options history certificate large slice quiet) =
+AsksBy met (Explain options history certificate large slice quiet full) =
     (option_map (λ entered. entered.0) met ≢ Some (codes "check")) × (option_map (λ entered. entered.0) met ≢ Some (codes "survey"))
-    × AsksExplain met (Explain options history certificate large slice quiet)
+    × AsksExplain met (Explain options history certificate large slice quiet full)
 AsksBy met (Survey level json large history) =
     (option_map (λ entered. entered.0) met ≡ Some (codes "survey")) × AsksSurvey met (Survey level json large history)
 AsksBy None (Check history certificate large) = ⊥
@@ -209,10 +209,11 @@ AsksBy (Some entered) (Check history certificate large) = (entered.0 ≡ codes "
 abbrev pub Asks : App → List Text → Request → Type 0
 Asks app words request = AsksBy (subcommand_of app words) request
 
--- a slice is asked for only of a large history; and JSON keeps its orders
+-- a slice is asked for only of a large history; JSON keeps its orders; and what says all goes with no file
 abbrev pub GoesTogether : Request → Type 0
-GoesTogether (Explain options history certificate large slice quiet) =
+GoesTogether (Explain options history certificate large slice quiet full) =
     (large ≡ false → slice ≡ None) × (quiet ≡ true → options.json ≡ false)
+    × (full ≡ true → (quiet ≡ false) × (certificate ≡ None) × (slice ≡ None))
 GoesTogether (Survey level json large history) = Unit {0}
 GoesTogether (Check history certificate large) = Unit {0}
 

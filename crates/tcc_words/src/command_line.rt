@@ -40,6 +40,8 @@ pub enum Request {
         slice: Option<String>,
         /// Whether the lines of orders are left out; then no JSON is wanted.
         quiet: bool,
+        /// Whether one object is wanted that says all about the answer of the end; then no file is, and nothing is left out.
+        full: bool,
     },
     /// List the contradicted reads of records.
     Survey {
@@ -191,6 +193,11 @@ fn explain_command<'a>(alloc: Global, levels: &'a [&'a str]) -> Result<Command<'
         "quiet",
         "Leaves out the order of a consistent history",
     );
+    let full = flag(
+        alloc,
+        "full",
+        "Answers in one line of JSON that says all, with the rows of the records",
+    );
     let workers = workers_option(alloc);
     let first = Command::new(alloc, "explain")
         .about("Reads records and says whether the history is consistent at a level")
@@ -199,7 +206,8 @@ fn explain_command<'a>(alloc: Global, levels: &'a [&'a str]) -> Result<Command<'
     let second = first.arg(workers)?;
     let third = second.arg(json)?;
     let fourth = third.arg(quiet)?;
-    with_places(alloc, with_large(alloc, fourth)?)
+    let fifth = fourth.arg(full)?;
+    with_places(alloc, with_large(alloc, fifth)?)
 }
 
 /// A path, which may have to be given.
@@ -395,6 +403,7 @@ fn options_of(alloc: Global, matches: &ArgMatches) -> Result<Request, Error>
     let json = is_set(matches, "json");
     let large = is_set(matches, "large");
     let quiet = is_set(matches, "quiet");
+    let full = is_set(matches, "full");
     let history = history_of(alloc, matches)?;
     let certificate = path_for(alloc, matches, "certificate")?;
     let slice = path_for(alloc, matches, "slice")?;
@@ -410,6 +419,7 @@ fn options_of(alloc: Global, matches: &ArgMatches) -> Result<Request, Error>
         large,
         slice,
         quiet,
+        full,
     })
 }
 
@@ -503,9 +513,11 @@ fn refusal_of(request: &Request) -> Option<&'static str>
 {
     let Request::Explain {
         options,
+        certificate,
         large,
         slice,
         quiet,
+        full,
         ..
     } = request
     else {
@@ -516,6 +528,9 @@ fn refusal_of(request: &Request) -> Option<&'static str>
     }
     if *quiet && options.json {
         return Some("'--quiet' can't be used with '--json', which has the order in its one line");
+    }
+    if *full && (*quiet || certificate.is_some() || slice.is_some()) {
+        return Some("'--full' can't be used with '--quiet', '--certificate' or '--slice'");
     }
     None
 }

@@ -7,3 +7,4 @@ mod help;
 
 pub use checker::{Files, read_check, read_check_words};
 pub use command_line::{Request, read, read_words};
+pub use help::VERSION;

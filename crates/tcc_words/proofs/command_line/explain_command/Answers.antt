@@ -25,4 +25,7 @@ returns c =
     let fourth_is : app_of c.in_ok-fourth.fourth ≡ with_rule (with_rule (with_rule (with_rule (new_app (codes "explain")) (level_option c.args.levels))
     workers_option) (flag (codes "json"))) (flag (codes "quiet"))
     = c.in_ok-fourth.ensures.shape c.flag-quiet.ensures.own ∙ ap₂ with_rule third_is c.flag-quiet.ensures.rule in
-    IfOk-weaker c.with_places.result _ _ (λ made adds. adds ∙ ap with_added (c.in_ok-with_large.ensures ∙ ap with_sizes fourth_is)) c.with_places.ensures
+    let fifth_is : app_of c.in_ok-fifth.fifth ≡ with_rule (with_rule (with_rule (with_rule (with_rule (new_app (codes "explain")) (level_option c.args.levels))
+    workers_option) (flag (codes "json"))) (flag (codes "quiet"))) (flag (codes "full"))
+    = c.in_ok-fifth.ensures.shape c.flag-full.ensures.own ∙ ap₂ with_rule fourth_is c.flag-full.ensures.rule in
+    IfOk-weaker c.with_places.result _ _ (λ made adds. adds ∙ ap with_added (c.in_ok-with_large.ensures ∙ ap with_sizes fifth_is)) c.with_places.ensures

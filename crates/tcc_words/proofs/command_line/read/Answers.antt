@@ -1,5 +1,5 @@
 -- What the words ask for was asked, and what ends the words ends the run.
-use Rattle.std.proofs.Common.{ℕ, List, subst, inl, inr, map, string_bytes}
+use Rattle.std.proofs.Common.{ℕ, List, subst, inl, map, string_bytes}
 use Rattle.tcc_words.specs.CommandLines.{IsAsked}
 use Rattle.tcc_words.proofs.command_line.read.Goals as goal
 

@@ -1,8 +1,8 @@
 -- What each call adds to the subcommand.
-use Rattle.std.proofs.Common.{◌≡◌, ◌∙◌, false, ap₂, rules, codes}
+use Rattle.std.proofs.Common.{◌≡◌, ◌∙◌, ap₂, rules, codes}
 use Rattle.std.proofs.lemmas.Result.{IfOk-weaker}
 use Rattle.clap.specs.Words.{app_of, new_app, with_rule}
-use Rattle.tcc_words.specs.CommandLines.{flag, level_option, path}
+use Rattle.tcc_words.specs.CommandLines.{flag, level_option}
 use Rattle.tcc_words.proofs.command_line.survey_command.Goals as goal
 
 pub returns : goal.returns
