@@ -178,7 +178,8 @@ def faults_of_edits() -> Iterator[Outcome]:
         for line in (TOP / path).read_text().splitlines():
             word, _, text = line.partition(" ")
             if word == "file:":
-                file = (TOP / path).parent.parent.joinpath(text).read_text()
+                named = (TOP / path).parent.parent / text
+                file = named.read_text() if named.is_file() else ""
             elif word == "old:" and file.count(text) != 1:
                 wrong.append("'%s' stands in it %d times" % (text.strip(), file.count(text)))
         yield path, "; ".join(wrong) or None

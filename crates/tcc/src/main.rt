@@ -10,12 +10,12 @@ use std::sync::Wait;
 use std::thread::{self, Threads};
 use std::time::Clock;
 use tcc_files::{
-    Apart, Input, Quiet, Telling, check_large_opened, check_opened, is_waited_for, open_both,
-    open_input, open_output, open_outputs, print_unopened,
+    Apart, Input, Quiet, Telling, check_files, exit_code, is_waited_for, open_input, open_output,
+    open_outputs, print_unopened,
 };
 use tcc_full_run::{Asked, Limits, Run, run_full, tell_unread};
 use tcc_large_run::run_large;
-use tcc_run::{OpenGate, Options, Status, run_explain};
+use tcc_run::{OpenGate, Options, run_explain};
 use tcc_survey_run::{SurveyOptions, run_survey};
 use tcc_words::{Request, VERSION, read};
 use watch::Watch;
@@ -217,25 +217,14 @@ fn main(rt: HostRuntime) -> ExitCode {
             let options = SurveyOptions { level, json, large };
             survey(&rt, options, history.as_deref(), &mut out)
         }
-        Ok(
-            Request::Check {
-                history,
-                certificate,
-                large,
-            },
-        ) => {
-            let opened = open_both(&rt, history.as_str(), certificate.as_str());
-            let mut notes = rt.stderr();
-            if large {
-                check_large_opened(rt.alloc(), opened, &mut out, &mut notes)
-            } else {
-                check_opened(rt.alloc(), opened, &mut out, &mut notes)
-            }
-        }
+        Ok(Request::Check(files)) => check_files(
+            &rt,
+            files.history.as_str(),
+            files.certificate.as_str(),
+            files.large,
+            &mut out,
+        ),
         Err(code) => code,
     };
-    if code == Status::Device.code() {
-        let _ = eprintln!(rt; "device");
-    }
-    ExitCode::from(code)
+    exit_code(&rt, code)
 }

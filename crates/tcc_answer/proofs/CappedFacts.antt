@@ -1,7 +1,7 @@
 -- Rows that go out capped, one after the other.
 use Rattle.std.proofs.Common.{◌≡◌, ◌<◌, ◌+◌, ◌++◌, ℕ, List, [], ◌∷◌, Option, length, map, take, get_or, sym, ap, ◌∙◌, arith}
 use Rattle.std.proofs.lemmas.List.{get_or-map, length-map}
-use Rattle.tcc_packed.specs.Packed.{at_most}
+use Rattle.tcc_bits.specs.Packed.{at_most}
 use Rattle.tcc_cert.proofs.GivenTexts.{rows_more}
 
 -- the rows up to the next one

@@ -2,7 +2,7 @@
 ghost use Rattle.std.specs.Prelude.{◌≡◌, ◌≤◌, ℕ, List, [], ◌∷◌, Option, All, IfOk, OnErr, OnOk, length, map, take};
 ghost use Rattle.std.specs.Io.KnownBytes.{Appends};
 ghost use Rattle.tcc_txn.specs.declared.limits.TheConstants.{MAX_COUNT};
-ghost use Rattle.tcc_packed.specs.Packed.{at_most};
+ghost use Rattle.tcc_bits.specs.Packed.{at_most};
 ghost use Rattle.tcc_cert.specs.declared.certificate.CycleClaim.{CycleClaim};
 ghost use Rattle.tcc_cert.specs.Texts.{lines_text};
 ghost use Rattle.tcc_cert.specs.Begun.{MayTake, given_lines, with_rows};
@@ -11,8 +11,8 @@ ghost use Rattle.tcc_cert.specs.Given.{HasTaken};
 use std::alloc::Global;
 use std::io::Write;
 use std::marker::Model;
+use tcc_bits::PackedRow;
 use tcc_cert::{CertWriteFault, CycleTable, CycleWriter, Numbers, Table};
-use tcc_packed::PackedRow;
 use tcc_txn::{MAX_COUNT, NoMemory};
 
 /// Rows of numbers, each of which is the cap where there is none or a greater one: contracts see the capped numbers.
@@ -25,7 +25,7 @@ pub struct CappedRows {
 impl Model for CappedRows {
     ghost use Rattle.std.specs.Prelude.{◌≤◌, ℕ, List, All, length, map};
     ghost use Rattle.tcc_txn.specs.declared.limits.TheConstants.{MAX_COUNT};
-    ghost use Rattle.tcc_packed.specs.Packed.{at_most};
+    ghost use Rattle.tcc_bits.specs.Packed.{at_most};
 
     ghost Value = { List (List ℕ) };
 

@@ -1,8 +1,9 @@
 //! Answers as JSON.
-ghost use Rattle.std.specs.Prelude.{◌≡◌, ℕ, IfOk, OnOk, OnErr, Err, map, take};
+ghost use Rattle.std.specs.Prelude.{◌≡◌, ℕ, IfOk, OnOk, OnErr, Err, false, map, take};
 ghost use Rattle.std.specs.Io.KnownBytes.{Appends};
 ghost use Rattle.serde_json.specs.Data.{array};
 ghost use Rattle.serde_json.specs.View.{view, items_of};
+ghost use Rattle.serde_json.specs.Written.{has_float};
 ghost use Rattle.tcc_answer.specs.declared.fault.WriteFault.TheVariants as fault;
 ghost use Rattle.tcc_answer.specs.Json.{label_json, order_json, cycle_json, answer_json, json_line};
 
@@ -18,7 +19,7 @@ use tcc_sending::send;
 use tcc_txn::NoMemory;
 
 /// The labels of these numbers.
-fn labels_json(alloc: Global, labels: &Labels, numbers: &[u32]) -> Result<Value, AllocError>
+pub fn labels_json(alloc: Global, labels: &Labels, numbers: &[u32]) -> Result<Value, AllocError>
     ensures { IfOk result (λ v. view v ≡ array (items_of (map (label_json labels.now) numbers.now))) }
 {
     let mut list = Vec::new(alloc);
@@ -42,14 +43,22 @@ fn commit_json(alloc: Global, commit: &Commit) -> Result<Value, AllocError>
     })
 }
 
+/// The text of an object without floats, and a line feed.
+pub fn object_line(alloc: Global, object: &Value) -> Result<Vec<u8>, NoMemory>
+    requires { has_float (view object.now) ≡ false }
+    ensures { IfOk result (λ line. line.items ≡ json_line (view object.now)) }
+{
+    let text = object.to_string(alloc)?;
+    let mut line = Vec::new(alloc);
+    push(&mut line, &[text.as_bytes(), b"\n"])?;
+    Ok(line)
+}
+
 /// The text of the object of an order, and a line feed.
 fn commit_line(alloc: Global, commit: &Commit) -> Result<Vec<u8>, NoMemory>
     ensures { IfOk result (λ line. line.items ≡ json_line (order_json commit.now)) }
 {
-    let object = commit_json(alloc, commit)?.to_string(alloc)?;
-    let mut line = Vec::new(alloc);
-    push(&mut line, &[object.as_bytes(), b"\n"])?;
-    Ok(line)
+    object_line(alloc, &commit_json(alloc, commit)?)
 }
 
 /// The text of the object of a cycle, and a line feed.

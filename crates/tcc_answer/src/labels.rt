@@ -48,7 +48,7 @@ impl Labels {
     }
 
     /// The name of a transaction; past the last one nothing.
-    pub(crate) fn at(&self, number: u32) -> &str
+    pub fn at(&self, number: u32) -> &str
         ensures { result.now ≡ label_at self.now number }
     {
         match self.labels.get(number as usize) {

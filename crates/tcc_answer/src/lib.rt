@@ -15,7 +15,7 @@ mod text;
 pub use answer::{Anomaly, Answer, Commit};
 pub use capped::CappedRows;
 pub use fault::WriteFault;
-pub use json::write_json;
+pub use json::{labels_json, object_line, write_json};
 pub use labels::Labels;
 pub use links_json::{push_links_json, quoted};
 pub use shape::{Shape, shape_of};

@@ -4,10 +4,11 @@ use crate::surveying::contradicted;
 use std::alloc::Global;
 use std::io::Read;
 use tcc_graph::{LargeGraph, Level, Link};
-use tcc_large::{Decision, LargeAnswer, decide, explain_large, slice};
+use tcc_large::{Decision, LargeAnswer, decide, explain_large};
 use tcc_order::order;
 use tcc_reads::resolve_large;
 use tcc_rows::large_snapshot_of;
+use tcc_slices::slice;
 use tcc_txn::LargeSnapshot;
 
 /// How many transactions are ordered, 0 where there is a cycle.

@@ -1,7 +1,9 @@
-//! Rows of marks, 64 in a word: number b is bit b % 64 of word b / 64.
+//! Bit sets: rows of marks, 64 in a word. Number b is bit b % 64 of word b / 64. To mark a number and to ask for one takes one
+//! step; what is marked and not seen yet is found a word at a time, in N / 64 steps and one for each that is found.
 ghost use Rattle.std.specs.Prelude.{◌≡◌, ◌<◌, ◌≤◌, ◌+◌, ◌/◌, ◌^◌, ◌==◌, ◌||◌, ◌↔◌, ◌⊎◌, ℕ, true, length, All, Contains, OnOk};
 ghost use Rattle.std.specs.Int.{bit_at};
 ghost use Rattle.std.specs.List.{AllPairs};
+ghost use Rattle.tcc_txn.specs.declared.limits.TheConstants.{LARGE_COUNT};
 ghost use Rattle.tcc_bits.specs.Bits.{is_marked, words_for, IsFresh};
 ghost use Rattle.tcc_bits.specs.private.Ascending.{IsAscendingBelow};
 
@@ -66,7 +68,7 @@ fn push_marked(numbers: &mut Vec<u32>, word: u64, first: u32) -> Result<(), Allo
 /// The numbers that are marked and have not been seen, ascending; they are seen from now on.
 pub fn take_fresh(fresh: &mut Vec<u32>, seen: &mut [u64], marks: &[u64]) -> Result<(), AllocError>
     requires same { length seen.old ≡ length marks.now }
-    requires few { length marks.now ≤ 2 ^ 20 }
+    requires few { length marks.now ≤ LARGE_COUNT }
     ensures same { length seen.new ≡ length seen.old }
     ensures seen { OnOk result ((b : ℕ) → is_marked seen.new b ≡ (is_marked seen.old b || is_marked marks.now b)) }
     ensures fresh { OnOk result (IsFresh seen.old marks.now fresh.new.items) }

@@ -1,7 +1,9 @@
 -- The links of a certificate and the rows of its tables among its parts.
 use Rattle.std.proofs.Common.{◌≡◌, ℕ, ◌<◌, ◌≤◌, ◌≢◌, false, List, [], ◌∷◌, ◌++◌, Option, None, Ok}
 use Rattle.std.proofs.Common.{Err, inl, inr, refl, sym, ap, ◌∙◌, arith, append_assoc, append-nil}
+use Rattle.std.proofs.Common.{flat_map}
 use Rattle.std.specs.Prelude.{map}
+use Rattle.std.proofs.lemmas.Grind.{flat_map-append}
 use Rattle.tcc_graph.specs.declared.link.Link.{Link}
 use Rattle.tcc_cert.specs.declared.certificate.Certificate.{Certificate}
 use Rattle.tcc_cert.specs.declared.certificate.Certificate.TheVariants as claim
@@ -18,7 +20,7 @@ use Rattle.tcc_cert.specs.declared.reading.stages.Stage.{Stage}
 use Rattle.tcc_cert.specs.declared.reading.stages.Stage.TheVariants as stage
 use Rattle.tcc_cert.specs.declared.reading.Tables.{Tables}
 use Rattle.tcc_cert.specs.Ahead.{IsAhead, ended_in, fault_in, fault_met, has_ended, is_end, line_wanted, IsAheadIn}
-use Rattle.tcc_cert.specs.private.Collecting.{EndsIn, HasRow, HasRowsOf, clocks_in, far_in, links_in, near_in}
+use Rattle.tcc_cert.specs.private.Collecting.{EndsIn, HasRow, HasRowsOf, clock_in, far_row_in, link_in, near_row_in}
 use Rattle.tcc_cert.specs.Outcomes.{IsFailure, IsReading}
 use Rattle.tcc_cert.specs.Parts.{FaultsIn, IsFirst, Parts, after_part, cycle_head, ending, order_head, parts_of, parts_read, with_clocks, with_tables}
 use Rattle.tcc_cert.specs.Reading.{certificate_read}
@@ -28,32 +30,15 @@ use Rattle.tcc_cert.proofs.StageFacts.{onward-coming}
 -- ---- links and rows so far, and those to come
 
 pub record IsKept (links : List Link) (clocks near far : List (List ℕ)) (ahead rest : Parts) : Type 0 where
-  pub links_kept : links_in ahead.parts ≡ links ++ links_in rest.parts
-  pub clocks_kept : clocks_in ahead.parts ≡ clocks ++ clocks_in rest.parts
-  pub near_kept : near_in ahead.parts ≡ near ++ near_in rest.parts
-  pub far_kept : far_in ahead.parts ≡ far ++ far_in rest.parts
+  pub links_kept : flat_map link_in ahead.parts ≡ links ++ flat_map link_in rest.parts
+  pub clocks_kept : flat_map clock_in ahead.parts ≡ clocks ++ flat_map clock_in rest.parts
+  pub near_kept : flat_map near_row_in ahead.parts ≡ near ++ flat_map near_row_in rest.parts
+  pub far_kept : flat_map far_row_in ahead.parts ≡ far ++ flat_map far_row_in rest.parts
   pub line : rest.line ≡ ahead.line
   pub fault : rest.fault ≡ ahead.fault
 
 pub kept-none : (ahead : Parts) → IsKept [] [] [] [] ahead ahead
 kept-none ahead = record { links_kept = refl; clocks_kept = refl; near_kept = refl; far_kept = refl; line = refl; fault = refl }
-
--- the link or the row of a part stands before those behind it
-abbrev HasRowsBefore : Part → List Part → Type 0
-HasRowsBefore given rest =
-    (links_in (given ∷ rest) ≡ links_in (given ∷ []) ++ links_in rest)
-    × (clocks_in (given ∷ rest) ≡ clocks_in (given ∷ []) ++ clocks_in rest)
-    × (near_in (given ∷ rest) ≡ near_in (given ∷ []) ++ near_in rest)
-    × (far_in (given ∷ rest) ≡ far_in (given ∷ []) ++ far_in rest)
-
-rows-before : (given : Part) (rest : List Part) → HasRowsBefore given rest
-rows-before (part.Order head) rest = (refl, refl, refl, refl)
-rows-before (part.Cycle head) rest = (refl, refl, refl, refl)
-rows-before (part.Link one) rest = (refl, refl, refl, refl)
-rows-before (part.Clocks row) rest = (refl, refl, refl, refl)
-rows-before (part.Near row) rest = (refl, refl, refl, refl)
-rows-before (part.Far row) rest = (refl, refl, refl, refl)
-rows-before part.End rest = (refl, refl, refl, refl)
 
 rows-more : {X : Type 0} (old new one rest both all : List X) → all ≡ old ++ both → both ≡ one ++ rest → new ≡ old ++ one → all ≡ new ++ rest
 rows-more old new one rest both all is split more = is ∙ ap (λ rows. old ++ rows) split ∙ sym (append_assoc old one rest) ∙ ap (λ rows. rows ++ rest) (sym more)
@@ -62,13 +47,12 @@ pub kept-more : (old new : Tables) (given : Part) (ahead now rest : Parts) → I
     → now ≡ after_part given rest → HasRow given old new
     → IsKept new.links.items new.clocks.items new.near.items new.far.items ahead rest
 kept-more old new given ahead now rest kept is more =
-    let before = rows-before given rest.parts in
     record {
-      links_kept = rows-more old.links.items new.links.items _ _ _ _ (kept.links_kept ∙ ap (λ p. old.links.items ++ links_in p.parts) is) before.0 more.links;
+      links_kept = rows-more old.links.items new.links.items _ _ _ _ (kept.links_kept ∙ ap (λ p. old.links.items ++ flat_map link_in p.parts) is) refl more.links;
       clocks_kept =
-          rows-more old.clocks.items new.clocks.items _ _ _ _ (kept.clocks_kept ∙ ap (λ p. old.clocks.items ++ clocks_in p.parts) is) before.1 more.clocks;
-      near_kept = rows-more old.near.items new.near.items _ _ _ _ (kept.near_kept ∙ ap (λ p. old.near.items ++ near_in p.parts) is) before.2 more.near;
-      far_kept = rows-more old.far.items new.far.items _ _ _ _ (kept.far_kept ∙ ap (λ p. old.far.items ++ far_in p.parts) is) before.3 more.far;
+          rows-more old.clocks.items new.clocks.items _ _ _ _ (kept.clocks_kept ∙ ap (λ p. old.clocks.items ++ flat_map clock_in p.parts) is) refl more.clocks;
+      near_kept = rows-more old.near.items new.near.items _ _ _ _ (kept.near_kept ∙ ap (λ p. old.near.items ++ flat_map near_row_in p.parts) is) refl more.near;
+      far_kept = rows-more old.far.items new.far.items _ _ _ _ (kept.far_kept ∙ ap (λ p. old.far.items ++ flat_map far_row_in p.parts) is) refl more.far;
       line = sym (ap (λ p. p.line) is) ∙ kept.line;
       fault = sym (ap (λ p. p.fault) is) ∙ kept.fault;
     }
@@ -95,10 +79,10 @@ pub kept-all : (tables : Tables) (ahead now : Parts) → IsKept tables.links.ite
     → HasRowsOf ahead tables
 kept-all tables ahead now kept is =
     record {
-      links = sym (kept.links_kept ∙ ap (λ p. tables.links.items ++ links_in p.parts) is ∙ append-nil tables.links.items);
-      clocks = sym (kept.clocks_kept ∙ ap (λ p. tables.clocks.items ++ clocks_in p.parts) is ∙ append-nil tables.clocks.items);
-      near = sym (kept.near_kept ∙ ap (λ p. tables.near.items ++ near_in p.parts) is ∙ append-nil tables.near.items);
-      far = sym (kept.far_kept ∙ ap (λ p. tables.far.items ++ far_in p.parts) is ∙ append-nil tables.far.items);
+      links = sym (kept.links_kept ∙ ap (λ p. tables.links.items ++ flat_map link_in p.parts) is ∙ append-nil tables.links.items);
+      clocks = sym (kept.clocks_kept ∙ ap (λ p. tables.clocks.items ++ flat_map clock_in p.parts) is ∙ append-nil tables.clocks.items);
+      near = sym (kept.near_kept ∙ ap (λ p. tables.near.items ++ flat_map near_row_in p.parts) is ∙ append-nil tables.near.items);
+      far = sym (kept.far_kept ∙ ap (λ p. tables.far.items ++ flat_map far_row_in p.parts) is ∙ append-nil tables.far.items);
       ended = sym kept.fault ∙ ap (λ p. p.fault) is;
     }
 
@@ -140,62 +124,54 @@ pub read-faults : {F : Type 0} (bytes : List ℕ) (ahead : Parts) (wanted : ℕ)
 read-faults bytes ahead wanted fault counted line same faults =
     ends-read bytes fault (faults-end (parts_read bytes) ahead wanted fault line same counted faults)
 
-clocks-of : (clocks : List (List ℕ)) → clocks_in (map part.Clocks clocks) ≡ clocks
-clocks-of [] = refl
-clocks-of (row ∷ clocks) = ap (λ rows. row ∷ rows) (clocks-of clocks)
+-- what is collected of parts of one kind: all of them, or nothing
+all-of : {X : Type 0} (of_part : Part → List X) (form : X → Part) → ((x : X) → of_part (form x) ≡ x ∷ []) → (xs : List X) → flat_map of_part (map form xs) ≡ xs
+all-of of_part form one [] = refl
+all-of of_part form one (x ∷ xs) = ap (λ l. l ++ flat_map of_part (map form xs)) (one x) ∙ ap (λ l. x ∷ l) (all-of of_part form one xs)
 
--- the links of a cycle stand before its tables
+none-of : {X Y : Type 0} (of_part : Part → List X) (form : Y → Part) → ((y : Y) → of_part (form y) ≡ []) → (ys : List Y) → flat_map of_part (map form ys) ≡ []
+none-of of_part form none [] = refl
+none-of of_part form none (y ∷ ys) = ap (λ l. l ++ flat_map of_part (map form ys)) (none y) ∙ none-of of_part form none ys
+
+-- what is collected of the parts of a cycle
 abbrev tables_of : List (List ℕ) → List (List ℕ) → List Part
 tables_of near far = map part.Near near ++ map part.Far far
 
-links-none : (near far : List (List ℕ)) → links_in (tables_of near far) ≡ []
-links-none [] [] = refl
-links-none [] (row ∷ far) = links-none [] far
-links-none (row ∷ near) far = links-none near far
-
-links-of : (links : List Link) (near far : List (List ℕ)) → links_in (map part.Link links ++ tables_of near far) ≡ links
-links-of [] near far = links-none near far
-links-of (one ∷ links) near far = ap (λ l. one ∷ l) (links-of links near far)
-
-near-none : (far : List (List ℕ)) → near_in (map part.Far far) ≡ []
-near-none [] = refl
-near-none (row ∷ far) = near-none far
-
-near-of : (links : List Link) (near far : List (List ℕ)) → near_in (map part.Link links ++ tables_of near far) ≡ near
-near-of [] [] far = near-none far
-near-of [] (row ∷ near) far = ap (λ rows. row ∷ rows) (near-of [] near far)
-near-of (one ∷ links) near far = near-of links near far
-
-far-all : (far : List (List ℕ)) → far_in (map part.Far far) ≡ far
-far-all [] = refl
-far-all (row ∷ far) = ap (λ rows. row ∷ rows) (far-all far)
-
-far-of : (links : List Link) (near far : List (List ℕ)) → far_in (map part.Link links ++ tables_of near far) ≡ far
-far-of [] [] far = far-all far
-far-of [] (row ∷ near) far = far-of [] near far
-far-of (one ∷ links) near far = far-of links near far
+of-cycle : {X : Type 0} (of_part : Part → List X) (links : List Link) (near far : List (List ℕ)) (all some rest : List X) → flat_map of_part (map part.Link links) ≡ all
+    → flat_map of_part (map part.Near near) ≡ some → flat_map of_part (map part.Far far) ≡ rest
+    → flat_map of_part (map part.Link links ++ tables_of near far) ≡ all ++ (some ++ rest)
+of-cycle of_part links near far all some rest first second third =
+    flat_map-append of_part (map part.Link links) (tables_of near far)
+    ∙ ap (λ l. flat_map of_part (map part.Link links) ++ l) (flat_map-append of_part (map part.Near near) (map part.Far far))
+    ∙ rw (first, second, third) refl
 
 -- a claim of an order by its parts
 pub order-is : (c : Certificate) (head : OrderHead) (rest : List Part) (clocks : List (List ℕ)) → part.Order head ∷ rest ≡ parts_of c
-    → clocks ≡ clocks_in rest → c ≡ claim.Order (with_clocks head clocks)
+    → clocks ≡ flat_map clock_in rest → c ≡ claim.Order (with_clocks head clocks)
 order-is (claim.Order k) head rest clocks is all =
     let tail : rest ≡ map part.Clocks k.clocks = cc in
     let first : head ≡ order_head k = cc in
-    let same : clocks ≡ k.clocks = all ∙ ap clocks_in tail ∙ clocks-of k.clocks in
+    let same : clocks ≡ k.clocks = all ∙ ap (flat_map clock_in) tail ∙ all-of clock_in part.Clocks (λ row. refl) k.clocks in
     sym (ap (λ o. claim.Order (with_clocks o clocks)) first ∙ ap (λ rows. claim.Order (with_clocks (order_head k) rows)) same)
 order-is (claim.Cycle k) head rest clocks is all = absurd cc
 
 -- a claim of a cycle by its parts
 pub cycle-is : (c : Certificate) (head : CycleHead) (rest : List Part) (links : List Link) (near far : List (List ℕ))
-    → part.Cycle head ∷ rest ≡ parts_of c → links ≡ links_in rest → near ≡ near_in rest → far ≡ far_in rest
+    → part.Cycle head ∷ rest ≡ parts_of c → links ≡ flat_map link_in rest → near ≡ flat_map near_row_in rest → far ≡ flat_map far_row_in rest
     → c ≡ claim.Cycle (with_tables head links near far)
 cycle-is (claim.Order k) head rest links near far is first second third = absurd cc
 cycle-is (claim.Cycle k) head rest links near far is first second third =
     let tail : rest ≡ map part.Link k.links ++ tables_of k.near k.far = cc in
     let begin : head ≡ cycle_head k = cc in
-    let same : links ≡ k.links = first ∙ ap links_in tail ∙ links-of k.links k.near k.far in
-    let next : near ≡ k.near = second ∙ ap near_in tail ∙ near-of k.links k.near k.far in
-    let last : far ≡ k.far = third ∙ ap far_in tail ∙ far-of k.links k.near k.far in
+    let same : links ≡ k.links = first ∙ ap (flat_map link_in) tail
+    ∙ of-cycle link_in k.links k.near k.far k.links [] [] (all-of link_in part.Link (λ one. refl) k.links)
+    (none-of link_in part.Near (λ row. refl) k.near) (none-of link_in part.Far (λ row. refl) k.far) ∙ append-nil k.links in
+    let next : near ≡ k.near = second ∙ ap (flat_map near_row_in) tail
+    ∙ of-cycle near_row_in k.links k.near k.far [] k.near [] (none-of near_row_in part.Link (λ one. refl) k.links)
+    (all-of near_row_in part.Near (λ row. refl) k.near) (none-of near_row_in part.Far (λ row. refl) k.far) ∙ append-nil k.near in
+    let last : far ≡ k.far = third ∙ ap (flat_map far_row_in) tail
+    ∙ of-cycle far_row_in k.links k.near k.far [] [] k.far (none-of far_row_in part.Link (λ one. refl) k.links)
+    (none-of far_row_in part.Near (λ row. refl) k.near) (all-of far_row_in part.Far (λ row. refl) k.far) in
     sym (ap (λ o. claim.Cycle (with_tables o links near far)) begin
     ∙ ap (λ l. claim.Cycle (with_tables (cycle_head k) l near far)) same
     ∙ ap (λ rows. claim.Cycle (with_tables (cycle_head k) k.links rows far)) next

@@ -14,6 +14,7 @@ use Rattle.tcc_cert.specs.declared.large.Run.{Run}
 use Rattle.tcc_cert.specs.declared.large.RunsClaim.{RunsClaim}
 use Rattle.tcc_cert.specs.declared.ranges.Scale.TheVariants.{Large}
 use Rattle.tcc_cert.specs.declared.ranges.TheConstants.{MAX_HEADER_BYTES}
+use Rattle.tcc_cert.specs.declared.reading.large_forms.LargeSizes.{LargeSizes}
 use Rattle.tcc_cert.specs.declared.reading.large_forms.LargeSizes.TheVariants.{Order, Cycle}
 use Rattle.tcc_cert.specs.declared.reading.large_forms.Tail.TheVariants.{Least, End}
 use Rattle.tcc_cert.specs.declared.version_3.TheConstants.{V3_MAX_COST, V3_MAX_COUNT, V3_MAX_NUMBER, V3_MAX_RUNS, V3_MAX_SESSION, V3_MAX_SESSIONS}
@@ -78,19 +79,27 @@ runs-back runs h n =
           ∙ then_ok (λ read. Ok (runs, read.1)) (end-at lines.0 []),
     )
 
+-- the line of a word and three numbers of 32 bits, where these are sizes
+sizes-at : (word : List ℕ) (a b c line : ℕ) (rest : List ℕ) (sizes : LargeSizes) → 0 < length word → IsAbove 32 word → length word ≤ 10
+    → a ≤ 4294967295 → b ≤ 4294967295 → c ≤ 4294967295 → large_sizes_line (word ∷ decimal a ∷ decimal b ∷ decimal c ∷ []) ≡ Ok sizes
+    → words Large large_sizes_line (at line (line_text (word ∷ decimal a ∷ decimal b ∷ decimal c ∷ []) ++ rest)) ≡ Ok (sizes, at (line + 1) rest)
+sizes-at word a b c line rest sizes some above short ha hb hc is =
+    let first = numeral a ha in
+    let second = numeral b hb in
+    let third = numeral c hc in
+    words-line Large large_sizes_line line (word ∷ decimal a ∷ decimal b ∷ decimal c ∷ []) rest
+    (some, above, (first.0, first.1, (second.0, second.1, (third.0, third.1, tt))))
+    (omega (arith, words-short 10 word (decimal a ∷ decimal b ∷ decimal c ∷ []) short (first.2, (second.2, (third.2, tt)))))
+    sizes is
+
 -- ---- claims of orders
 
 order_sizes-at : (n s r line : ℕ) (rest : List ℕ) → IsCount Large n → s ≤ V3_MAX_SESSIONS → r ≤ V3_MAX_RUNS
     → words Large large_sizes_line (at line (line_text (codes "order" ∷ decimal n ∷ decimal s ∷ decimal r ∷ []) ++ rest))
     ≡ Ok (Order n s r, at (line + 1) rest)
 order_sizes-at n s r line rest hn hs hr =
-    let first = numeral n (omega (arith, hn.limit)) in
-    let second = numeral s (omega (arith, hs)) in
-    let third = numeral r (omega (arith, hr)) in
-    words-line Large large_sizes_line line (codes "order" ∷ decimal n ∷ decimal s ∷ decimal r ∷ []) rest
-    (lit< tt, IsAbove-tested 32 (codes "order") refl, (first.0, first.1, (second.0, second.1, (third.0, third.1, tt))))
-    (omega (arith, words-short 10 (codes "order") (decimal n ∷ decimal s ∷ decimal r ∷ []) (lit≤ tt) (first.2, (second.2, (third.2, tt)))))
-    (Order n s r)
+    sizes-at (codes "order") n s r line rest (Order n s r) (lit< tt) (IsAbove-tested 32 (codes "order") refl) (lit≤ tt)
+    (omega (arith, hn.limit)) (omega (arith, hs)) (omega (arith, hr))
     (rw (
       number-read 1 V3_MAX_COUNT n (lit≤ tt) hn.some hn.limit,
       number-read 0 V3_MAX_SESSIONS s (lit≤ tt) (omega arith) hs,
@@ -109,13 +118,8 @@ cycle_sizes-at : (n m l line : ℕ) (rest : List ℕ) → IsCount Large n → Is
     → words Large large_sizes_line (at line (line_text (codes "cycle" ∷ decimal n ∷ decimal m ∷ decimal l ∷ []) ++ rest))
     ≡ Ok (Cycle n m l, at (line + 1) rest)
 cycle_sizes-at n m l line rest hn hm hl =
-    let first = numeral n (omega (arith, hn.limit)) in
-    let second = numeral m (omega (arith, hm.limit)) in
-    let third = numeral l (omega (arith, hl)) in
-    words-line Large large_sizes_line line (codes "cycle" ∷ decimal n ∷ decimal m ∷ decimal l ∷ []) rest
-    (lit< tt, IsAbove-tested 32 (codes "cycle") refl, (first.0, first.1, (second.0, second.1, (third.0, third.1, tt))))
-    (omega (arith, words-short 10 (codes "cycle") (decimal n ∷ decimal m ∷ decimal l ∷ []) (lit≤ tt) (first.2, (second.2, (third.2, tt)))))
-    (Cycle n m l)
+    sizes-at (codes "cycle") n m l line rest (Cycle n m l) (lit< tt) (IsAbove-tested 32 (codes "cycle") refl) (lit≤ tt)
+    (omega (arith, hn.limit)) (omega (arith, hm.limit)) (omega (arith, hl))
     (rw (
       number-read 1 V3_MAX_COUNT n (lit≤ tt) hn.some hn.limit,
       number-read 1 V3_MAX_COUNT m (lit≤ tt) hm.some hm.limit,

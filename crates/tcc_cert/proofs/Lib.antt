@@ -27,9 +27,6 @@ pub mod Ends
 pub mod OwnLinks
 mod LargeOnward
 mod LargeReads
-pub mod LargePartFacts
-mod LargeStageFacts
-mod LargeGivenFacts
 mod LargeBack
 mod LargeOne
 mod WorkedLarge

@@ -4,16 +4,13 @@ use Rattle.std.proofs.lemmas.Fmt.{decimal_digit}
 use Rattle.tcc_graph.specs.declared.level.Level.TheVariants.{Causal, Atomic}
 use Rattle.tcc_graph.specs.declared.link.Link.TheVariants as link
 use Rattle.tcc_graph.specs.declared.step.Step.TheVariants as step
-use Rattle.tcc_cert.specs.declared.fault.CertFault.{CertFault}
 use Rattle.tcc_cert.specs.declared.fault.CertFaultKind.TheVariants.{Header, Word, Number, Count, TooLarge, Truncated, Trailing}
 use Rattle.tcc_cert.specs.declared.large.LargeCertificate.{LargeCertificate}
 use Rattle.tcc_cert.specs.declared.large.LargeCertificate.TheVariants as claim
 use Rattle.tcc_cert.specs.declared.large.Run.{Run}
-use Rattle.tcc_cert.specs.declared.large_part.LargePart.{LargePart}
-use Rattle.tcc_cert.specs.declared.large_part.LargePart.TheVariants as part
-use Rattle.tcc_cert.specs.LargeParts.{large_parts_read}
 use Rattle.tcc_cert.specs.LargeTexts.{large_certificate_text}
 use Rattle.tcc_cert.specs.LargeReading.{is_large, large_certificate_read}
+use Rattle.tcc_cert.proofs.WorkedReading.{HaveFaults}
 
 abbrev run : ℕ → ℕ → Run
 run session count = record { session = session; count = count }
@@ -82,12 +79,7 @@ none_read : large_certificate_read (codes "tcc-certificate 3 atomic\norder 1 0 0
     ≡ Ok (claim.Order (record { level = Atomic; transactions = 1; sessions = 0; runs = [] }))
 none_read = refl
 
--- each text has the fault that stands behind it
-abbrev HaveFaults : List (List ℕ × CertFault) → Type 0
-HaveFaults [] = Unit {0}
-HaveFaults ((text, fault) ∷ rows) = (large_certificate_read text ≡ Err fault) × HaveFaults rows
-
-faulty_texts : HaveFaults
+faulty_texts : HaveFaults large_certificate_read
     ((codes "tcc-certificate 3\norder 1 0 0\n", record { line = 1; kind = Header })
     ∷ (codes "tcc-certificate 3 causal\nring 5 4 4\n", record { line = 2; kind = Word })
     ∷ (codes "tcc-certificate 3 causal\norder 5 4\n", record { line = 2; kind = Count })
@@ -110,39 +102,3 @@ faulty_texts = (refl, (refl, (refl, (refl, (refl, (refl, (refl, (refl, (refl, (r
 -- the version is that of the first line
 told_by_the_first_line : (is_large fork_text ≡ true) × (is_large (codes "tcc-certificate 2 causal\n") ≡ false)
 told_by_the_first_line = (refl, refl)
-
--- ---- parts
-
-fork_parts : large_parts_read fork_text ≡ record {
-  parts = part.Order (record { level = Causal; transactions = 5; sessions = 4; runs = 4 })
-      ∷ part.Run (run 0 1) ∷ part.Run (run 1 1) ∷ part.Run (run 2 1) ∷ part.Run (run 3 1) ∷ [];
-  line = 8;
-  fault = None;
-}
-fork_parts = refl
-
--- the cycle of five steps, and its links
-abbrev five_links : List LargePart
-five_links =
-    part.Cycle (record { level = Causal; transactions = 5; links = 2; cost = 5 })
-    ∷ part.Link (link.Session 0 1)
-    ∷ part.Link (link.Derived 1 0 (codes "x") 4 (step.Reads 1 2 (codes "x") ∷ step.Reads 2 3 (codes "y") ∷ step.Session 3 4 ∷ []))
-    ∷ []
-
-least_told : large_parts_read (five_steps_text (codes "least 3\n0 1\n1 1\n2 2\nend\n")) ≡ record {
-  parts = five_links ++ (part.Least 3 ∷ part.Run (run 0 1) ∷ part.Run (run 1 1) ∷ part.Run (run 2 2) ∷ []);
-  line = 13;
-  fault = None;
-}
-least_told = refl
-
-no_claim_told : large_parts_read (five_steps_text (codes "end\n")) ≡ record { parts = five_links; line = 9; fault = None }
-no_claim_told = refl
-
--- the parts before a fault
-faulty_run_told : large_parts_read (five_steps_text (codes "least 3\n0 1\n1 0\n2 2\nend\n"))
-    ≡ record { parts = five_links ++ (part.Least 3 ∷ part.Run (run 0 1) ∷ []); line = 10; fault = Some Number }
-faulty_run_told = refl
-
-trailing_told : large_parts_read (five_steps_text (codes "end\n\n")) ≡ record { parts = five_links; line = 9; fault = Some Trailing }
-trailing_told = refl

@@ -1,5 +1,5 @@
 -- Worked texts are read as the definitions say.
-use Rattle.std.proofs.Common.{◌≡◌, ℕ, List, [], ◌∷◌, ◌++◌, Ok, Err, refl, codes}
+use Rattle.std.proofs.Common.{◌≡◌, ℕ, List, [], ◌∷◌, ◌++◌, Result, Ok, Err, refl, codes}
 use Rattle.tcc_graph.specs.declared.step.Step.TheVariants as step
 use Rattle.tcc_graph.specs.declared.link.Link.TheVariants as link
 use Rattle.tcc_cert.specs.declared.certificate.Certificate.{Certificate}
@@ -16,7 +16,7 @@ no_transactions : certificate_read (codes "tcc-certificate 1\norder 1 0\n0\ncloc
     ≡ Ok (claim.Order (record { version = One; level = Causal; order = 0 ∷ []; sessions = 0; clocks = [] ∷ [] }))
 no_transactions = refl
 
--- the same at `Atomic`, with no clocks
+-- at `Atomic` it has no clocks
 no_clocks : certificate_read (codes "tcc-certificate 2 atomic\norder 1 0\n0\nend\n")
     ≡ Ok (claim.Order (record { version = Two; level = Atomic; order = 0 ∷ []; sessions = 0; clocks = [] }))
 no_clocks = refl
@@ -51,12 +51,12 @@ stale_read_upward : certificate_read (codes "tcc-certificate 2 causal\ncycle 3 2
     ≡ Ok (stale Two ((3 ∷ 1 ∷ 1 ∷ []) ∷ (3 ∷ 1 ∷ []) ∷ (3 ∷ []) ∷ []))
 stale_read_upward = refl
 
--- each text has the fault that stands behind it
-abbrev HaveFaults : List (List ℕ × CertFault) → Type 0
-HaveFaults [] = Unit {0}
-HaveFaults ((text, fault) ∷ rows) = (certificate_read text ≡ Err fault) × HaveFaults rows
+-- each text, as `read` has it, has the fault that stands behind it
+abbrev pub HaveFaults : {C : Type 0} → (List ℕ → Result C CertFault) → List (List ℕ × CertFault) → Type 0
+HaveFaults read [] = Unit {0}
+HaveFaults read ((text, fault) ∷ rows) = (read text ≡ Err fault) × HaveFaults read rows
 
-faulty_texts : HaveFaults
+faulty_texts : HaveFaults certificate_read
     ((codes "tcc-certificate 2\ncycle 3 2 3\n", record { line = 1; kind = Header })
     ∷ (codes "tcc-certificate 1\nring 3 2 3\n", record { line = 2; kind = Word })
     ∷ (codes "tcc-certificate 1\ncycle 3 2\n", record { line = 2; kind = Count })

@@ -13,9 +13,6 @@ pub mod LargeReading
 pub mod Outcomes
 pub mod Parts
 pub mod Ahead
-pub mod LargeParts
-pub mod LargeAhead
-pub mod LargeGiven
 pub mod WindowBytes
 pub mod InputBytes
 pub mod Versions

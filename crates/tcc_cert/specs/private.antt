@@ -2,6 +2,5 @@
 pub mod Writing
 pub mod Inputs
 pub mod Stages
-pub mod LargeStages
 pub mod Collecting
 pub mod Showing

@@ -57,7 +57,7 @@ impl<W: Write> Drop for CycleWriter<'_, W> {
 }
 
 /// The line behind the rows, and all that still waits.
-pub(crate) fn last_line<W: Write>(outgoing: &mut Outgoing, out: &mut W) -> io::Result<()>
+fn last_line<W: Write>(outgoing: &mut Outgoing, out: &mut W) -> io::Result<()>
     ensures sent { IsSent result (W.contents out.old) outgoing.old (W.contents out.new) outgoing.new (line_text (codes "end" ∷ [])) }
     ensures none { OnOk result (outgoing.new ≡ []) }
 {

@@ -14,7 +14,7 @@ use std::io::{self, Write};
 use tcc_graph::Level;
 
 /// `s k`
-pub(crate) fn run_line<W: Write>(outgoing: &mut Outgoing, out: &mut W, run: &Run) -> io::Result<()>
+fn run_line<W: Write>(outgoing: &mut Outgoing, out: &mut W, run: &Run) -> io::Result<()>
     ensures { IsSent result (W.contents out.old) outgoing.old (W.contents out.new) outgoing.new (line_text (run_words run.now)) }
 {
     number_line(outgoing, out, &[run.session, run.count])
@@ -39,7 +39,7 @@ fn runs_to_end<W: Write>(outgoing: &mut Outgoing, out: &mut W, runs: &Runs) -> i
 }
 
 /// `order N S R`
-pub(crate) fn order_sizes<W: Write>(
+fn order_sizes<W: Write>(
     outgoing: &mut Outgoing,
     out: &mut W,
     transactions: u32,
@@ -70,11 +70,7 @@ fn order<W: Write>(outgoing: &mut Outgoing, out: &mut W, claim: &RunsClaim) -> i
 }
 
 /// `least R`
-pub(crate) fn least_size<W: Write>(
-    outgoing: &mut Outgoing,
-    out: &mut W,
-    runs: usize,
-) -> io::Result<()>
+fn least_size<W: Write>(outgoing: &mut Outgoing, out: &mut W, runs: usize) -> io::Result<()>
     ensures { IsSent result (W.contents out.old) outgoing.old (W.contents out.new) outgoing.new
         (line_text (codes "least" ∷ decimal runs ∷ [])) }
 {
@@ -107,11 +103,7 @@ fn cycle<W: Write>(outgoing: &mut Outgoing, out: &mut W, claim: &LinksClaim) -> 
 }
 
 /// The line that names the version and the level.
-pub(crate) fn header_line<W: Write>(
-    outgoing: &mut Outgoing,
-    out: &mut W,
-    level: Level,
-) -> io::Result<()>
+fn header_line<W: Write>(outgoing: &mut Outgoing, out: &mut W, level: Level) -> io::Result<()>
     ensures { IsSent result (W.contents out.old) outgoing.old (W.contents out.new) outgoing.new (line_text (large_header_words level)) }
 {
     match level {

@@ -1,14 +1,11 @@
 //! What the definitions of a certificate's text say by themselves.
-ghost use Rattle.std.specs.Prelude.{◌≡◌, ◌≤◌, ◌<◌, ◌+◌, [], ◌∷◌, ◌++◌, length, ℕ, List, Err, None, Ok, Some};
+ghost use Rattle.std.specs.Prelude.{◌≡◌, ◌≤◌, ◌<◌, ◌+◌, ◌∷◌, length, ℕ, List, Err, None, Ok, Some};
 ghost use Rattle.tcc_cert.specs.Texts.{HasText, certificate_text};
 ghost use Rattle.tcc_cert.specs.LargeTexts.{HasLargeText, HasRunsClaimText, large_certificate_text};
 ghost use Rattle.tcc_cert.specs.RunsTold.{order_claim_of};
 ghost use Rattle.tcc_cert.specs.declared.version_3.TheConstants.{V3_MAX_COUNT, V3_MAX_SESSIONS};
 ghost use Rattle.tcc_graph.specs.declared.level.Level.{Level};
 ghost use Rattle.tcc_reads.specs.History.{History, count, owner};
-ghost use Rattle.tcc_cert.specs.LargeGiven.{parts_text};
-ghost use Rattle.tcc_cert.specs.LargeParts.{large_parts_of, large_parts_read};
-ghost use Rattle.tcc_cert.specs.declared.large_part.LargePart.TheVariants as part;
 ghost use Rattle.tcc_cert.specs.LargeReading.{large_certificate_read};
 ghost use Rattle.tcc_cert.specs.Outcomes.{IsLargeReading, IsReading};
 ghost use Rattle.tcc_cert.specs.Versions.{HasNoFirstLine};
@@ -53,23 +50,6 @@ pub fn large_text_is_read()
 /// What is read of version 3 has a text, and was read from that text and nothing else.
 pub fn large_read_text_is_one()
     ensures { (bytes : List ℕ) (c : LargeCertificate) → large_certificate_read bytes ≡ Ok c → HasLargeText c × (bytes ≡ large_certificate_text c) }
-{}
-
-/// The parts that a text of version 3 gives are those of its certificate, and then it ends.
-pub fn large_parts_of_what_is_read()
-    ensures { (bytes : List ℕ) (c : LargeCertificate) → large_certificate_read bytes ≡ Ok c
-        → ((large_parts_read bytes).parts ≡ large_parts_of c) × ((large_parts_read bytes).fault ≡ None) }
-{}
-
-/// The parts of any other text end in its first fault.
-pub fn large_parts_before_the_fault()
-    ensures { (bytes : List ℕ) (f : CertFault) → large_certificate_read bytes ≡ Err f
-        → ((large_parts_read bytes).fault ≡ Some f.kind) × ((large_parts_read bytes).line ≡ f.line) }
-{}
-
-/// The text of a certificate of version 3 is that of its parts and the end.
-pub fn text_of_parts()
-    ensures { (c : LargeCertificate) → parts_text (large_parts_of c ++ part.End ∷ []) ≡ large_certificate_text c }
 {}
 
 /// A text without a first line has that fault whatever its version.

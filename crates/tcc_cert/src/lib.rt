@@ -6,8 +6,6 @@ mod cycle_writer;
 mod digits;
 mod fault;
 mod large;
-mod large_part;
-mod large_writer;
 mod large_writing;
 pub mod laws;
 mod lines;
@@ -27,16 +25,12 @@ pub use certificate::{Certificate, CycleClaim, OrderClaim};
 pub use cycle_writer::{CycleTable, CycleWriter, write_first_lines};
 pub use fault::{CertFault, CertFaultKind, CertWriteFault};
 pub use large::{LargeCertificate, LinksClaim, Run, Runs, RunsClaim};
-pub use large_part::{LargePart, LinksHead, RunsHead};
-pub use large_writer::LargeWriter;
 pub use large_writing::write_large;
 pub use lists::{Links, Numbers, Table};
 pub use outgoing::Outgoing;
 pub use part::{CycleHead, OrderHead, Part};
 pub use ranges::Scale;
-pub use reading::{
-    CertReader, LargePartReader, LargeReader, VersionReader, read, read_large, reader_of,
-};
+pub use reading::{CertReader, LargeReader, VersionReader, read, read_large, reader_of};
 pub use runs::{order_claim, runs_of};
 pub use version::Version;
 pub use writing::write;

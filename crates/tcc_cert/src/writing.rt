@@ -92,7 +92,7 @@ fn derived<W: Write>(
     line(outgoing, out, b"D", &words)
 }
 
-pub(crate) fn link<W: Write>(outgoing: &mut Outgoing, out: &mut W, link: &Link) -> io::Result<()>
+fn link<W: Write>(outgoing: &mut Outgoing, out: &mut W, link: &Link) -> io::Result<()>
     ensures { IsSent result (W.contents out.old) outgoing.old (W.contents out.new) outgoing.new (lines_text (link_lines link.now)) }
 {
     match link {

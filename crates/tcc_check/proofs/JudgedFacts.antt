@@ -20,12 +20,13 @@ use Rattle.tcc_check.specs.declared.judgement.Judgement.{Judgement}
 use Rattle.tcc_check.specs.declared.stream_fault.StreamFault.{StreamFault}
 use Rattle.tcc_check.specs.declared.stream_fault.StreamFault.TheVariants.{Text, NoMemory}
 use Rattle.tcc_check.specs.declared.verdict.Rule.TheVariants.{Sizes}
+use Rattle.tcc_check.specs.declared.verdict.Rule.{Rule}
 use Rattle.tcc_check.specs.declared.verdict.Verdict.{Verdict}
 use Rattle.tcc_check.specs.private.Coming.{FailsAs, Finishes, sized}
 use Rattle.tcc_check.specs.private.Judged.{IsClaimJudged, IsCycleJudged, IsOrderJudged, claim_rules}
 use Rattle.tcc_check.specs.Streams.{IsClaimed, IsJudged, IsStreamFault, claim_of}
-use Rattle.tcc_check.specs.Verdicts.{IsVerdict, as_whole, cycle_rules, order_rules}
-use Rattle.tcc_check.specs.private.Searches.{IsAnswer}
+use Rattle.tcc_check.specs.Verdicts.{IsVerdict, cycle_rules, order_rules}
+use Rattle.tcc_check.specs.Asked.{IsVerdictOf, as_whole}
 use Rattle.tcc_check.proofs.Asked.{answer_later}
 use Rattle.tcc_check.proofs.Claims.{verdict_of}
 use Rattle.tcc_check.proofs.ComingFacts.{fails-back}
@@ -53,8 +54,8 @@ judged-behind h bytes given rest said (Ok judgement) is on done =
 judged-behind h bytes given rest said (Err fault) is on fails = fault-behind bytes given rest fault is fails
 
 -- where the verdict is on tables of the right sizes, it is that of all rules
-pub sized-answer : (h : History) (k : CycleClaim) (rest : Parts) (found : Option Verdict) (at_once : Bool)
-    → MatchOption found (HasRightSizes h k → ⊥) (IsClaimJudged h k rest) → IsTrue at_once ↔ (rest.parts ≡ []) → IsAnswer (cycle_rules h k) (sized found at_once)
+pub sized-answer : (h : History) (k : CycleClaim) (rest : Parts) (found : Option (Verdict Rule)) (at_once : Bool)
+    → MatchOption found (HasRightSizes h k → ⊥) (IsClaimJudged h k rest) → IsTrue at_once ↔ (rest.parts ≡ []) → IsVerdictOf (cycle_rules h k) (sized found at_once)
 sized-answer h k rest (Some answer) true judged end =
     let right = judged.right (end.0 refl) in
     answer_later (as_whole Sizes (HasRightSizes h k) ∷ []) (claim_rules h k) answer (right.0, tt) right.1
@@ -70,7 +71,7 @@ order-judged h (certificate.Order k) head rest judgement is said =
     let same : head ≡ order_head k = cc in (
       said.same,
       verdict_of h (certificate.Order k) judgement.verdict
-          (subst (λ (o : OrderHead). IsAnswer (order_rules h (with_clocks o k.clocks)) judgement.verdict) same (said.answer k.clocks tail)),
+          (subst (λ (o : OrderHead). IsVerdictOf (order_rules h (with_clocks o k.clocks)) judgement.verdict) same (said.answer k.clocks tail)),
     )
 order-judged h (certificate.Cycle k) head rest judgement is said = absurd cc
 
@@ -85,7 +86,7 @@ cycle-judged h (certificate.Cycle k) head rest judgement is said =
     said.answer k.links k.near k.far (sym (ap (λ (o : CycleHead). o.links) same)) (sym (ap (λ (o : CycleHead). o.count) same)) tail in (
       said.same ∙ ap (λ (o : CycleHead). claim.Cycle o.least) same,
       verdict_of h (certificate.Cycle k) judgement.verdict
-          (subst (λ (o : CycleHead). IsAnswer (cycle_rules h (with_tables o k.links k.near k.far)) judgement.verdict) same answer),
+          (subst (λ (o : CycleHead). IsVerdictOf (cycle_rules h (with_tables o k.links k.near k.far)) judgement.verdict) same answer),
     )
 
 -- what is said of a claim and the parts behind it is said of the text

@@ -13,6 +13,9 @@ use Rattle.std.proofs.lemmas.Slice.Zip.{get_or-zip, length-zip}
 use Rattle.std.proofs.Math.Nat.{min-zero}
 use Rattle.tcc_reads.specs.History.{History, count}
 use Rattle.tcc_graph.specs.Relations.{IsCausalPair, IsReadsPair, IsSessionPair}
+use Rattle.tcc_graph.specs.Keys.{keys, key_at}
+use Rattle.tcc_graph.specs.Readings.{AreReadingsByIndex}
+use Rattle.tcc_graph.proofs.WriterLemmas.{key_place}
 use Rattle.tcc_check.specs.private.Pairs.{AreOrderly}
 use Rattle.tcc_check.specs.private.Weights.{unlinked, AreByWeight, IsLeastRow, IsLowered}
 use Rattle.tcc_check.specs.private.WeightsFrom.{AreAllEnds, AreEnds, AreEndsTo, AreLightEnds, ends_of, BetweenWeighs}
@@ -47,6 +50,31 @@ pub seconds-by : (P : ℕ → Type 0) (ks vs : List ℕ) → length ks ≡ lengt
 seconds-by P ks vs long each k d l =
     each (get_or ks k 0) (get_or vs k d) (zip-at ks vs long k (get_or ks k 0) (get_or vs k d) (omega (arith, l, long))
     (get_or_default ks k _ 0 (omega (arith, l, long))) (get_or_default vs k _ d l))
+
+-- ---- who reads from a transaction, whatever key
+
+pub record AreReadersOf (h : History) (a : ℕ) (readers : List ℕ) : Type 0 where
+  pub reads : (c : ℕ) → Contains readers c → (x : List ℕ) × IsReadsPair h a c x
+  pub listed : (c : ℕ) (x : List ℕ) → IsReadsPair h a c x → Contains readers c
+
+module _ (h : History) (a : ℕ) (readers key_indices : List ℕ) (are : AreReadingsByIndex h a readers key_indices) where
+  reads-there : (c : ℕ) → Contains readers c → (x : List ℕ) × IsReadsPair h a c x
+  reads-there c (k, l, e) =
+      let index = get_or key_indices k 0 in
+      let inside : k < length key_indices = omega (arith, l, are.long) in
+      (key_at h index, ((are.each c index).0 (zip-at readers key_indices are.long k c index l e (get_or_default key_indices k _ 0 inside))).1)
+
+  listed-there : (c : ℕ) (x : List ℕ) → IsReadsPair h a c x → Contains readers c
+  listed-there c x pair =
+      let (index, low, is) = key_place h a c x pair in
+      let at = zip-from readers key_indices are.long c index ((are.each c index).1 (low, subst (λ (y : List ℕ). IsReadsPair h a c y) (sym is) pair)) in
+      (at.0, at.1, at.2)
+
+  pub readers-of : AreReadersOf h a readers
+  readers-of = record { reads = reads-there; listed = listed-there }
+
+  pub readers-below : All (λ c. c < count h) readers
+  readers-below k d l = (reads-there (get_or readers k d) (k, l, get_or_default readers k _ d l)).1.1
 
 -- ---- one number more
 
@@ -86,22 +114,15 @@ module _ (readers old new : List ℕ) where
       lowered
 
 -- who reads from u is marked
-pub marks-reads : (h : History) (u : ℕ) (readers : List ℕ) (names : List (List ℕ)) (old new : List ℕ) → length readers ≡ length names
-    → ((c : ℕ) (x : List ℕ) → Contains (zip readers names) (c, x) → IsReadsPair h u c x)
-    → ((c : ℕ) (x : List ℕ) → IsReadsPair h u c x → Contains (zip readers names) (c, x))
-    → IsLowered (MarkWeighs readers) old new → IsLowered (ReadWeighs h u) old new
-marks-reads h u readers names old new long to back = lowered_as _ _ old new there here
+pub marks-reads : (h : History) (u : ℕ) (readers old new : List ℕ) → AreReadersOf h u readers → IsLowered (MarkWeighs readers) old new
+    → IsLowered (ReadWeighs h u) old new
+marks-reads h u readers old new are = lowered_as _ _ old new there here
   where
     there : (v w : ℕ) → MarkWeighs readers v w → ReadWeighs h u v w
-    there v w ((k, l, e), none) = (
-      get_or names k [],
-      to v (get_or names k []) (zip-at readers names long k v (get_or names k []) l e
-          (get_or_default names k _ [] (omega (arith, l, long)))),
-      none,
-    )
+    there v w (is, none) = let read = are.reads v is in (read.0, read.1, none)
 
     here : (v w : ℕ) → ReadWeighs h u v w → MarkWeighs readers v w
-    here v w (x, reads, none) = let at = zip-from readers names long v x (back v x reads) in ((at.0, at.1, at.2), none)
+    here v w (x, reads, none) = (are.listed v x reads, none)
 
 -- ---- marks between two numbers
 
@@ -179,24 +200,20 @@ module _ (h : History) (row old new : List ℕ) where
   pub no-source : IsLowered (SeenSource 1 h row) old old
   no-source = lowered_none _ old (λ v w s. absurd (omega (arith, s.0, s.1)))
 
-  pub one-source : (i : ℕ) (readers : List ℕ) (names : List (List ℕ)) (newer : List ℕ) → 0 < i → length readers ≡ length names
-      → ((c : ℕ) (x : List ℕ) → Contains (zip readers names) (c, x) → IsReadsPair h i c x)
-      → ((c : ℕ) (x : List ℕ) → IsReadsPair h i c x → Contains (zip readers names) (c, x))
-      → IsLowered (SeenSource i h row) old new → IsLowered (SourceWeighs i readers row) new newer → IsLowered (SeenSource (i + 1) h row) old newer
-  one-source i readers names newer some long there here before more =
+  pub one-source : (i : ℕ) (readers newer : List ℕ) → 0 < i → AreReadersOf h i readers → IsLowered (SeenSource i h row) old new
+      → IsLowered (SourceWeighs i readers row) new newer → IsLowered (SeenSource (i + 1) h row) old newer
+  one-source i readers newer some are before more =
       lowered_as _ _ old newer to (λ v w s. back v w s (cases_eq v i)) (lowered_then _ _ old new newer before more)
     where
       to : (v w : ℕ) → SeenSource i h row v w ⊎ SourceWeighs i readers row v w → SeenSource (i + 1) h row v w
       to v w (inl s) = (s.0, omega (arith, s.1), s.2, s.3, s.4, s.5)
-      to v w (inr (same, c, (k, l, e), has)) =
-          let reads : IsReadsPair h i c (get_or names k []) =
-          there c (get_or names k []) (zip-at readers names long k c (get_or names k []) l e (get_or_default names k _ [] (omega (arith, l, long)))) in
-          (omega (arith, same, some), omega (arith, same), get_or names k [], c, subst (λ (z : ℕ). IsReadsPair h z c (get_or names k [])) (sym same) reads, has)
+      to v w (inr (same, c, is, has)) =
+          let read = are.reads c is in
+          (omega (arith, same, some), omega (arith, same), read.0, c, subst (λ (z : ℕ). IsReadsPair h z c read.0) (sym same) read.1, has)
 
       back : (v w : ℕ) → SeenSource (i + 1) h row v w → (v ≡ i) ⊎ (v ≡ i → ⊥) → SeenSource i h row v w ⊎ SourceWeighs i readers row v w
       back v w (positive, l, x, c, reads, has) (inl same) =
-          let at = zip-from readers names long c x (here c x (subst (λ (z : ℕ). IsReadsPair h z c x) same reads)) in
-          inr (same, c, (at.0, at.1, at.2), has)
+          inr (same, c, are.listed c x (subst (λ (z : ℕ). IsReadsPair h z c x) same reads), has)
       back v w (positive, l, x, c, reads, has) (inr apart) = inl (positive, omega (arith, l, apart), x, c, reads, has)
 
   pub all-sources : (i : ℕ) → count h ≤ i → IsLowered (SeenSource i h row) old new → IsLowered (InitContradictsBy h row) old new

@@ -9,12 +9,12 @@ use Rattle.tcc_check.specs.declared.far_rows.FarFaults.{FarFaults}
 use Rattle.tcc_check.specs.declared.near_rows.NearFaults.{NearFaults}
 use Rattle.tcc_check.specs.private.Coming.{AreFoundBefore, IsFoundBefore, IsNearFoundTo, far_verdict, near_verdict, verdict_by}
 use Rattle.tcc_check.specs.private.Judged.{far_rules, near_rules}
-use Rattle.tcc_check.specs.private.Searches.{IsAnswer}
+use Rattle.tcc_check.specs.Asked.{IsVerdictOf}
 use Rattle.tcc_check.proofs.First.{nowhere}
 
 module _ (h : History) (level : Level) (near : List (List ℕ)) where
   near-told : (pair step : Option (ℕ × ℕ)) → IsFoundBefore (count h) (BreaksNearPair h near) pair
-      → IsFoundBefore (count h) (BreaksNearStep h level near) step → IsAnswer (near_rules h level near) (near_verdict pair step)
+      → IsFoundBefore (count h) (BreaksNearStep h level near) step → IsVerdictOf (near_rules h level near) (near_verdict pair step)
   near-told (Some at) step p q = inl (refl, p.1)
   near-told None (Some at) p q = inr (nowhere (count h) (BreaksNearPair h near) (λ a b w. (pair_below h a b w.0).0) p, inl (refl, q.1))
   near-told None None p q = (
@@ -23,7 +23,7 @@ module _ (h : History) (level : Level) (near : List (List ℕ)) where
   )
 
   pub near-answer : (faults : NearFaults) → IsNearFoundTo h level near (count h) faults
-      → IsAnswer (near_rules h level near) (near_verdict faults.pair faults.step)
+      → IsVerdictOf (near_rules h level near) (near_verdict faults.pair faults.step)
   near-answer faults found = near-told faults.pair faults.step found.pairs found.steps
 
 module _ (h : History) (version : Version) (least : ℕ) (near far : List (List ℕ)) where
@@ -33,7 +33,7 @@ module _ (h : History) (version : Version) (least : ℕ) (near far : List (List 
 
   far-told : (link step back : Option (ℕ × ℕ)) → IsFoundBefore (count h) (BreaksFarLink h version near far) link
       → IsFoundBefore (count h) (BreaksFarStep h version near far) step → IsFoundBefore (count h) (BreaksReturn h version least far) back
-      → IsAnswer (far_rules h version least near far) (verdict_by link step back)
+      → IsVerdictOf (far_rules h version least near far) (verdict_by link step back)
   far-told (Some at) step back p q r = inl (refl, p.1)
   far-told None (Some at) back p q r = inr (nowhere (count h) (BreaksFarLink h version near far) link-start p, inl (refl, q.1))
   far-told None None (Some at) p q r =
@@ -47,5 +47,5 @@ module _ (h : History) (version : Version) (least : ℕ) (near far : List (List 
   )
 
   pub far-answer : (faults : FarFaults) → AreFoundBefore h version least near far (count h) faults
-      → IsAnswer (far_rules h version least near far) (far_verdict faults)
+      → IsVerdictOf (far_rules h version least near far) (far_verdict faults)
   far-answer faults found = far-told faults.link faults.step faults.back found.links found.steps found.returns

@@ -15,7 +15,7 @@ use Rattle.tcc_txn.proofs.Lists.{in_filter, from_filter, in_map, from_map}
 use Rattle.tcc_reads.specs.History.{History, IsBySession, count, entry_at, owner, place}
 use Rattle.tcc_graph.specs.Numbers.{at}
 use Rattle.tcc_graph.specs.Relations.{IsSessionPair, session_pair, IsReadsPair}
-use Rattle.tcc_graph.specs.Keys.{key_at, writers, writes, is_key, numbers}
+use Rattle.tcc_graph.specs.Keys.{key_at, keys, writers, writes, is_key, numbers}
 use Rattle.tcc_graph.specs.declared.level.Level.{Level}
 use Rattle.tcc_graph.specs.declared.level.Level.TheVariants.{Causal}
 use Rattle.tcc_cert.specs.Tables.{row_of, entry}
@@ -233,20 +233,12 @@ first_more P xs i x inside is before here k d below = go (cases_eq k i)
     go (inl same) = subst (λ m. P (get_or xs m d)) (sym same) (subst P (is ∙ get_or_default xs i x d inside) here)
     go (inr apart) = before k d (omega arith)
 
--- the same of the next by its number
+-- one item more, the next by its number
 pub next_more : {X : Type 0} (P : X → Type 0) (xs : List X) (i : ℕ) (e : X) → i < length xs
     → ((k : ℕ) (d : X) → k < i → P (get_or xs k d)) → P (get_or xs i e) → (k : ℕ) (d : X) → k < i + 1 → P (get_or xs k d)
 next_more P xs i e inside = first_more P xs i (get_or xs i e) inside (get_or_default xs i e (get_or xs i e) inside)
 
--- so for all of them
-pub by_reads : (h : History) (c : ℕ) (P : List ℕ → ℕ → Type 0) (reads : List (List ℕ × ℕ)) → reads ≡ (entry_at h c).reads
-    → ((k : ℕ) (d : List ℕ × ℕ) → k < length reads → P (get_or reads k d).0 (get_or reads k d).1) → (x : List ℕ) (a : ℕ) → IsReadsPair h a c x → P x a
-by_reads h c P reads is all x a p =
-    let w : Contains reads (x, a) = subst (λ (rs : List (List ℕ × ℕ)). Contains rs (x, a)) (sym is) (read_listed h a c x p) in
-    let here : P (get_or reads w.0 (x, a)).0 (get_or reads w.0 (x, a)).1 = all w.0 (x, a) w.1 in
-    subst (λ (r : List ℕ × ℕ). P r.0 r.1) w.2 here
-
--- so for all of them, by the positions of their keys
+-- so for all of them, by the indices of their keys
 pub by_keys : (h : History) (c : ℕ) (P : List ℕ → ℕ → Type 0) (reads : List (ℕ × ℕ))
     → map (λ (read : ℕ × ℕ). (key_at h read.0, read.1)) reads ≡ (entry_at h c).reads
     → ((k : ℕ) (d : ℕ × ℕ) → k < length reads → P (key_at h (get_or reads k d).0) (get_or reads k d).1) → (x : List ℕ) (a : ℕ) → IsReadsPair h a c x → P x a
@@ -257,8 +249,12 @@ by_keys h c P reads are all x a p =
     let here : P (key_at h w.0.0) w.0.1 = subst (λ (r : ℕ × ℕ). P (key_at h r.0) r.1) w.1.2 (all w.1.0 w.0 w.1.1) in
     subst (λ (r : List ℕ × ℕ). P r.0 r.1) w.2 here
 
-pub read_at : (h : History) (c : ℕ) (reads : List (List ℕ × ℕ)) (i : ℕ) (read : List ℕ × ℕ) → reads ≡ (entry_at h c).reads → All (λ r. r.1 < count h) reads
-    → c < count h → i < length reads → read ≡ get_or reads i read → IsReadsPair h read.1 c read.0
-read_at h c reads i read is sources to below here =
-    let from : read.1 < count h = subst (λ (r : List ℕ × ℕ). r.1 < count h) (sym here) (sources i read below) in
-    listed_read h read.1 c read.0 from to (subst (λ (rs : List (List ℕ × ℕ)). Contains rs (read.0, read.1)) is (i, below, sym here))
+pub read_at : (h : History) (c : ℕ) (reads : List (ℕ × ℕ)) (i : ℕ) (read : ℕ × ℕ)
+    → map (λ (r : ℕ × ℕ). (key_at h r.0, r.1)) reads ≡ (entry_at h c).reads → All (λ r. (r.0 < length (keys h)) × (r.1 < count h)) reads
+    → c < count h → i < length reads → read ≡ get_or reads i read → IsReadsPair h read.1 c (key_at h read.0)
+read_at h c reads i read is within to below here =
+    let from : read.1 < count h
+    = (subst (λ (r : ℕ × ℕ). (r.0 < length (keys h)) × (r.1 < count h)) (sym here) (within i read below)).1 in
+    listed_read h read.1 c (key_at h read.0) from to
+    (subst (λ (rs : List (List ℕ × ℕ)). Contains rs (key_at h read.0, read.1)) is
+    (in_map (λ (r : ℕ × ℕ). (key_at h r.0, r.1)) reads read (i, below, sym here)))

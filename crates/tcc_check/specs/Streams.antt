@@ -11,6 +11,7 @@ use Rattle.tcc_check.specs.declared.judgement.Claim.TheVariants as claim
 use Rattle.tcc_check.specs.declared.judgement.Judgement.{Judgement}
 use Rattle.tcc_check.specs.declared.stream_fault.StreamFault.{StreamFault}
 use Rattle.tcc_check.specs.declared.stream_fault.StreamFault.TheVariants.{Text, NoMemory}
+use Rattle.tcc_check.specs.declared.verdict.Rule.{Rule}
 use Rattle.tcc_check.specs.declared.verdict.Verdict.{Verdict}
 use Rattle.tcc_check.specs.Verdicts.{IsVerdict}
 
@@ -36,6 +37,6 @@ IsClaimed bytes (Ok said) = (c : Certificate) × (certificate_read bytes ≡ Ok 
 IsClaimed bytes (Err fault) = IsStreamFault bytes fault
 
 -- the verdict alone
-abbrev pub IsStreamed : History → List ℕ → Result Verdict StreamFault → Type 0
+abbrev pub IsStreamed : History → List ℕ → Result (Verdict Rule) StreamFault → Type 0
 IsStreamed h bytes (Ok verdict) = (c : Certificate) × (certificate_read bytes ≡ Ok c) × IsVerdict h c verdict
 IsStreamed h bytes (Err fault) = IsStreamFault bytes fault

@@ -4,7 +4,7 @@ ghost use Rattle.tcc_txn.specs.declared.limits.TheConstants.{MAX_COUNT};
 ghost use Rattle.tcc_reads.specs.History.{count};
 ghost use Rattle.tcc_cert.specs.CycleRules.{HasRightSizes};
 ghost use Rattle.tcc_check.specs.Verdicts.{bounds_rules, cycle_rules};
-ghost use Rattle.tcc_check.specs.private.Searches.{IsAnswer};
+ghost use Rattle.tcc_check.specs.Asked.{IsVerdictOf};
 
 use crate::far_rows::far_table;
 use crate::links::links_verdict;
@@ -38,7 +38,7 @@ fn bounds_verdict(
 ) -> Result<Verdict, NoMemory>
     requires few { count graph.now ≤ MAX_COUNT }
     requires sizes { HasRightSizes graph.now claim.now }
-    ensures { IfOk result (IsAnswer (bounds_rules graph.now claim.now)) }
+    ensures { IfOk result (IsVerdictOf (bounds_rules graph.now claim.now)) }
 {
     let rows = claim.near.as_slice();
     let near = near_table(alloc, graph, claim.level, rows, claim.least)?;
@@ -54,7 +54,7 @@ pub(crate) fn cycle_verdict(
     claim: &CycleClaim,
 ) -> Result<Verdict, NoMemory>
     requires { count graph.now ≤ MAX_COUNT }
-    ensures { IfOk result (IsAnswer (cycle_rules graph.now claim.now)) }
+    ensures { IfOk result (IsVerdictOf (cycle_rules graph.now claim.now)) }
 {
     if !has_right_sizes(graph, claim) {
         return Ok(rejected(Rule::Sizes, 0));

@@ -8,7 +8,7 @@ ghost use Rattle.tcc_cert.specs.Tables.{HasFarSize, IsCapped, row_of, lowest};
 ghost use Rattle.tcc_cert.specs.declared.part.Part.TheVariants as part;
 ghost use Rattle.tcc_check.specs.private.Coming.{AreFoundBefore, IsFarRight, Leaves, far_verdict};
 ghost use Rattle.tcc_check.specs.private.Judged.{AreLinksOf, IsFarJudged, IsOrderly, far_rules};
-ghost use Rattle.tcc_check.specs.private.Searches.{IsAnswer};
+ghost use Rattle.tcc_check.specs.Asked.{IsVerdictOf};
 
 use crate::StreamFault;
 use crate::coming::next_part;
@@ -104,7 +104,7 @@ pub(crate) fn far_table(
     requires orderly { IsOrderly graph.now near.now }
     requires size { HasFarSize version (count graph.now) far.now }
     requires capped { IsCapped least far.now }
-    ensures { (table : List (List ℕ)) → AreLinksOf graph.now least table near.now → IsAnswer (far_rules graph.now version least table far.now) result }
+    ensures { (table : List (List ℕ)) → AreLinksOf graph.now least table near.now → IsVerdictOf (far_rules graph.now version least table far.now) result }
 {
     let mut faults = NO_FAULTS;
     for start in 0..graph.count() {

@@ -9,8 +9,9 @@ ghost use Rattle.tcc_cert.specs.Rules.{CertifiesCycle, CertifiesOrder, Certifies
 ghost use Rattle.tcc_cert.specs.declared.certificate.Certificate.{Certificate};
 ghost use Rattle.tcc_cert.specs.declared.certificate.CycleClaim.{CycleClaim};
 ghost use Rattle.tcc_cert.specs.declared.certificate.OrderClaim.{OrderClaim};
+ghost use Rattle.tcc_check.specs.Asked.{AllHold};
 ghost use Rattle.tcc_check.specs.declared.verdict.Rule.{Rule};
-ghost use Rattle.tcc_check.specs.Verdicts.{AllHold, IsRejected, IsTrueClaim, rules_of};
+ghost use Rattle.tcc_check.specs.Verdicts.{IsRejected, IsTrueClaim, rules_of};
 
 /// The links of a certified cycle are a least cycle at the level of the claim, and cost what is claimed.
 pub fn certified_cycle()

@@ -1,20 +1,20 @@
 //! The independent checker: judges a certificate of anybody's by the rules alone.
 #![tactic(auto)]
 
+mod adjacency;
+mod checking;
 mod coming;
 mod cycle;
 mod far_rows;
 mod first_broken;
 mod groups;
 mod judgement;
-mod judging;
 mod latest;
 pub mod laws;
 mod links;
 mod links_from;
 mod near_rows;
 mod order;
-mod pairs;
 mod positions;
 mod readings;
 mod runs;
@@ -24,8 +24,8 @@ mod stream_fault;
 mod streaming;
 mod verdict;
 
+pub use checking::check;
 pub use judgement::{Claim, Judgement};
-pub use judging::check;
 pub use links::first_wrong_link;
 pub use sizes::are_links_below;
 pub use stream_fault::StreamFault;

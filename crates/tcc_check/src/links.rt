@@ -12,7 +12,7 @@ ghost use Rattle.tcc_cert.specs.declared.part.Part.TheVariants as part;
 ghost use Rattle.tcc_check.specs.private.Coming.{Leaves};
 ghost use Rattle.tcc_check.specs.private.Judged.{AreLinksJudged, links_rules};
 ghost use Rattle.tcc_check.specs.private.Links.{AreSeenTo, ends_or, first_wrong, left_behind};
-ghost use Rattle.tcc_check.specs.private.Searches.{IsAnswer};
+ghost use Rattle.tcc_check.specs.Asked.{IsVerdictOf};
 
 use crate::StreamFault;
 use crate::coming::next_part;
@@ -165,7 +165,7 @@ pub fn first_wrong_link(
 
 /// The verdict of the rule.
 fn wrong_verdict(wrong: Option<u32>) -> Verdict
-    ensures { (h : History) (k : CycleClaim) → IsFirstWrongLink (judged h k.level) k.least k.links wrong → IsAnswer (links_rules h k) result }
+    ensures { (h : History) (k : CycleClaim) → IsFirstWrongLink (judged h k.level) k.least k.links wrong → IsVerdictOf (links_rules h k) result }
 {
     match wrong {
         Some(at) => rejected(Rule::Links, at),
@@ -175,7 +175,7 @@ fn wrong_verdict(wrong: Option<u32>) -> Verdict
 
 /// Judges the links of a claim.
 pub(crate) fn links_verdict(graph: &LargeGraph, claim: &CycleClaim) -> Result<Verdict, NoMemory>
-    ensures { IfOk result (IsAnswer (links_rules graph.now claim.now)) }
+    ensures { IfOk result (IsVerdictOf (links_rules graph.now claim.now)) }
 {
     let links = claim.links.as_slice();
     let wrong = first_wrong_link(graph, claim.level, claim.least, links)?;

@@ -43,7 +43,7 @@ fn read_weights(alloc: Global, graph: &LargeGraph, start: u32) -> Result<Vec<u32
     ensures least { IfOk result (λ weights. IsLeastRow (ReadWeighs graph.now start) weights.items) }
 {
     let mut weights = bare_weights(alloc, graph)?;
-    mark(&mut weights, graph.readings(start).0);
+    mark(&mut weights, graph.readings_at(start).0);
     Ok(weights)
 }
 
@@ -115,7 +115,7 @@ fn lower_sources(weights: &mut [u32], graph: &LargeGraph, row: &[u32])
     ensures { IsLowered (InitContradictsBy graph.now row.now) weights.old weights.new }
 {
     for source in 1..graph.count() {
-        lower_source(weights, source, graph.readings(source).0, row);
+        lower_source(weights, source, graph.readings_at(source).0, row);
     }
 }
 

@@ -12,11 +12,11 @@ ghost use Rattle.tcc_check.specs.private.Judged.{AreNearRowsTo, IsNearJudged, Is
 ghost use Rattle.tcc_check.specs.private.Pairs.{AreOrderly, ArePairs};
 
 use crate::StreamFault;
+use crate::adjacency::{Pairs, pairs_of};
 use crate::coming::next_part;
 use crate::first_broken::{first_long_step, long_link};
 use crate::groups::Groups;
 use crate::links_from::link_ends;
-use crate::pairs::{Pairs, pairs_of};
 use crate::sizes::is_row_right;
 use crate::verdict::{Rule, Verdict, first_of};
 use std::alloc::Global;

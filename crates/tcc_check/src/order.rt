@@ -7,7 +7,8 @@ ghost use Rattle.tcc_graph.specs.declared.level.Level.TheVariants.{Causal};
 ghost use Rattle.tcc_cert.specs.Tables.{entry, HasSize, IsFirstAt};
 ghost use Rattle.tcc_cert.specs.OrderRules.{HasClocks, HasInClock, MayReach, HasOrderSizes, KeepsPairs, BreaksAxiom};
 ghost use Rattle.tcc_cert.specs.Rules.{HoldsEverywhere};
-ghost use Rattle.tcc_check.specs.private.Searches.{IsFoundBelow, IsAnswer};
+ghost use Rattle.tcc_check.specs.Asked.{IsVerdictOf};
+ghost use Rattle.tcc_check.specs.private.Searches.{IsFoundBelow};
 ghost use Rattle.tcc_check.specs.private.Positions.{ArePositions, IsKept, IsBehind};
 ghost use Rattle.tcc_check.specs.private.Readings.{AreReadings};
 ghost use Rattle.tcc_check.specs.Verdicts.{order_rules};
@@ -106,7 +107,7 @@ fn keeps_sources(
     requires c { c < count graph.now }
     ensures { IsTrue result ↔ ((b : ℕ) (x : List ℕ) → IsReadsPair graph.now b c x → IsKept graph.now level positions.now clocks.now b c) }
 {
-    for (_key, source) in graph.reads(c) {
+    for (_key, source) in graph.reads_at(c) {
         if !is_kept(graph, level, positions, clocks, *source, c) {
             return false;
         }
@@ -299,7 +300,7 @@ pub(crate) fn order_verdict(
 ) -> Result<Verdict, NoMemory>
     requires few { count graph.now ≤ MAX_COUNT }
     requires few_sessions { length graph.now.sessions ≤ MAX_SESSIONS }
-    ensures { IfOk result (IsAnswer (order_rules graph.now claim.now)) }
+    ensures { IfOk result (IsVerdictOf (order_rules graph.now claim.now)) }
 {
     if !has_order_sizes(graph, claim) {
         return Ok(rejected(Rule::Sizes, 0));

@@ -48,14 +48,14 @@ impl Rule {
     }
 }
 
-/// What the rules say of a certificate.
+/// What rules say of a claim: those of a certificate, where it isn't told whose they are.
 #[derive(Clone, Copy, Debug, PartialEq, Eq)]
-pub enum Verdict {
+pub enum Verdict<R = Rule> {
     /// All of them hold, and so the claim is true.
     Accepted,
     /// This is the first broken rule, and where it is broken first: two transactions; of `Links` the number
     /// of the first wrong link, from 1, and 0; and 0 and 0 where the rule names nothing.
-    Rejected { rule: Rule, at: (u32, u32) },
+    Rejected { rule: R, at: (u32, u32) },
 }
 
 /// The verdict that this rule is the first broken one, of a rule that names nothing, or a number from 1.
@@ -81,7 +81,7 @@ pub(crate) fn first_of(
 }
 
 /// The first of two verdicts that is no acceptance.
-pub(crate) fn first_rejected(earlier: Verdict, later: Verdict) -> Verdict
+pub(crate) fn first_rejected<R: Drop>(earlier: Verdict<R>, later: Verdict<R>) -> Verdict<R>
     ensures { result ≡ first_rejected earlier later }
 {
     match earlier {

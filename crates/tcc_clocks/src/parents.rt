@@ -1,7 +1,7 @@
 //! The transactions right before each one: in its session, and what it reads from.
-ghost use Rattle.std.specs.Prelude.{◌≡◌, ◌<◌, ◌≤◌, ◌-◌, ℕ, length, take, drop, slice_index, All, IfOk, OnOk};
+ghost use Rattle.std.specs.Prelude.{◌≡◌, ◌<◌, ◌≤◌, ◌-◌, ◌++◌, ℕ, length, take, drop, slice_index, All, IfOk, OnOk};
 ghost use Rattle.tcc_reads.specs.History.{count};
-ghost use Rattle.tcc_clocks.specs.Parents.{ArePrevious, AreSteps, HasSourcesAt, parents};
+ghost use Rattle.tcc_clocks.specs.Parents.{ArePrevious, AreSteps, HasSourcesAt, parents, sources};
 
 use std::alloc::{AllocError, Global};
 use tcc_graph::LargeGraph;
@@ -18,6 +18,18 @@ pub fn previous_of_each(alloc: Global, graph: &LargeGraph) -> Result<Vec<u32>, A
     Ok(parents)
 }
 
+/// Adds the transactions that this one reads from.
+fn add_sources(found: &mut Vec<u32>, graph: &LargeGraph, c: u32) -> Result<(), AllocError>
+    requires { c < count graph.now }
+    ensures found { OnOk result (found.new.items ≡ found.old.items ++ sources graph.now c) }
+    ensures sources { OnOk result (HasSourcesAt graph.now c) }
+{
+    for read in graph.reads_at(c) {
+        found.push(read.1)?;
+    }
+    Ok(())
+}
+
 /// The transactions right before this one: in its session, and what it reads from.
 pub fn parents_of(alloc: Global, graph: &LargeGraph, c: u32) -> Result<Vec<u32>, AllocError>
     requires { c < count graph.now }
@@ -28,9 +40,7 @@ pub fn parents_of(alloc: Global, graph: &LargeGraph, c: u32) -> Result<Vec<u32>,
     if c > 0 {
         parents.push(graph.previous(c))?;
     }
-    for read in graph.reads(c) {
-        parents.push(read.1)?;
-    }
+    add_sources(&mut parents, graph, c)?;
     Ok(parents)
 }
 
@@ -50,10 +60,7 @@ pub fn find_parents(
     if c > 0 {
         found.push(parent_of[c as usize])?;
     }
-    for read in graph.reads_at(c) {
-        found.push(read.1)?;
-    }
-    Ok(())
+    add_sources(found, graph, c)
 }
 
 /// The transactions right before each one of an order, in one list: where those of each position of the order begin and end.

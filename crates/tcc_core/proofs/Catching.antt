@@ -13,7 +13,7 @@ use Rattle.tcc_core.specs.private.Relaxing.{IsBounded}
 use Rattle.tcc_core.proofs.Costs.{cost_of_link, link_of_cost, cost_few}
 use Rattle.tcc_core.proofs.Lowering.{within_cap, capped_low, within_row}
 use Rattle.tcc_core.proofs.Offered.{lower_least, lower_some, lower_then, offered_none, offered_then, offered_same}
-use Rattle.tcc_core.proofs.Frontier.{way_below}
+use Rattle.tcc_core.proofs.FrontierLemmas.{way_below}
 use Rattle.tcc_core.specs.declared.queue.TheConstants.{NO_WAY}
 
 -- ---- from all that the row has

@@ -9,9 +9,9 @@ use Rattle.std.proofs.lemmas.Grind.{get_or_default_zero}
 use Rattle.std.proofs.lemmas.Nat.{div-add-mod', mod_below}
 use Rattle.std.proofs.Math.Nat.{mul-le-mul_right}
 use Rattle.tcc_txn.specs.declared.limits.TheConstants.{MAX_COUNT}
-use Rattle.tcc_core.specs.private.Rings.{StandsIn}
+use Rattle.tcc_core.specs.private.Buckets.{StandsIn}
 use Rattle.tcc_core.specs.private.Queues.{IsNearest, IsNext, IsFiled, IsOpen, IsShut, IsFar, IsListed, count_reached}
-use Rattle.tcc_core.specs.declared.ring.TheConstants.{BUCKETS}
+use Rattle.tcc_core.specs.declared.bucket_queue.TheConstants.{BUCKETS}
 use Rattle.tcc_core.specs.declared.queue.TheConstants.{NO_WAY}
 
 -- numbers within n of each other with the same rest are the same
@@ -57,23 +57,23 @@ two_set xs v a b within =
 abbrev IsFiledAt : ℕ → ℕ → ℕ → ℕ → Type 0
 IsFiledAt floor most cost b = IsShut cost b ⊎ IsOpen floor most cost b
 
-module _ {floor most : ℕ} {costs ring : List ℕ} (is : IsFiled floor most costs ring) where
+module _ {floor most : ℕ} {costs buckets : List ℕ} (is : IsFiled floor most costs buckets) where
   -- one is opened, or moves to another cost
-  pub filed_opened : {more v n : ℕ} {costs' ring' : List ℕ} → v < length costs → floor < n → n < floor + BUCKETS → n < NO_WAY → more ≡ max most n
-      → IsOneSet costs costs' v n → IsOneSet ring ring' v (n % BUCKETS) → IsFiled floor more costs' ring'
-  filed_opened {more} {v} {n} {costs'} {ring'} within above window few most_is costed ringed = record {
+  pub filed_opened : {more v n : ℕ} {costs' buckets' : List ℕ} → v < length costs → floor < n → n < floor + BUCKETS → n < NO_WAY → more ≡ max most n
+      → IsOneSet costs costs' v n → IsOneSet buckets buckets' v (n % BUCKETS) → IsFiled floor more costs' buckets'
+  filed_opened {more} {v} {n} {costs'} {buckets'} within above window few most_is costed ringed = record {
     long = omega (arith, is.long, costed.long, ringed.long);
     window = omega (arith, is.window, window, most_is);
     few = omega (arith, is.few, few, most_is);
     each = λ u below. go u (omega (arith, costed.long, below)) (cases_eq u v);
   }
     where
-      higher : (u : ℕ) → IsFiledAt floor most (slice_index costs u) (slice_index ring u) → IsFiledAt floor more (slice_index costs u) (slice_index ring u)
+      higher : (u : ℕ) → IsFiledAt floor most (slice_index costs u) (slice_index buckets u) → IsFiledAt floor more (slice_index costs u) (slice_index buckets u)
       higher u (inl shut) = inl shut
       higher u (inr open_at) =
           inr (record { some = open_at.some; above = open_at.above; below = omega (arith, open_at.below, most_is); at = open_at.at })
 
-      go : (u : ℕ) → u < length costs → (u ≡ v) ⊎ (u ≡ v → ⊥) → IsFiledAt floor more (slice_index costs' u) (slice_index ring' u)
+      go : (u : ℕ) → u < length costs → (u ≡ v) ⊎ (u ≡ v → ⊥) → IsFiledAt floor more (slice_index costs' u) (slice_index buckets' u)
       go u below (inl same) =
           rw (same, costed.here, ringed.here)
           (inr (record { some = omega (arith, above); above = omega (arith, above); below = omega (arith, most_is); at = refl }))
@@ -81,51 +81,51 @@ module _ {floor most : ℕ} {costs ring : List ℕ} (is : IsFiled floor most cos
 
   -- what is open stands in a bucket
   pub open_stands : (v : ℕ) → v < length costs → 0 < slice_index costs v → slice_index costs v < NO_WAY
-      → IsOpen floor most (slice_index costs v) (slice_index ring v)
+      → IsOpen floor most (slice_index costs v) (slice_index buckets v)
   open_stands v within some reached = go (is.each v within)
     where
-      go : IsFiledAt floor most (slice_index costs v) (slice_index ring v) → IsOpen floor most (slice_index costs v) (slice_index ring v)
+      go : IsFiledAt floor most (slice_index costs v) (slice_index buckets v) → IsOpen floor most (slice_index costs v) (slice_index buckets v)
       go (inl shut) = none shut.none
         where
-          none : (slice_index costs v ≡ NO_WAY) ⊎ (slice_index costs v ≡ 0) → IsOpen floor most (slice_index costs v) (slice_index ring v)
+          none : (slice_index costs v ≡ NO_WAY) ⊎ (slice_index costs v ≡ 0) → IsOpen floor most (slice_index costs v) (slice_index buckets v)
           none (inl far) = absurd (omega arith)
           none (inr past) = absurd (omega arith)
       go (inr open_at) = open_at
 
   -- one of the nearest goes out
-  pub filed_settled : {v b : ℕ} {costs' ring' : List ℕ} → IsNearest costs v → BUCKETS ≤ b → IsOneSet costs costs' v 0 → IsOneSet ring ring' v b
-      → IsFiled (slice_index costs v) most costs' ring'
-  filed_settled {v} {b} {costs'} {ring'} near out costed ringed = record {
+  pub filed_settled : {v b : ℕ} {costs' buckets' : List ℕ} → IsNearest costs v → BUCKETS ≤ b → IsOneSet costs costs' v 0 → IsOneSet buckets buckets' v b
+      → IsFiled (slice_index costs v) most costs' buckets'
+  filed_settled {v} {b} {costs'} {buckets'} near out costed ringed = record {
     long = omega (arith, is.long, costed.long, ringed.long);
     window = let stands = open_stands v near.below near.open_at near.reached in omega (arith, is.window, stands.above);
     few = is.few;
     each = λ u below. go u (omega (arith, costed.long, below)) (cases_eq u v);
   }
     where
-      kept : (u : ℕ) → u < length costs → IsFiledAt floor most (slice_index costs u) (slice_index ring u)
-          → IsFiledAt (slice_index costs v) most (slice_index costs u) (slice_index ring u)
+      kept : (u : ℕ) → u < length costs → IsFiledAt floor most (slice_index costs u) (slice_index buckets u)
+          → IsFiledAt (slice_index costs v) most (slice_index costs u) (slice_index buckets u)
       kept u below (inl shut) = inl shut
       kept u below (inr open_at) = inr (record { some = open_at.some; above = near.least u below open_at.some; below = open_at.below; at = open_at.at })
 
-      go : (u : ℕ) → u < length costs → (u ≡ v) ⊎ (u ≡ v → ⊥) → IsFiledAt (slice_index costs v) most (slice_index costs' u) (slice_index ring' u)
+      go : (u : ℕ) → u < length costs → (u ≡ v) ⊎ (u ≡ v → ⊥) → IsFiledAt (slice_index costs v) most (slice_index costs' u) (slice_index buckets' u)
       go u below (inl same) = rw (same, costed.here, ringed.here) (inl (record { none = inr refl; out = out }))
       go u below (inr other) = rw (costed.kept u other, ringed.kept u other) (kept u below (is.each u below))
 
   -- what was not reached stands in none
-  shut_out : (v : ℕ) → v < length costs → slice_index costs v ≡ NO_WAY → BUCKETS ≤ slice_index ring v
+  shut_out : (v : ℕ) → v < length costs → slice_index costs v ≡ NO_WAY → BUCKETS ≤ slice_index buckets v
   shut_out v within far = go (is.each v within)
     where
-      go : IsFiledAt floor most (slice_index costs v) (slice_index ring v) → BUCKETS ≤ slice_index ring v
+      go : IsFiledAt floor most (slice_index costs v) (slice_index buckets v) → BUCKETS ≤ slice_index buckets v
       go (inl shut) = shut.out
       go (inr open_at) = absurd (omega (arith, open_at.below, is.few))
 
   -- what stands in the bucket of a cost below which nothing is open is next
-  pub next_found : {cap : ℕ} (cost v : ℕ) → floor ≤ cost → cost ≤ most → cost ≤ cap → StandsIn ring (cost % BUCKETS) v
+  pub next_found : {cap : ℕ} (cost v : ℕ) → floor ≤ cost → cost ≤ most → cost ≤ cap → StandsIn buckets (cost % BUCKETS) v
       → ((u : ℕ) → u < length costs → 0 < slice_index costs u → cost ≤ slice_index costs u)
       → IsNext (record { costs = costs; floor = floor }) cap v
   next_found {cap} cost v up down low found least = go (is.each v (omega (arith, is.long, found.below)))
     where
-      go : IsFiledAt floor most (slice_index costs v) (slice_index ring v) → IsNext (record { costs = costs; floor = floor }) cap v
+      go : IsFiledAt floor most (slice_index costs v) (slice_index buckets v) → IsNext (record { costs = costs; floor = floor }) cap v
       go (inl shut) = absurd (omega (arith, found.at, shut.out, mod_below cost BUCKETS (omega arith)))
       go (inr open_at) =
           let same : slice_index costs v ≡ cost =
@@ -283,32 +283,32 @@ module _ {held : ℕ} {listed costs : List ℕ} (is : IsListed held listed costs
       (k, omega (arith, taken_long), taken_at k v low ∙ at)
 
   -- all others stand nowhere
-  pub taken_or_far : {floor most : ℕ} {ring : List ℕ} → IsFiled floor most costs ring
-      → (v : ℕ) → v < length costs → Contains (take held listed) v ⊎ IsFar costs ring v
-  taken_or_far {ring = ring} filed v within = go (tells (slice_index costs v))
+  pub taken_or_far : {floor most : ℕ} {buckets : List ℕ} → IsFiled floor most costs buckets
+      → (v : ℕ) → v < length costs → Contains (take held listed) v ⊎ IsFar costs buckets v
+  taken_or_far {buckets = buckets} filed v within = go (tells (slice_index costs v))
     where
-      go : Tells (slice_index costs v) → Contains (take held listed) v ⊎ IsFar costs ring v
+      go : Tells (slice_index costs v) → Contains (take held listed) v ⊎ IsFar costs buckets v
       go (inl (test, far)) = inr (far, shut_out filed v within far)
       go (inr (test, other)) = inl (taken_each v within other)
 
 -- ---- all ways away
 
 -- those of a list are taken away, and what else there is was not reached
-pub shut_all : (listed costs ring costs' ring' : List ℕ) → ((k : ℕ) → k < length listed → IsFar costs' ring' (slice_index listed k))
-    → ((u : ℕ) → u < length costs → ((slice_index costs' u ≡ slice_index costs u) × (slice_index ring' u ≡ slice_index ring u)) ⊎ IsFar costs' ring' u)
-    → ((v : ℕ) → v < length costs → Contains listed v ⊎ IsFar costs ring v)
-    → (v : ℕ) → v < length costs → IsFar costs' ring' v
-shut_all listed costs ring costs' ring' shut kept each v within = go (each v within) (kept v within)
+pub shut_all : (listed costs buckets costs' buckets' : List ℕ) → ((k : ℕ) → k < length listed → IsFar costs' buckets' (slice_index listed k))
+    → ((u : ℕ) → u < length costs → ((slice_index costs' u ≡ slice_index costs u) × (slice_index buckets' u ≡ slice_index buckets u)) ⊎ IsFar costs' buckets' u)
+    → ((v : ℕ) → v < length costs → Contains listed v ⊎ IsFar costs buckets v)
+    → (v : ℕ) → v < length costs → IsFar costs' buckets' v
+shut_all listed costs buckets costs' buckets' shut kept each v within = go (each v within) (kept v within)
   where
-    go : Contains listed v ⊎ IsFar costs ring v → ((slice_index costs' v ≡ slice_index costs v) × (slice_index ring' v ≡ slice_index ring v))
-        ⊎ IsFar costs' ring' v
-        → IsFar costs' ring' v
+    go : Contains listed v ⊎ IsFar costs buckets v → ((slice_index costs' v ≡ slice_index costs v) × (slice_index buckets' v ≡ slice_index buckets v))
+        ⊎ IsFar costs' buckets' v
+        → IsFar costs' buckets' v
     go any (inr far) = far
     go (inr (far, out)) (inl (same, stood)) = (same ∙ far, omega (arith, stood, out))
-    go (inl (k, low, at)) any = subst (λ (u : ℕ). IsFar costs' ring' u) (sym (get_or_default_zero listed k v low) ∙ at) (shut k low)
+    go (inl (k, low, at)) any = subst (λ (u : ℕ). IsFar costs' buckets' u) (sym (get_or_default_zero listed k v low) ∙ at) (shut k low)
 
-pub filed_none : (costs ring : List ℕ) → length costs ≡ length ring → ((v : ℕ) → v < length costs → IsFar costs ring v) → IsFiled 0 0 costs ring
-filed_none costs ring long all = record {
+pub filed_none : (costs buckets : List ℕ) → length costs ≡ length buckets → ((v : ℕ) → v < length costs → IsFar costs buckets v) → IsFiled 0 0 costs buckets
+filed_none costs buckets long all = record {
   long = long;
   window = omega arith;
   few = omega arith;

@@ -19,7 +19,7 @@ use Rattle.tcc_core.specs.private.Relaxing.{IsBounded, count_joined}
 use Rattle.tcc_core.proofs.Costs.{cost_of_link, link_of_cost, cost_paid, cost_few}
 use Rattle.tcc_core.proofs.Lowering.{joined_set, joined_most, within_cap, within_down, capped_low, within_row}
 use Rattle.tcc_core.proofs.Offered.{lower_least, lower_some}
-use Rattle.tcc_core.proofs.Frontier.{route_of_way, way_within, way_below}
+use Rattle.tcc_core.proofs.FrontierLemmas.{route_of_way, way_within, way_below}
 use Rattle.tcc_txn.specs.declared.limits.TheConstants.{MAX_COUNT}
 use Rattle.tcc_core.specs.declared.queue.TheConstants.{NO_WAY}
 

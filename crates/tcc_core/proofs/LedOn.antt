@@ -17,7 +17,7 @@ use Rattle.tcc_core.specs.private.Levels.{AreClassed, IsClassWay, AreClasses}
 use Rattle.tcc_core.proofs.Offered.{offered_none, lower_least, lower_then}
 use Rattle.tcc_core.proofs.Marking.{IsLaterWay}
 use Rattle.tcc_core.proofs.Costs.{cost_paid, cost_few}
-use Rattle.tcc_core.specs.declared.ring.TheConstants.{BUCKETS}
+use Rattle.tcc_core.specs.declared.bucket_queue.TheConstants.{BUCKETS}
 
 -- ---- the links of classes, and the rest of them
 

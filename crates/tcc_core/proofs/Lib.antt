@@ -5,11 +5,11 @@ pub mod LevelWays
 pub mod Marking
 pub mod Costs
 pub mod LedOn
-pub mod RingHomes
-pub mod RingPairs
-pub mod RingCalls
+pub mod BucketHomes
+pub mod BucketPairs
+pub mod BucketCalls
 pub mod Settlement
-pub mod Frontier
+pub mod FrontierLemmas
 pub mod Lowering
 pub mod Joining
 pub mod Catching

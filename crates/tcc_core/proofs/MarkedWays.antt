@@ -11,7 +11,7 @@ use Rattle.tcc_core.specs.private.Queues.{offered}
 use Rattle.tcc_core.specs.private.Offers.{IsOffered}
 use Rattle.tcc_core.specs.private.Marked.{IsMet, IsWordWay, IsMarkWay}
 use Rattle.tcc_core.proofs.Offered.{lower_least, offered_none, offered_then, offered_same, offered_one}
-use Rattle.tcc_core.specs.declared.ring.TheConstants.{BUCKETS}
+use Rattle.tcc_core.specs.declared.bucket_queue.TheConstants.{BUCKETS}
 
 -- ---- the marks of a word, one by one
 

@@ -4,7 +4,7 @@ use Rattle.std.proofs.lemmas.Bool.{cases_lt, cases_eq}
 use Rattle.std.proofs.lemmas.List.{get_or-set_same, get_or-set_other}
 use Rattle.tcc_core.specs.private.Offers.{IsMarked}
 use Rattle.tcc_txn.specs.declared.limits.TheConstants.{MAX_COUNT}
-use Rattle.tcc_core.specs.declared.leading.TheConstants.{UNMARKED}
+use Rattle.tcc_core.specs.declared.frontier.TheConstants.{UNMARKED}
 use Rattle.tcc_core.specs.declared.queue.TheConstants.{NO_WAY}
 
 pub marked_none : (floor : ℕ) (costs marks : List ℕ) → length marks ≡ length costs → ((v : ℕ) → v < length costs → v < slice_index marks v)

@@ -7,7 +7,7 @@ use Rattle.std.proofs.lemmas.Bool.{cases_lt, cases_eq, ltb-true, ltb-false}
 use Rattle.std.proofs.lemmas.List.{get_or-set_same, get_or-set_other}
 use Rattle.tcc_core.specs.private.Queues.{Queue, offered}
 use Rattle.tcc_core.specs.private.Offers.{IsLower, IsOffered, IsWayBy, MayOffer}
-use Rattle.tcc_core.specs.declared.ring.TheConstants.{BUCKETS}
+use Rattle.tcc_core.specs.declared.bucket_queue.TheConstants.{BUCKETS}
 
 -- ---- lower costs
 
@@ -71,7 +71,7 @@ offered_then First Then Both floor old mid new split one other first then = reco
     from v (inl same) (inl kept) = inl (same ∙ kept)
     from v (inl same) (inr is) = inr (one v (slice_index new v) (subst (λ (n : ℕ). First v n) (sym same) is))
 
--- the same offers in other words
+-- offers of equal ways, told otherwise
 pub offered_same : (One Other : ℕ → ℕ → Type 0) (floor : ℕ) (old new : List ℕ) → ((v n : ℕ) → v < length old → One v n → Other v n)
     → ((v n : ℕ) → v < length old → Other v n → floor < n → One v n ⊎ (slice_index old v ≤ n)) → IsOffered One floor old new → IsOffered Other floor old new
 offered_same One Other floor old new into back is = record {

@@ -17,14 +17,14 @@ use Rattle.tcc_graph.specs.declared.link.Link.TheVariants as link
 use Rattle.tcc_graph.proofs.Linking.{some_cost, cost_cons, cost_append, one_cost, lead_append}
 use Rattle.tcc_graph.proofs.Pairs.{step_below}
 use Rattle.tcc_graph.proofs.Walking.{walk_below}
-use Rattle.tcc_near.specs.Distances.{NearTable, IsNearOf, IsWalkLength, IsShortest, least}
+use Rattle.tcc_near.specs.WalkLengths.{NearTable, IsNearOf, IsWalkLength, IsShortest, least}
 use Rattle.tcc_derive.specs.Prices.{Tables, IsPricesOf, IsPrice, IsLeastAmong, IsDerived, IsLinkOf, price_at}
 use Rattle.tcc_derive.proofs.CostLemmas.{link_of}
 use Rattle.tcc_core.specs.Shares.{IsCycleCost}
 use Rattle.tcc_core.specs.Seeds.{IsSeed, HasNoSeed}
 use Rattle.tcc_core.specs.private.Closing.{closing, closing_at, IsLeastOf}
 use Rattle.tcc_core.proofs.Costs.{cost_of_link, link_of_cost}
-use Rattle.tcc_near.specs.declared.distances.TheConstants.{NONE}
+use Rattle.tcc_near.specs.declared.walk_lengths.TheConstants.{NONE}
 use Rattle.tcc_core.specs.declared.queue.TheConstants.{NO_WAY}
 use Rattle.tcc_txn.specs.declared.limits.TheConstants.{MAX_COUNT}
 

@@ -1,4 +1,5 @@
-//! What a search does over its whole row.
+//! What a search does over its whole row: it empties it, in a step for each transaction that was reached, and relaxes again the
+//! links from all that has joined, where a cap has grown.
 ghost use Rattle.std.specs.Prelude.{◌≡◌, ◌≢◌, ◌<◌, ◌≤◌, ◌^◌, ℕ, Some, None, length, All, Contains};
 ghost use Rattle.tcc_graph.specs.Levels.{Judged};
 ghost use Rattle.tcc_derive.specs.Prices.{IsPricesOf};
@@ -6,7 +7,7 @@ ghost use Rattle.tcc_core.specs.Rows.{in_row, IsEmptyRow};
 ghost use Rattle.tcc_core.specs.private.Offers.{IsLower, IsOffered, IsWayOver};
 ghost use Rattle.tcc_txn.specs.declared.limits.TheConstants.{MAX_COUNT};
 
-use crate::leading::Frontier;
+use crate::frontier::Frontier;
 use tcc_derive::Prices;
 
 /// Takes these transactions, which are all that it has, out of the row.

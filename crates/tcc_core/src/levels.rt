@@ -1,11 +1,12 @@
-//! Of some costs what is met at them, as rows of marks: so a way at such a cost is offered to each transaction once in a
-//! search, however many transactions have links there.
+//! Of some costs what is met at them, as rows of marks: so a way at such a cost is offered to each transaction once in a search,
+//! however many transactions have links there. What a row marks is open at no more than its cost. For N transactions an offer to
+//! a whole row takes N / 64 steps, and one for each transaction that is new there.
 ghost use Rattle.std.specs.Prelude.{◌≡◌, ◌<◌, ◌≤◌, ◌+◌, ◌*◌, ◌^◌, ℕ, true, length, All, IfOk};
 ghost use Rattle.tcc_bits.specs.Bits.{is_marked, words_for};
 ghost use Rattle.tcc_core.specs.private.Levels.{HasRoom, IsLevel, AreLevels, IsClassWay, AreClasses};
 ghost use Rattle.tcc_core.specs.private.Marked.{IsMarkWay};
 ghost use Rattle.tcc_core.specs.private.Offers.{IsOffered};
-ghost use Rattle.tcc_core.specs.declared.ring.TheConstants.{BUCKETS};
+ghost use Rattle.tcc_core.specs.declared.bucket_queue.TheConstants.{BUCKETS};
 ghost use Rattle.tcc_core.specs.declared.levels.TheConstants.{LEVELS};
 ghost use Rattle.tcc_txn.specs.declared.limits.TheConstants.{MAX_COUNT};
 

@@ -3,13 +3,13 @@
 #![tactic(auto)]
 
 mod again;
+mod bucket_queue;
+mod frontier;
 pub mod laws;
-mod leading;
 mod levels;
 mod marked;
-mod offering;
 mod queue;
-mod ring;
+mod relaxing;
 mod search;
 mod seeding;
 mod settled;

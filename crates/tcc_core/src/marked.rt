@@ -1,10 +1,12 @@
-//! Ways at one cost that are offered to all that a row marks, 64 marks in a word. Beside it stands a row of what is met at
-//! that cost, so that nothing is offered such a way twice.
+//! Relaxation of many links of one cost, 64 in a word: ways that are offered to all that a row marks. Beside it stands a row of
+//! what is met at that cost, so that nothing is offered such a way twice: N / 64 steps for N transactions, and one for each that is
+//! new.
 ghost use Rattle.std.specs.Prelude.{◌≡◌, ◌<◌, ◌≤◌, ◌+◌, ◌-◌, ◌*◌, ◌/◌, ◌%◌, ◌^◌, ℕ, true, length};
 ghost use Rattle.std.specs.Int.{bit_at};
 ghost use Rattle.tcc_core.specs.private.Marked.{HasOffered, IsMet, IsMarkWay, IsWordWay, MayOfferMarked};
 ghost use Rattle.tcc_core.specs.private.Offers.{IsOffered};
-ghost use Rattle.tcc_core.specs.declared.ring.TheConstants.{BUCKETS};
+ghost use Rattle.tcc_core.specs.declared.bucket_queue.TheConstants.{BUCKETS};
+ghost use Rattle.tcc_txn.specs.declared.limits.TheConstants.{LARGE_COUNT};
 
 use crate::queue::Queue;
 
@@ -39,7 +41,7 @@ fn offer_word(queue: &mut Queue, word: u64, first: u32, cost: u32)
 /// now on.
 fn offer_fresh(queue: &mut Queue, met: &mut [u64], word: u64, index: usize, cost: u32)
     requires index { index < length met.old }
-    requires few { length met.old ≤ 2 ^ 20 }
+    requires few { length met.old ≤ LARGE_COUNT }
     requires within { (i : ℕ) → i < 64 → bit_at word i ≡ 1 → index * 64 + i < length queue.old.costs }
     requires above { queue.old.floor < cost }
     requires window { cost < queue.old.floor + BUCKETS }

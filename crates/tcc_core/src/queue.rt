@@ -1,12 +1,13 @@
-//! The priority queue of a search, over Dial's bucket queue: transactions that are open at a cost, and the nearest of them. The costs of those that are open lie in a window as wide
-//! as there are buckets, so each bucket has transactions of one cost.
+//! The priority queue of a search, over Dial's bucket queue: transactions that are open at a cost, and the nearest of them. The
+//! costs of those that are open lie in a window as wide as there are buckets, so each bucket has transactions of one cost. An offer
+//! takes one step; to find the nearest takes one for each cost that is passed over, at most the width of the window.
 ghost use Rattle.std.specs.Prelude.{◌≡◌, ◌≢◌, ◌<◌, ◌≤◌, ◌+◌, ◌⊎◌, ℕ, length, slice_index, slice_set, All, Contains, IfSome, IfNone, IfOk};
 ghost use Rattle.tcc_core.specs.private.Queues.{IsBeginning, IsNearest, IsNext, IsPast, IsFar, IsFiled, offered};
 ghost use Rattle.tcc_core.specs.private.Queues as queues;
-ghost use Rattle.tcc_core.specs.declared.ring.TheConstants.{BUCKETS};
+ghost use Rattle.tcc_core.specs.declared.bucket_queue.TheConstants.{BUCKETS};
 ghost use Rattle.tcc_txn.specs.declared.limits.TheConstants.{MAX_COUNT};
 
-use crate::ring::{BUCKETS, Ring};
+use crate::bucket_queue::{BUCKETS, BucketQueue};
 use std::alloc::{AllocError, Global};
 use std::marker::Model;
 
@@ -21,7 +22,7 @@ pub(crate) struct Queue {
     /// Nothing that is open costs more.
     most: u32,
     costs: Vec<u32>,
-    ring: Ring,
+    buckets: BucketQueue,
     /// The transactions that were reached, as many as are held.
     listed: Vec<u32>,
     held: u32,
@@ -35,21 +36,21 @@ impl Model for Queue {
 
     ghost view = { λ q. record { costs = q.costs.items; floor = q.floor } };
 
-    ghost invariant = { λ q. IsFiled q.floor q.most q.costs.items q.ring × IsListed q.held q.listed.items q.costs.items };
+    ghost invariant = { λ q. IsFiled q.floor q.most q.costs.items q.buckets × IsListed q.held q.listed.items q.costs.items };
 }
 
 /// Takes each of these, which are all that were reached, out of its bucket, and the ways to them away.
-fn shut(listed: &[u32], costs: &mut [u32], ring: &mut Ring)
-    requires long { length costs.old ≡ length ring.old }
+fn shut(listed: &[u32], costs: &mut [u32], buckets: &mut BucketQueue)
+    requires long { length costs.old ≡ length buckets.old }
     requires below { All (λ v. v < length costs.old) listed.now }
-    requires each { (v : ℕ) → v < length costs.old → Contains listed.now v ⊎ IsFar costs.old ring.old v }
+    requires each { (v : ℕ) → v < length costs.old → Contains listed.now v ⊎ IsFar costs.old buckets.old v }
     ensures long { length costs.new ≡ length costs.old }
-    ensures same { length ring.new ≡ length ring.old }
-    ensures shut { (v : ℕ) → v < length costs.old → IsFar costs.new ring.new v }
+    ensures same { length buckets.new ≡ length buckets.old }
+    ensures shut { (v : ℕ) → v < length costs.old → IsFar costs.new buckets.new v }
 {
     for &v in listed {
-        if ring.stands(v) {
-            ring.take(v);
+        if buckets.stands(v) {
+            buckets.take(v);
         }
         costs[v as usize] = NO_WAY;
     }
@@ -62,13 +63,13 @@ impl Queue {
         ensures { IfOk result (IsBeginning count) }
     {
         let costs = vec![in alloc; NO_WAY; count as usize]?;
-        let ring = Ring::begin(alloc, count)?;
+        let buckets = BucketQueue::begin(alloc, count)?;
         let listed = vec![in alloc; 0; count as usize]?;
         Ok(Queue {
             floor: 0,
             most: 0,
             costs,
-            ring,
+            buckets,
             listed,
             held: 0,
         })
@@ -87,9 +88,9 @@ impl Queue {
             self.listed[self.held as usize] = v;
             self.held += 1;
         } else {
-            self.ring.take(v);
+            self.buckets.take(v);
         }
-        self.ring.put(v, cost % BUCKETS);
+        self.buckets.put(v, cost % BUCKETS);
         self.costs[v as usize] = cost;
         self.most = self.most.max(cost);
     }
@@ -116,7 +117,7 @@ impl Queue {
             self.most
         };
         for cost in self.floor..last + 1 {
-            if let Some(v) = self.ring.first(cost % BUCKETS) {
+            if let Some(v) = self.buckets.first(cost % BUCKETS) {
                 return Some(v);
             }
         }
@@ -131,7 +132,7 @@ impl Queue {
         ensures rises { self.old.floor ≤ self.new.floor }
     {
         self.floor = self.costs[v as usize];
-        self.ring.take(v);
+        self.buckets.take(v);
         self.costs[v as usize] = 0;
     }
 
@@ -142,7 +143,7 @@ impl Queue {
         shut(
             &self.listed[..self.held as usize],
             &mut self.costs,
-            &mut self.ring,
+            &mut self.buckets,
         );
         self.held = 0;
         self.most = 0;

@@ -1,6 +1,7 @@
 //! Dijkstra's algorithm from one start, over links as edges and their costs as weights. The frontier is Dial's bucket queue
-//! (`ring`). What joined the row has its distance, and nothing outside it is nearer. A session pair leads on to a whole suffix of a
-//! session, of which each transaction is offered once, so a search takes some N + L steps for N transactions and L other links.
+//! (`bucket_queue`). What joined the row has its distance, and nothing outside it is nearer. A session pair leads on to a whole
+//! suffix of a session, of which each transaction is offered once, so a search takes some N + L steps for N transactions and L
+//! other links.
 ghost use Rattle.std.specs.Prelude.{◌≡◌, ◌<◌, ◌≤◌, ℕ, length, drop, IfOk};
 ghost use Rattle.tcc_graph.specs.Levels.{Judged};
 ghost use Rattle.tcc_derive.specs.Prices.{IsPricesOf};
@@ -8,7 +9,7 @@ ghost use Rattle.tcc_txn.specs.declared.limits.TheConstants.{MAX_COUNT};
 
 use crate::Settled;
 use crate::again::{empty, lead_on_again};
-use crate::leading::Frontier;
+use crate::frontier::Frontier;
 use std::alloc::Global;
 use std::marker::Model;
 use tcc_derive::Prices;

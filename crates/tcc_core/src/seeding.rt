@@ -1,13 +1,15 @@
-//! The seed of searches: what the least of the cycles costs that a walk makes, or a walk and one derived link back.
+//! The seed of searches, an upper bound for branch and bound: what the least of the cycles costs that a walk makes, or a walk and
+//! one derived link back. The least over all pairs of transactions, N * N steps for N transactions, in blocks of rows so that a row
+//! of prices is read once for a block (loop tiling); what was gone through costs no less than the least so far.
 ghost use Rattle.std.specs.Prelude.{◌≡◌, ◌<◌, ◌≤◌, ℕ, length, IfSome, MatchOption};
 ghost use Rattle.tcc_graph.specs.Levels.{Judged};
-ghost use Rattle.tcc_near.specs.Distances.{IsNearOf};
+ghost use Rattle.tcc_near.specs.WalkLengths.{IsNearOf};
 ghost use Rattle.tcc_derive.specs.Prices.{IsPricesOf};
 ghost use Rattle.tcc_core.specs.Shares.{IsCycleCost};
 ghost use Rattle.tcc_core.specs.Seeds.{IsSeed, HasNoSeed};
 ghost use Rattle.tcc_core.specs.private.Closing.{closing, closing_at, IsLeastOf};
 ghost use Rattle.tcc_txn.specs.declared.limits.TheConstants.{MAX_COUNT};
-ghost use Rattle.tcc_near.specs.declared.distances.TheConstants.{NONE};
+ghost use Rattle.tcc_near.specs.declared.walk_lengths.TheConstants.{NONE};
 ghost use Rattle.tcc_core.specs.declared.queue.TheConstants.{NO_WAY};
 
 use crate::queue::NO_WAY;

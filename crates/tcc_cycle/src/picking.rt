@@ -4,7 +4,7 @@ ghost use Rattle.tcc_reads.specs.History.{count};
 ghost use Rattle.tcc_graph.specs.Links.{cost};
 ghost use Rattle.tcc_graph.specs.Ties.{IsFirstCycle};
 ghost use Rattle.tcc_graph.specs.declared.link.Link.{Link};
-ghost use Rattle.tcc_near.specs.Distances.{IsNearOf};
+ghost use Rattle.tcc_near.specs.WalkLengths.{IsNearOf};
 ghost use Rattle.tcc_derive.specs.Prices.{IsPricesOf, IsLinkOf};
 ghost use Rattle.tcc_cycle.specs.Returns.{IsFirstReturn};
 ghost use Rattle.tcc_cycle.specs.private.Ways.{spent, IsBefore, IsFirstLink};

@@ -12,12 +12,12 @@ use Rattle.tcc_graph.specs.Ties.{step_cmp}
 use Rattle.tcc_graph.specs.declared.level.Level.{Level}
 use Rattle.tcc_graph.specs.declared.level.Level.TheVariants as level
 use Rattle.tcc_graph.specs.declared.step.Step.{Step}
-use Rattle.tcc_near.specs.Distances.{NearTable, IsShortest, IsNearOf}
+use Rattle.tcc_near.specs.WalkLengths.{NearTable, IsShortest, IsNearOf}
 use Rattle.tcc_derive.specs.Backwards.{IsFirstWalk}
 use Rattle.tcc_derive.specs.private.LeadingBack.{IsUpTo, IsLastStep, stands_at, LeadsBack, Ahead, IsLeft, IsTakenBack}
 use Rattle.tcc_derive.proofs.PriceLemmas.{IsOut, IsNearby, distance_cases, no_distance}
 use Rattle.tcc_graph.proofs.Pairs.{step_below}
-use Rattle.tcc_near.specs.declared.distances.TheConstants.{NONE}
+use Rattle.tcc_near.specs.declared.walk_lengths.TheConstants.{NONE}
 use Rattle.tcc_graph.specs.Tables.{row_of}
 use Rattle.tcc_graph.proofs.Tied.{step_itself}
 use Rattle.tcc_graph.proofs.Walking.{leads_append}

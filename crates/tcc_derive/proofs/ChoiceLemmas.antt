@@ -24,7 +24,7 @@ use Rattle.tcc_derive.specs.private.Choices.{IsNearest, IsNearestReader, IsChoic
 use Rattle.tcc_derive.proofs.BucketLemmas.{Contains-taken, Contains-still, Contains-last}
 use Rattle.tcc_graph.proofs.WriterLemmas.{numbers_below, number_in, writer_writes, writer_listed}
 use Rattle.tcc_derive.proofs.KeyLemmas.{read_key}
-use Rattle.tcc_near.specs.declared.distances.TheConstants.{NONE}
+use Rattle.tcc_near.specs.declared.walk_lengths.TheConstants.{NONE}
 use Rattle.tcc_graph.proofs.NameLemmas.{has_name-contains}
 use Rattle.tcc_txn.proofs.Lists.{in_filter, found_number, number_found}
 

@@ -12,8 +12,8 @@ use Rattle.tcc_graph.specs.Relations.{IsSessionPair, IsReadsPair, causal_pair}
 use Rattle.tcc_graph.specs.Links.{IsReason}
 use Rattle.tcc_graph.specs.declared.link.Link.{Link}
 use Rattle.tcc_graph.specs.declared.link.Link.TheVariants as link
-use Rattle.tcc_near.specs.Distances.{least_in, NearTable, IsNearOf, IsWalkLength}
-use Rattle.tcc_near.specs.declared.distances.TheConstants.{NONE}
+use Rattle.tcc_near.specs.WalkLengths.{least_in, NearTable, IsNearOf, IsWalkLength}
+use Rattle.tcc_near.specs.declared.walk_lengths.TheConstants.{NONE}
 use Rattle.tcc_near.proofs.Walks.{within_one, within_one_from}
 use Rattle.tcc_near.proofs.BreadthLemmas.{read}
 use Rattle.tcc_derive.specs.Prices.{IsDerived, IsLinkOf, IsPrice, IsCost}

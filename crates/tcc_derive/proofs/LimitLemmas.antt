@@ -9,10 +9,10 @@ use Rattle.std.proofs.lemmas.List.{take_all}
 use Rattle.std.proofs.lemmas.Option.{none-some, same_Some}
 use Rattle.std.proofs.lemmas.List.Elements.{All-contains, All-push}
 use Rattle.tcc_graph.specs.Tables.{row_of}
-use Rattle.tcc_near.specs.Distances.{least_in}
-use Rattle.tcc_near.specs.declared.distances.TheConstants.{NONE}
+use Rattle.tcc_near.specs.WalkLengths.{least_in}
+use Rattle.tcc_near.specs.declared.walk_lengths.TheConstants.{NONE}
 use Rattle.tcc_derive.specs.Limits.{IsClosing, IsLimit}
-use Rattle.tcc_derive.specs.declared.limits.TheConstants.{NO_CYCLE_LIMIT}
+use Rattle.tcc_derive.specs.declared.cost_limit.TheConstants.{NO_CYCLE_LIMIT}
 use Rattle.tcc_derive.specs.private.Closings.{HasMany, HasPriced, IsBackOrNone, IsClosingOrNone, NoOtherCheaper, NoneCheaper, back_cost}
 
 -- a fact of one more item of a list, and of all

@@ -21,8 +21,8 @@ use Rattle.tcc_graph.specs.declared.link.Link.TheVariants as link
 use Rattle.tcc_graph.specs.Tables.{row_of}
 use Rattle.tcc_graph.proofs.Linking.{some_cost}
 use Rattle.tcc_graph.proofs.Pairs.{first_item, some_items}
-use Rattle.tcc_near.specs.Distances.{least_in}
-use Rattle.tcc_near.specs.declared.distances.TheConstants.{NONE}
+use Rattle.tcc_near.specs.WalkLengths.{least_in}
+use Rattle.tcc_near.specs.declared.walk_lengths.TheConstants.{NONE}
 use Rattle.tcc_near.proofs.BreadthLemmas.{Read, read}
 use Rattle.tcc_derive.specs.Prices.{Tables, IsPrice, IsCost, IsLinkOf, IsOther, HasOthers, IsLater, IsEnd, price_at, cost_at, cost_among, end_of, others_at}
 use Rattle.tcc_derive.specs.private.Others.{is_other, others_below}

@@ -12,7 +12,7 @@ use Rattle.tcc_graph.specs.Links.{MayContradict, IsReason, link_cost}
 use Rattle.tcc_graph.specs.declared.step.Step.{Step}
 use Rattle.tcc_graph.specs.declared.link.Link.{Link}
 use Rattle.tcc_graph.specs.declared.link.Link.TheVariants as link
-use Rattle.tcc_near.specs.Distances.{NearTable, IsShortest, IsWalkLength, IsNearOf, least_in}
+use Rattle.tcc_near.specs.WalkLengths.{NearTable, IsShortest, IsWalkLength, IsNearOf, least_in}
 use Rattle.tcc_derive.specs.Prices.{IsDerived, IsPrice}
 use Rattle.tcc_derive.specs.private.Buckets.{bucket}
 use Rattle.tcc_derive.specs.private.KeyTables.{IsReadsOf, IsWritesOf}
@@ -20,7 +20,7 @@ use Rattle.tcc_derive.specs.private.Lowering.{price_by, ArePricedBy}
 use Rattle.tcc_derive.specs.private.Rows.{IsPriceRow}
 use Rattle.tcc_derive.specs.declared.read.Read.{Read}
 use Rattle.tcc_derive.proofs.KeyLemmas.{read_key}
-use Rattle.tcc_near.specs.declared.distances.TheConstants.{NONE}
+use Rattle.tcc_near.specs.declared.walk_lengths.TheConstants.{NONE}
 use Rattle.tcc_txn.specs.declared.limits.TheConstants.{MAX_COUNT}
 use Rattle.tcc_graph.specs.Tables.{row_of}
 use Rattle.tcc_txn.proofs.Lists.{in_flat_map, from_flat_map}

@@ -8,10 +8,10 @@ use Rattle.tcc_txn.specs.declared.limits.TheConstants.{MAX_COUNT}
 use Rattle.tcc_reads.specs.History.{count}
 use Rattle.tcc_graph.specs.Levels.{Judged}
 use Rattle.tcc_graph.specs.Tables.{row_of}
-use Rattle.tcc_near.specs.Distances.{IsSquare, NearTable, IsNearOf}
+use Rattle.tcc_near.specs.WalkLengths.{IsSquare, NearTable, IsNearOf}
 use Rattle.tcc_derive.specs.Prices.{Tables, IsCost, IsPricesOf, HasOthers, cost_at}
 use Rattle.tcc_derive.specs.private.Others.{HasOtherRows, HasEnds, IsShaped, others_below, tables_of}
-use Rattle.tcc_near.specs.declared.distances.TheConstants.{NONE}
+use Rattle.tcc_near.specs.declared.walk_lengths.TheConstants.{NONE}
 use Rattle.tcc_derive.specs.private.Closings.{HasPriced}
 use Rattle.tcc_derive.specs.private.Classes.{HasClassRows, HaveByClass}
 use Rattle.tcc_derive.specs.declared.by_class.ByClass.{ByClass}

@@ -13,13 +13,13 @@ use Rattle.tcc_reads.specs.Sources.{name_cmp}
 use Rattle.tcc_graph.specs.declared.step.Step.{Step}
 use Rattle.tcc_graph.specs.declared.link.Link.{Link}
 use Rattle.tcc_graph.specs.declared.link.Link.TheVariants as link
-use Rattle.tcc_near.specs.Distances.{NearTable, IsNearOf}
+use Rattle.tcc_near.specs.WalkLengths.{NearTable, IsNearOf}
 use Rattle.tcc_derive.specs.Prices.{IsDerived}
 use Rattle.tcc_derive.specs.Reasons.{IsFirstReason}
 use Rattle.tcc_derive.specs.private.Choices.{IsChoice}
 use Rattle.tcc_derive.specs.Backwards.{IsFirstWalk}
 use Rattle.tcc_derive.proofs.PriceLemmas.{IsOut, IsNearby, distance_cases, out_of_reach}
-use Rattle.tcc_near.specs.declared.distances.TheConstants.{NONE}
+use Rattle.tcc_near.specs.declared.walk_lengths.TheConstants.{NONE}
 use Rattle.tcc_graph.specs.Tables.{row_of}
 use Rattle.tcc_graph.proofs.Linking.{derived_cost}
 use Rattle.tcc_graph.proofs.Tied.{number_tied}

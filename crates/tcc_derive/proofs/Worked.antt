@@ -6,7 +6,7 @@ use Rattle.tcc_derive.specs.Prices.{Tables, IsLater, price_at, cost_at, others_a
 use Rattle.tcc_derive.specs.private.CostBuckets.{costs_below}
 use Rattle.tcc_derive.specs.private.Lowering.{price_by}
 use Rattle.tcc_derive.specs.private.LeadingBack.{stands_at, Ahead}
-use Rattle.tcc_near.specs.declared.distances.TheConstants.{NONE}
+use Rattle.tcc_near.specs.declared.walk_lengths.TheConstants.{NONE}
 
 -- a step more than the way to the reader; no way stays no way
 one_more : price_by (2 ∷ NONE ∷ []) (record { source = 1; reader = 0 }) ≡ 3

@@ -1,10 +1,10 @@
 -- Up to which cost links are kept by what they cost, and whether all are.
 use Rattle.std.specs.Prelude.{ℕ, ◌+◌, ◌<◌, ◌≤◌, ◌≡◌, ◌⊎◌, List, length, All, Some}
-use Rattle.tcc_near.specs.Distances.{least}
-use Rattle.tcc_near.specs.declared.distances.TheConstants.{NONE}
-use Rattle.tcc_derive.specs.declared.limits.TheConstants.{NO_CYCLE_LIMIT}
+use Rattle.tcc_near.specs.WalkLengths.{least}
+use Rattle.tcc_near.specs.declared.walk_lengths.TheConstants.{NONE}
+use Rattle.tcc_derive.specs.declared.cost_limit.TheConstants.{NO_CYCLE_LIMIT}
 
--- by these distances and prices a walk makes a cycle that costs n, or a walk and one derived link back do
+-- by these lengths and prices a walk makes a cycle that costs n, or a walk and one derived link back do
 abbrev pub IsClosing : List (List ℕ) → List (List ℕ) → ℕ → Type 0
 IsClosing near prices n =
     ((a : ℕ) × (a < length near) × (least near a a ≡ Some n))

@@ -10,7 +10,7 @@ use Rattle.tcc_graph.specs.declared.level.Level.{Level}
 use Rattle.tcc_graph.specs.declared.step.Step.{Step}
 use Rattle.tcc_graph.specs.declared.link.Link.{Link}
 use Rattle.tcc_graph.specs.declared.link.Link.TheVariants as link
-use Rattle.tcc_near.specs.Distances.{IsSquare, least}
+use Rattle.tcc_near.specs.WalkLengths.{IsSquare, least}
 
 -- a derived link, with its reason, leads from b to a
 abbrev pub IsDerived : Judged → ℕ → ℕ → Link → Type 0

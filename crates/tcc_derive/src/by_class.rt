@@ -1,5 +1,6 @@
-//! The links other than session links by what they cost, of those within the limit: those of a small cost that many have as
-//! a row of marks, the others one by one.
+//! The links other than session links by what they cost, of those within the limit, from a bucket sort by cost (`by_cost`): those
+//! of a small cost that many have become a row of marks, the others stand one by one. Each link stands in just one of the two. For
+//! N transactions, M links and limit C that takes N C + M steps, and N / 64 words for each row of marks.
 ghost use Rattle.std.specs.Prelude.{◌≡◌, ◌<◌, ◌≤◌, ◌+◌, length, All, IfOk, slice_index};
 ghost use Rattle.tcc_txn.specs.declared.limits.TheConstants.{MAX_COUNT};
 ghost use Rattle.tcc_graph.specs.Tables.{row_of};

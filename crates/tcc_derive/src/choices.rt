@@ -1,11 +1,13 @@
-//! The choice of a key and a reader for a reason.
+//! The choice of a key and a reader for a reason, by linear search: behind each key and reader the best is the first of the nearest
+//! so far, since another takes its place only where it is nearer. For K keys it takes K look-ups, and a step for each of their
+//! writers and for each read from the one transaction.
 ghost use Rattle.std.specs.Prelude.{◌≡◌, ◌<◌, ℕ, List, length, All, Contains, MatchOption, slice_index};
 ghost use Rattle.std.specs.List.Sorted.{IsStrictlySortedBy};
 ghost use Rattle.std.specs.Ordering.{nat_cmp};
 ghost use Rattle.tcc_reads.specs.History.{count};
 ghost use Rattle.tcc_graph.specs.Links.{MayContradict};
 ghost use Rattle.tcc_derive.specs.private.Choices.{IsNearest, IsNearestReader, IsChoice};
-ghost use Rattle.tcc_near.specs.declared.distances.TheConstants.{NONE};
+ghost use Rattle.tcc_near.specs.declared.walk_lengths.TheConstants.{NONE};
 
 use tcc_graph::LargeGraph;
 use tcc_near::NONE;

@@ -1,4 +1,4 @@
-//! Rows of costs.
+//! Edge weights of one row: what links of all kinds from a transaction cost, a step for each transaction.
 ghost use Rattle.std.specs.Prelude.{◌≡◌, length, IfOk};
 ghost use Rattle.tcc_derive.specs.private.Lowering.{HasPairs};
 

@@ -1,4 +1,5 @@
-//! The transactions that session pairs and other links lead to.
+//! Sparse rows: of each transaction the others to which a reads-from pair or a derived link leads, ascending, each with the least
+//! cost of a link there; session pairs are told by where they end. N * N steps for N transactions, row by row in threads.
 ghost use Rattle.std.specs.Prelude.{◌≡◌, ◌<◌, ◌≤◌, length, IfOk};
 ghost use Rattle.tcc_txn.specs.declared.limits.TheConstants.{MAX_COUNT};
 ghost use Rattle.tcc_reads.specs.History.{count};
@@ -6,7 +7,7 @@ ghost use Rattle.tcc_derive.specs.private.Others.{IsOtherRow, HasOtherRows, HasE
 ghost use Rattle.tcc_derive.specs.Prices.{IsEnd};
 ghost use Rattle.tcc_derive.specs.private.Rows.{HasRows};
 ghost use Rattle.tcc_graph.specs.Tables.{row_of};
-ghost use Rattle.tcc_near.specs.Distances.{IsSquare};
+ghost use Rattle.tcc_near.specs.WalkLengths.{IsSquare};
 
 use crate::costing::cost_row;
 use rayon::prelude::*;

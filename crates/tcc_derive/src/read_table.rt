@@ -1,4 +1,4 @@
-//! The reads of each key.
+//! The reads of each key, source and reader side by side, in a step for each read.
 ghost use Rattle.std.specs.Prelude.{◌<◌, ◌≤◌, length, IfOk};
 ghost use Rattle.tcc_txn.specs.declared.limits.TheConstants.{MAX_COUNT};
 ghost use Rattle.tcc_reads.specs.History.{count};

@@ -1,4 +1,5 @@
-//! From whom each transaction reads a key, as rows of marks. They are kept of keys of which transactions read many values.
+//! Bit matrices of keys: from whom each transaction reads a key, as rows of marks. They are kept of keys of which transactions read
+//! many values: of a key with more reads than half the words of its matrix, in N + R steps for N transactions and R reads.
 ghost use Rattle.std.specs.Prelude.{◌≡◌, ◌<◌, ◌≤◌, ◌⊎◌, ◌↔◌, ℕ, true, length, All, Contains, IfOk};
 ghost use Rattle.tcc_bits.specs.Bits.{is_marked, words_for};
 ghost use Rattle.tcc_derive.specs.private.Sources.{AreByReader, AreSources, HaveSources};

@@ -9,10 +9,10 @@ use Rattle.tcc_txn.specs.declared.limits.TheConstants.{MAX_COUNT}
 use Rattle.tcc_reads.specs.History.{History, count}
 use Rattle.tcc_graph.specs.Levels.{Judged, judged}
 use Rattle.tcc_graph.specs.declared.level.Level.{Level}
-use Rattle.tcc_near.specs.Distances.{IsNearOf, NearTable, IsWalkLength, IsShortest}
+use Rattle.tcc_near.specs.WalkLengths.{IsNearOf, NearTable, IsWalkLength, IsShortest}
 use Rattle.tcc_core.specs.Shares.{IsCappedDistance}
-use Rattle.tcc_packed.specs.Packed.{value_in, at_most}
-use Rattle.tcc_packed.specs.declared.row.TheConstants.{NO_VALUE}
+use Rattle.tcc_bits.specs.Packed.{value_in, at_most}
+use Rattle.tcc_bits.specs.declared.packed.TheConstants.{NO_VALUE}
 use Rattle.tcc_cert.specs.Tables.{row_of, entry, far_entry}
 use Rattle.tcc_cert.specs.declared.version.Version.TheVariants.{Two}
 use Rattle.tcc_explain.specs.Certificates.{IsCappedShortest, IsNearTable, IsFarTable}

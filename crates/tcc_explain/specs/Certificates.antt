@@ -7,7 +7,7 @@ use Rattle.tcc_graph.specs.declared.level.Level.{Level}
 use Rattle.tcc_graph.specs.declared.level.Level.TheVariants.{Causal, Atomic}
 use Rattle.tcc_graph.specs.declared.step.Step.{Step}
 use Rattle.tcc_graph.specs.Clocks.{IsClocksOf}
-use Rattle.tcc_near.specs.Distances.{IsShortest}
+use Rattle.tcc_near.specs.WalkLengths.{IsShortest}
 use Rattle.tcc_core.specs.Shares.{IsCappedDistance}
 use Rattle.tcc_cert.specs.Tables.{entry, far_entry, HasSize, HasFarSize}
 use Rattle.tcc_cert.specs.declared.version.Version.TheVariants.{Two}

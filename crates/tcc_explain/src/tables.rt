@@ -1,20 +1,19 @@
 //! The tables of certificates, from the distances, the searches' rows and the clocks.
 ghost use Rattle.std.specs.Prelude.{◌≡◌, IfOk, map};
 ghost use Rattle.tcc_graph.specs.Orders.{IsCommitOrder};
-ghost use Rattle.tcc_near.specs.Distances.{IsNearOf};
-ghost use Rattle.tcc_packed.specs.Packed.{value_in};
+ghost use Rattle.tcc_near.specs.WalkLengths.{IsNearOf};
+ghost use Rattle.tcc_bits.specs.Packed.{value_in};
 ghost use Rattle.tcc_explain.specs.Certificates.{IsNearTable, IsFarTable, IsClocksAt};
 ghost use Rattle.tcc_explain.specs.private.Capping.{AreFarRows};
 ghost use Rattle.tcc_graph.specs.Levels.{judged};
 
 use std::alloc::Global;
 use tcc_answer::CappedRows;
-use tcc_bits::Row;
+use tcc_bits::{PackedRow, Row};
 use tcc_cert::{Numbers, Table};
 use tcc_graph::{Graph, Level};
 use tcc_near::Near;
 use tcc_order::clocks;
-use tcc_packed::PackedRow;
 use tcc_txn::NoMemory;
 
 /// Rows of steps as they lie.

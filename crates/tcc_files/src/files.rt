@@ -1,21 +1,14 @@
 //! The files that the command line names.
-ghost use Rattle.std.specs.Prelude.{◌≡◌, ◌↔◌, ⊤, IfOk, IfSome, IsTrue, MatchOption, MatchResult, false};
-ghost use Rattle.std.specs.IoError.{error_kind};
+ghost use Rattle.std.specs.Prelude.{◌≡◌, ◌↔◌, ⊤, IfOk, IsTrue, MatchOption, false};
 ghost use Rattle.tcc_files.specs.FileIds.{AreSame};
 ghost use Rattle.tcc_files.specs.Files.{AreBothGiven, IsInputOf, PrintsUnopened};
-ghost use Rattle.tcc_large_check.specs.LargeChecks.{large_check};
-ghost use Rattle.tcc_verdict.specs.Checking.{IsRun, PrintsOutcome};
-ghost use Rattle.tcc_verdict.specs.Checks.{IsCheckRun, PrintsSome};
 
 use crate::input::Input;
 use crate::opening::{self, Apart};
 use crate::telling::Telling;
-use std::alloc::Global;
 use std::fs::File;
-use std::io::{self, ErrorKind, Read, Write};
-use tcc_large_check::run_check_large;
+use std::io::{self, ErrorKind, Write};
 use tcc_print::printing::{print_device, print_memory};
-use tcc_verdict::run_check;
 
 /// The file, if it could be opened or made; else standard error is told which one could not, and why.
 fn told<T: Drop>(rt: &HostRuntime, path: &str, opened: io::Result<T>) -> io::Result<T>
@@ -28,7 +21,7 @@ fn told<T: Drop>(rt: &HostRuntime, path: &str, opened: io::Result<T>) -> io::Res
 }
 
 /// Opens a file to read, which tells why where that fails, or a read does.
-fn open<'a>(rt: &HostRuntime, path: &'a str) -> io::Result<Telling<'a, File>>
+pub(crate) fn open<'a>(rt: &HostRuntime, path: &'a str) -> io::Result<Telling<'a, File>>
     ensures { IfOk result (λ telling. telling.name ≡ path.entry) }
 {
     let file = told(rt, path, opening::open(rt, path))?;
@@ -105,56 +98,5 @@ pub fn print_unopened<W: Write>(kind: ErrorKind, json: bool, out: &mut W) -> u8
     match kind {
         ErrorKind::OutOfMemory => print_memory(out, json),
         _ => print_device(out, json),
-    }
-}
-
-/// Opens both files, the history before the certificate: the first is that of the history.
-pub fn open_both<'a>(
-    rt: &HostRuntime,
-    history: &'a str,
-    certificate: &'a str,
-) -> io::Result<(Telling<'a, File>, Telling<'a, File>)>
-    ensures history { IfOk result (λ both. both.0.name ≡ history.entry) }
-    ensures certificate { IfOk result (λ both. both.1.name ≡ certificate.entry) }
-{
-    let history = open(rt, history)?;
-    let certificate = open(rt, certificate)?;
-    Ok((history, certificate))
-}
-
-/// Checks the certificate that the second of two readers gives for the history of the first, or writes that one of them couldn't be
-/// opened, and gives the status of the run. What to mend goes to the notes.
-pub fn check_opened<H: Read + Drop, C: Read + Drop, W: Write, N: Write>(
-    alloc: Global,
-    opened: io::Result<(H, C)>,
-    out: &mut W,
-    notes: &mut N,
-) -> u8
-    ensures run { IfOk opened (λ both. IfSome (H.remaining both.0) (λ records. IfSome (C.remaining both.1)
-        (λ text. IsCheckRun records text (W.contents out.old) (W.contents out.new) result))) }
-    ensures printed { MatchResult opened (λ _. PrintsSome (W.contents out.old) (W.contents out.new) result)
-        (λ error. PrintsUnopened false (error_kind error) (W.contents out.old) (W.contents out.new) result) }
-{
-    match opened {
-        Ok((history, certificate)) => run_check(alloc, history, certificate, out, notes),
-        Err(error) => print_unopened(error.kind(), false, out),
-    }
-}
-
-/// Checks a certificate of any version, within the large limits, as `check_opened` does within the small ones.
-pub fn check_large_opened<H: Read + Drop, C: Read + Drop, W: Write, N: Write>(
-    alloc: Global,
-    opened: io::Result<(H, C)>,
-    out: &mut W,
-    notes: &mut N,
-) -> u8
-    ensures run { IfOk opened (λ both. IfSome (H.remaining both.0) (λ records. IfSome (C.remaining both.1)
-        (λ text. IsRun large_check records text (W.contents out.old) (W.contents out.new) result))) }
-    ensures printed { MatchResult opened (λ _. PrintsOutcome large_check (W.contents out.old) (W.contents out.new) result)
-        (λ error. PrintsUnopened false (error_kind error) (W.contents out.old) (W.contents out.new) result) }
-{
-    match opened {
-        Ok((history, certificate)) => run_check_large(alloc, history, certificate, out, notes),
-        Err(unopened) => print_unopened(unopened.kind(), false, out),
     }
 }

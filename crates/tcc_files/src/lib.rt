@@ -1,6 +1,8 @@
 //! The files that a command line names, and the standard streams: which are opened and made, and what is told where one fails.
 #![tactic(auto)]
 
+mod checking;
+mod ending;
 mod files;
 mod input;
 mod opening;
@@ -8,10 +10,9 @@ mod quiet;
 mod telling;
 mod terminal;
 
-pub use files::{
-    check_large_opened, check_opened, open_both, open_input, open_output, open_outputs,
-    print_unopened,
-};
+pub use checking::{check_files, check_large_opened, check_opened, open_both};
+pub use ending::exit_code;
+pub use files::{open_input, open_output, open_outputs, print_unopened};
 pub use input::Input;
 pub use opening::Apart;
 pub use quiet::Quiet;

@@ -16,7 +16,7 @@ use Rattle.tcc_print.specs.Json.{row_fault_json, row_session_json}
 use Rattle.tcc_print.specs.declared.status.Status.{Status}
 use Rattle.tcc_full.specs.Links.{link_json, reads_json, row_json, step_json}
 use Rattle.tcc_full.specs.Objects.{anomaly_json, consistent_json, fault_json, field_name, name_json, none_json, unresolved_json}
-use Rattle.tcc_full.specs.Recorded.{Records, read_row, write_row}
+use Rattle.tcc_full.specs.Records.{Records, read_row, write_row}
 use Rattle.tcc_full.specs.Rows.{row_of}
 use Rattle.tcc_full.specs.declared.objects.Asked.{Asked}
 

@@ -1,5 +1,5 @@
 pub mod Rows
-pub mod Recorded
+pub mod Records
 pub mod Links
 pub mod Objects
 pub mod private

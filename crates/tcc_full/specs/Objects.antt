@@ -22,7 +22,7 @@ use Rattle.tcc_print.specs.Texts.{read_word}
 use Rattle.tcc_print.specs.declared.status.Status.{Status}
 use Rattle.tcc_print.specs.declared.status.Status.TheVariants.{Anomaly, ReadFaults}
 use Rattle.tcc_full.specs.Links.{link_json, row_json}
-use Rattle.tcc_full.specs.Recorded.{Records}
+use Rattle.tcc_full.specs.Records.{Records}
 use Rattle.tcc_full.specs.Rows.{row_of}
 use Rattle.tcc_full.specs.declared.objects.Asked.{Asked}
 

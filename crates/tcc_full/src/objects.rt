@@ -1,28 +1,27 @@
 //! The one object that says all about an answer, as a line that is made whole.
-ghost use Rattle.std.specs.Prelude.{◌≡◌, IfOk, false, length, map, option_map, codes};
+ghost use Rattle.std.specs.Prelude.{◌≡◌, IfOk, map, option_map, codes};
 ghost use Rattle.serde_json.specs.Data.{array};
 ghost use Rattle.serde_json.specs.View.{items_of, view};
-ghost use Rattle.serde_json.specs.Written.{has_float};
 ghost use Rattle.tcc_reads.specs.History.{count};
 ghost use Rattle.tcc_graph.specs.Links.{cost};
-ghost use Rattle.tcc_answer.specs.Json.{json_line, label_json};
+ghost use Rattle.tcc_answer.specs.Json.{json_line};
 ghost use Rattle.tcc_print.specs.Json.{row_fault_json};
 ghost use Rattle.tcc_print.specs.Statuses.{row_status};
 ghost use Rattle.tcc_full.specs.Objects.{anomaly_json, committed_count, consistent_json, ended_json, fault_json, field_name, is_large, level_word, limits_json, name_json, none_json, unresolved_json};
-ghost use Rattle.tcc_full.specs.Recorded.{records_of};
+ghost use Rattle.tcc_full.specs.Records.{records_of};
 
 use crate::links::{links_json, row_json};
-use crate::recorded::{Recorded, label_of};
+use crate::lookup::Lookup;
 use serde_json::{Value, json};
 use std::alloc::{AllocError, Global};
-use tcc_answer::pieces::push;
-use tcc_answer::{Labels, shape_of, shape_word};
+use tcc_answer::{labels_json, object_line, shape_of, shape_word};
 use tcc_graph::{LargeGraph, Level, Link};
 use tcc_print::Status;
+use tcc_print::json::row_fault_json;
 use tcc_print::status::row_status;
-use tcc_print::texts::{read_word, row_word};
+use tcc_print::texts::read_word;
 use tcc_reads::{ReadFault, ReadFaultKind};
-use tcc_rows::{RowFault, RowFaultKind};
+use tcc_rows::RowFault;
 use tcc_txn::{Bounds, Limits, MAX_OPERATIONS, MAX_SEALS, NoMemory};
 
 /// What was asked for, and of which version of the program.
@@ -77,44 +76,22 @@ fn committed_count(graph: &LargeGraph) -> u32
     graph.count().saturating_sub(1)
 }
 
-/// The text of an object, and a line feed.
-fn line(alloc: Global, object: &Value) -> Result<Vec<u8>, NoMemory>
-    requires { has_float (view object.now) ≡ false }
-    ensures { IfOk result (λ line. line.items ≡ json_line (view object.now)) }
-{
-    let text = object.to_string(alloc)?;
-    let mut line = Vec::new(alloc);
-    push(&mut line, &[text.as_bytes(), b"\n"])?;
-    Ok(line)
-}
-
-/// The labels of these numbers.
-fn order_json(alloc: Global, labels: &Labels, order: &[u32]) -> Result<Value, AllocError>
-    ensures { IfOk result (λ v. view v ≡ array (items_of (map (label_json labels.now) order.now))) }
-{
-    let mut list = Vec::new(alloc);
-    for number in order {
-        list.push(Value::try_from_str(alloc, label_of(labels, *number))?)?;
-    }
-    Ok(Value::Array(list))
-}
-
 fn consistent_json<B: Bounds>(
     alloc: Global,
     asked: &Asked,
-    recorded: &Recorded<B>,
+    lookup: &Lookup<B>,
     order: &[u32],
     status: Status,
 ) -> Result<Value, AllocError>
-    ensures { IfOk result (λ v. view v ≡ consistent_json asked.now (records_of recorded.now) order.now status) }
+    ensures { IfOk result (λ v. view v ≡ consistent_json asked.now (records_of lookup.now) order.now status) }
 {
     let large = is_large(asked.limits);
     let level = level_word(asked.level);
     let limits = limits_json(alloc, asked.limits)?;
-    let order = order_json(alloc, recorded.labels, order)?;
-    let sessions = recorded.graph.sessions().len();
+    let order = labels_json(alloc, lookup.labels, order)?;
+    let sessions = lookup.graph.sessions().len();
     let status = status.code();
-    let transactions = committed_count(recorded.graph);
+    let transactions = committed_count(lookup.graph);
     let version = asked.version;
     json!(in alloc; {
         "answer": "consistent",
@@ -133,37 +110,37 @@ fn consistent_json<B: Bounds>(
 pub fn consistent_line<B: Bounds>(
     alloc: Global,
     asked: &Asked,
-    recorded: &Recorded<B>,
+    lookup: &Lookup<B>,
     order: &[u32],
     status: Status,
 ) -> Result<Vec<u8>, NoMemory>
-    ensures { IfOk result (λ line. line.items ≡ json_line (consistent_json asked.now (records_of recorded.now) order.now status)) }
+    ensures { IfOk result (λ line. line.items ≡ json_line (consistent_json asked.now (records_of lookup.now) order.now status)) }
 {
-    line(
+    object_line(
         alloc,
-        &consistent_json(alloc, asked, recorded, order, status)?,
+        &consistent_json(alloc, asked, lookup, order, status)?,
     )
 }
 
 fn anomaly_json<B: Bounds>(
     alloc: Global,
     asked: &Asked,
-    recorded: &Recorded<B>,
+    lookup: &Lookup<B>,
     links: &[Link],
     steps: usize,
     least: bool,
 ) -> Result<Value, AllocError>
     requires { steps ≡ cost links.now }
-    ensures { IfOk result (λ v. view v ≡ anomaly_json asked.now (records_of recorded.now) links.now least) }
+    ensures { IfOk result (λ v. view v ≡ anomaly_json asked.now (records_of lookup.now) links.now least) }
 {
-    let cycle = links_json(alloc, recorded, links)?;
+    let cycle = links_json(alloc, lookup, links)?;
     let large = is_large(asked.limits);
     let level = level_word(asked.level);
     let limits = limits_json(alloc, asked.limits)?;
-    let sessions = recorded.graph.sessions().len();
+    let sessions = lookup.graph.sessions().len();
     let shape = shape_word(shape_of(links));
     let status = Status::Anomaly.code();
-    let transactions = committed_count(recorded.graph);
+    let transactions = committed_count(lookup.graph);
     let version = asked.version;
     json!(in alloc; {
         "answer": "anomaly",
@@ -185,17 +162,17 @@ fn anomaly_json<B: Bounds>(
 pub fn anomaly_line<B: Bounds>(
     alloc: Global,
     asked: &Asked,
-    recorded: &Recorded<B>,
+    lookup: &Lookup<B>,
     links: &[Link],
     steps: usize,
     least: bool,
 ) -> Result<Vec<u8>, NoMemory>
     requires { steps ≡ cost links.now }
-    ensures { IfOk result (λ line. line.items ≡ json_line (anomaly_json asked.now (records_of recorded.now) links.now least)) }
+    ensures { IfOk result (λ line. line.items ≡ json_line (anomaly_json asked.now (records_of lookup.now) links.now least)) }
 {
-    line(
+    object_line(
         alloc,
-        &anomaly_json(alloc, asked, recorded, links, steps, least)?,
+        &anomaly_json(alloc, asked, lookup, links, steps, least)?,
     )
 }
 
@@ -222,10 +199,10 @@ fn name_json(alloc: Global, kind: ReadFaultKind) -> Result<Value, AllocError>
 
 fn fault_json<B: Bounds>(
     alloc: Global,
-    recorded: &Recorded<B>,
+    lookup: &Lookup<B>,
     fault: &ReadFault,
 ) -> Result<Value, AllocError>
-    ensures { IfOk result (λ v. view v ≡ fault_json (records_of recorded.now) fault.now) }
+    ensures { IfOk result (λ v. view v ≡ fault_json (records_of lookup.now) fault.now) }
 {
     let key = fault.key.to_string(alloc)?;
     let kind = read_word(fault.kind);
@@ -233,7 +210,7 @@ fn fault_json<B: Bounds>(
     let op = fault.op;
     let place = fault.place;
     let index = (op as usize).saturating_sub(1);
-    let row = row_json(alloc, recorded.rows.row(&fault.session, place, index))?;
+    let row = row_json(alloc, lookup.rows.row(&fault.session, place, index))?;
     let session = fault.session.to_string(alloc)?;
     let value = fault.value;
     json!(in alloc; {
@@ -250,14 +227,14 @@ fn fault_json<B: Bounds>(
 
 fn faults_json<B: Bounds>(
     alloc: Global,
-    recorded: &Recorded<B>,
+    lookup: &Lookup<B>,
     faults: &[ReadFault],
 ) -> Result<Value, AllocError>
-    ensures { IfOk result (λ v. view v ≡ array (items_of (map (fault_json (records_of recorded.now)) faults.now))) }
+    ensures { IfOk result (λ v. view v ≡ array (items_of (map (fault_json (records_of lookup.now)) faults.now))) }
 {
     let mut list = Vec::new(alloc);
     for fault in faults {
-        list.push(fault_json(alloc, recorded, fault)?)?;
+        list.push(fault_json(alloc, lookup, fault)?)?;
     }
     Ok(Value::Array(list))
 }
@@ -265,18 +242,18 @@ fn faults_json<B: Bounds>(
 fn unresolved_json<B: Bounds>(
     alloc: Global,
     asked: &Asked,
-    recorded: &Recorded<B>,
+    lookup: &Lookup<B>,
     faults: &[ReadFault],
 ) -> Result<Value, AllocError>
-    ensures { IfOk result (λ v. view v ≡ unresolved_json asked.now (records_of recorded.now) faults.now) }
+    ensures { IfOk result (λ v. view v ≡ unresolved_json asked.now (records_of lookup.now) faults.now) }
 {
-    let faults = faults_json(alloc, recorded, faults)?;
+    let faults = faults_json(alloc, lookup, faults)?;
     let large = is_large(asked.limits);
     let level = level_word(asked.level);
     let limits = limits_json(alloc, asked.limits)?;
-    let sessions = recorded.graph.sessions().len();
+    let sessions = lookup.graph.sessions().len();
     let status = Status::ReadFaults.code();
-    let transactions = committed_count(recorded.graph);
+    let transactions = committed_count(lookup.graph);
     let version = asked.version;
     json!(in alloc; {
         "answer": "unresolved",
@@ -295,12 +272,12 @@ fn unresolved_json<B: Bounds>(
 pub fn unresolved_line<B: Bounds>(
     alloc: Global,
     asked: &Asked,
-    recorded: &Recorded<B>,
+    lookup: &Lookup<B>,
     faults: &[ReadFault],
 ) -> Result<Vec<u8>, NoMemory>
-    ensures { IfOk result (λ line. line.items ≡ json_line (unresolved_json asked.now (records_of recorded.now) faults.now)) }
+    ensures { IfOk result (λ line. line.items ≡ json_line (unresolved_json asked.now (records_of lookup.now) faults.now)) }
 {
-    line(alloc, &unresolved_json(alloc, asked, recorded, faults)?)
+    object_line(alloc, &unresolved_json(alloc, asked, lookup, faults)?)
 }
 
 fn none_json(
@@ -327,34 +304,13 @@ fn none_json(
     })
 }
 
-fn row_fault_json(alloc: Global, fault: &RowFault) -> Result<Value, AllocError>
-    ensures { IfOk result (λ v. view v ≡ row_fault_json fault.now) }
-{
-    let kind = row_word(&fault.kind);
-    let row = fault.row;
-    if let RowFaultKind::Unfinished { session } = &fault.kind {
-        let session = session.to_string(alloc)?;
-        return json!(in alloc; {
-            "answer": "row",
-            "kind": kind,
-            "row": row,
-            "session": session
-        });
-    }
-    json!(in alloc; {
-        "answer": "row",
-        "kind": kind,
-        "row": row
-    })
-}
-
 /// The line of records of which one has a fault, or whose reader failed.
 pub fn row_line(alloc: Global, asked: &Asked, fault: &RowFault) -> Result<Vec<u8>, NoMemory>
     ensures { IfOk result (λ line. line.items ≡ json_line (none_json asked.now (row_fault_json fault.now) (row_status fault.now.kind))) }
 {
     let status = row_status(&fault.kind);
     let fault = row_fault_json(alloc, fault)?;
-    line(alloc, &none_json(alloc, asked, fault, status)?)
+    object_line(alloc, &none_json(alloc, asked, fault, status)?)
 }
 
 /// The line of records that could not be judged for another reason, which the word names.
@@ -367,5 +323,5 @@ pub fn ended_line(
     ensures { IfOk result (λ line. line.items ≡ json_line (none_json asked.now (ended_json word.now) status)) }
 {
     let fault = json!(in alloc; { "answer": word })?;
-    line(alloc, &none_json(alloc, asked, fault, status)?)
+    object_line(alloc, &none_json(alloc, asked, fault, status)?)
 }

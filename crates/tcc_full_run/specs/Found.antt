@@ -19,7 +19,7 @@ use Rattle.tcc_print.specs.Statuses.{order_status}
 use Rattle.tcc_print.specs.declared.status.Status.{Status}
 use Rattle.tcc_print.specs.declared.status.Status.TheVariants.{Anomaly, ReadFaults}
 use Rattle.tcc_full.specs.Objects.{anomaly_json, consistent_json, unresolved_json}
-use Rattle.tcc_full.specs.Recorded.{Records}
+use Rattle.tcc_full.specs.Records.{Records}
 use Rattle.tcc_full.specs.declared.objects.Asked.{Asked}
 use Rattle.tcc_full.specs.declared.rows.OperationRows.{OperationRows}
 use Rattle.tcc_full_run.specs.declared.finding.Found.{Found}

@@ -1,4 +1,4 @@
-//! Runs of `tcc explain --json=full` from bytes to bytes: the one object that says all about the answer, with the rows of the
+//! Runs of `tcc explain --full` from bytes to bytes: the one object that says all about the answer, with the rows of the
 //! records that it speaks of, and the status that the run ends with. Nothing here knows of command lines or files.
 #![tactic(auto)]
 

@@ -75,8 +75,7 @@ fn run_small<T: Threads + Sync, G: Gate, W: Write, N: Write>(
         Err(fault) => return tell_fault(run.alloc, asked, &fault, out),
     };
     let snapshot = recording.snapshot();
-    let workers = run.options.workers;
-    let found = find_small(run.rt, run.alloc, snapshot, asked.level, workers, run.gate);
+    let found = find_small(run, snapshot, asked.level);
     say(
         run,
         asked,
@@ -104,8 +103,7 @@ fn run_large<T: Threads + Sync, G: Gate, W: Write, N: Write>(
         Err(fault) => return tell_fault(run.alloc, asked, &fault, out),
     };
     let snapshot = recording.snapshot();
-    let workers = run.options.workers;
-    let found = find_large(run.rt, run.alloc, snapshot, asked.level, workers, run.gate);
+    let found = find_large(run, snapshot, asked.level);
     say(
         run,
         asked,

@@ -1,5 +1,5 @@
 -- What the tables of a graph answer.
-use Rattle.std.proofs.Common.{ℕ, zero, suc, ◌+◌, ◌<◌, ◌≡◌, Bool, true, false, List, [], ◌++◌, length, get_or, refl, sym, ap, subst, ◌∙◌, arith, zero-add}
+use Rattle.std.proofs.Common.{ℕ, zero, suc, ◌+◌, ◌<◌, ◌≡◌, Bool, true, false, List, [], ◌∷◌, ◌++◌, length, get_or, refl, sym, ap, subst, ◌∙◌, arith, zero-add}
 use Rattle.std.specs.Prelude.{All, filter, map, zip, ◌↔◌, ◌==◌, ◌||◌}
 use Rattle.std.specs.List.{Contains, range_with_len}
 use Rattle.std.specs.List.Sorted.{IsStrictlySortedBy}
@@ -15,7 +15,7 @@ use Rattle.tcc_reads.specs.Sources.{name_cmp}
 use Rattle.tcc_graph.specs.Relations.{session_pair, causal_pair, has_items, reads_from, IsReadsPair, AreInOrder}
 use Rattle.tcc_graph.specs.Keys.{has_name, keys, is_key, writes, writers, readers}
 use Rattle.tcc_graph.specs.private.Grouped.{of_group, groups}
-use Rattle.tcc_graph.specs.private.ReadTables.{over, Indexed, indexed_of, values_from, HasReadsInOrder, IsReadTable, AreIndexed, IsIndexTable}
+use Rattle.tcc_graph.specs.private.ReadTables.{over, Indexed, indexed_of, values_from, HasReadsInOrder, AreIndexed, IsIndexTable}
 use Rattle.tcc_graph.specs.KeyIndices.{IsAbsent, name_of}
 use Rattle.tcc_graph.specs.private.KeyRows.{KeyRow, key_row_of, marked, writes_key, reads_key, IsKeyTable}
 use Rattle.tcc_graph.proofs.Ascending.{groups_sorted, values_sorted, indices_sorted, filtered_sorted}
@@ -25,36 +25,14 @@ use Rattle.tcc_graph.proofs.KeyTableLemmas.{filter_range-more, All-filter_range}
 use Rattle.tcc_graph.proofs.NameLemmas.{has_name-contains, contains-has_name}
 use Rattle.tcc_graph.proofs.IndexedLemmas.{stands_there, has_name-indices, values_from-named, values_within, values_in_groups}
 
-pub reads_at : (entries : List Entry) (table : List (List (ℕ × List ℕ))) (a : ℕ) (b : ℕ) (row : List (ℕ × List ℕ)) → IsReadTable entries (length entries) table
-    → a < length entries → b < length entries → row ≡ get_or table a row → of_group row b ≡ reads_from (over entries) a b
-reads_at entries table a b row tables from to is =
-    let inside : a < length table = omega (arith, tables.long) in
-    let whole = get_or_read table a row inside is [] ∙ tables.rows a from in
-    ap (λ grouped. of_group grouped b) whole ∙ of_group-groups (reads_from (over entries) a) (length entries) b to
+pub has_items-map : {X Y : Type 0} (f : X → Y) (xs : List X) → has_items (map f xs) ≡ has_items xs
+has_items-map f [] = refl
+has_items-map f (x ∷ xs) = refl
 
 -- where no session pair is, a causal pair is one of reads
 pub causal_at : (h : History) (a b : ℕ) → a < count h → b < count h → session_pair h a b ≡ false → (r : Bool) → r ≡ has_items (reads_from h a b)
     → r ≡ causal_pair h a b
 causal_at h a b from to none r is = rw (none, lt-ltb a (count h) from, lt-ltb b (count h) to) is
-
-readings_whole : (entries : List Entry) (table : List (List (ℕ × List ℕ))) (a : ℕ) (row : List (ℕ × List ℕ)) → IsReadTable entries (length entries) table
-    → a < length entries → row ≡ get_or table a row → row ≡ groups (reads_from (over entries) a) (length entries)
-readings_whole entries table a row tables from is =
-    let inside : a < length table = omega (arith, tables.long) in get_or_read table a row inside is [] ∙ tables.rows a from
-
-pub readings_at : (entries : List Entry) (table : List (List (ℕ × List ℕ))) (a : ℕ) (row : List (ℕ × List ℕ)) → IsReadTable entries (length entries) table
-    → a < length entries → row ≡ get_or table a row → (c : ℕ) (x : List ℕ)
-    → Contains (zip (map (λ p. p.0) row) (map (λ p. p.1) row)) (c, x) ↔ IsReadsPair (over entries) a c x
-readings_at entries table a row tables from is c x = rw (zip-map row, readings_whole entries table a row tables from is) (
-  λ h. let w = from_groups (reads_from (over entries) a) (length entries) c x h in (from, w.0, w.1),
-  λ p. in_groups (reads_from (over entries) a) (length entries) c x p.1 p.2,
-)
-
-pub readings_order : (entries : List Entry) (table : List (List (ℕ × List ℕ))) (a : ℕ) (row : List (ℕ × List ℕ)) → IsReadTable entries (length entries) table
-    → a < length entries → row ≡ get_or table a row → All HasReadsInOrder entries → AreInOrder name_cmp (map (λ p. p.0) row) (map (λ p. p.1) row)
-readings_order entries table a row tables from is reads =
-    rw (zip-map row, readings_whole entries table a row tables from is)
-    (groups_sorted name_cmp (reads_from (over entries) a) (length entries) (λ b h. values_sorted (entry_at (over entries) b).reads a (reads b initial h)))
 
 module _ (entries : List Entry) (names : List (List ℕ)) (keyed : names ≡ keys (over entries)) (x : List ℕ) where
   no_key : IsAbsent names x → is_key (over entries) x ≡ false
@@ -143,6 +121,18 @@ module _ (entries : List Entry) (names : List (List ℕ)) (indexed : List Indexe
           (found_number (values_from (indexed_of indexed c).reads a) k
           (reads_same a c k p.1.1 p.0 ∙ contains-has_name (reads_from (over entries) a c) (name_of names k) p.1.2)),
     )
+
+    module _ (b : ℕ) (to : b < length entries) where
+      group_row : of_group row b ≡ values_from (indexed_of indexed b).reads a
+      group_row = ap (λ grouped. of_group grouped b) whole_row ∙ of_group-groups (λ c. values_from (indexed_of indexed c).reads a) (length entries) b to
+
+      pub names_from : map (name_of names) (of_group row b) ≡ reads_from (over entries) a b
+      names_from =
+          let at = are.each b to in
+          ap (map (name_of names)) group_row ∙ sym (values_from-named names (indexed_of indexed b).reads a) ∙ ap (λ reads. values_from reads a) at.reads
+
+      pub from_within : All (λ key_index. key_index < length names) (of_group row b)
+      from_within = rw group_row (values_within (length names) (indexed_of indexed b).reads a (are.each b to).reads_within)
 
   -- the rows of the keys
   module _ (rows : List KeyRow) (tables : IsKeyTable indexed (length names) (length entries) (length entries) rows) (k : ℕ) (within : k < length names)

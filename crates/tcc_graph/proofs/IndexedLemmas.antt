@@ -1,26 +1,23 @@
 -- What the indices of keys say of their names.
-use Rattle.std.proofs.Common.{ℕ, zero, suc, ◌+◌, ◌<◌, ◌≡◌, ◌⊎◌, Bool, true, false, List, [], ◌∷◌, ◌++◌}
-use Rattle.std.proofs.Common.{length, get_or, take, refl, sym, ap, ◌∙◌, arith, inl, inr, length-append}
+use Rattle.std.proofs.Common.{ℕ, zero, suc, ◌+◌, ◌<◌, ◌≤◌, ◌≡◌, ◌⊎◌, Bool, true, false, List, [], ◌∷◌, ◌++◌}
+use Rattle.std.proofs.Common.{length, get_or, refl, sym, ap, ◌∙◌, arith, inl, inr, length-append}
 use Rattle.std.proofs.Common.{Option, None, Some}
 use Rattle.std.specs.Prelude.{All, map, ◌==◌, ◌||◌, bytes_eq, MatchOption, IsSome}
 use Rattle.std.specs.List.{list_any}
 use Rattle.std.specs.List.Sorted.{IsStrictlySortedBy}
-use Rattle.std.proofs.lemmas.Bool.{cases_eq, ne_eqb, eq-eqb, both_ways}
-use Rattle.std.proofs.lemmas.List.{get_or_default, get_or_read, get_or_push, get_or_append_left, get_or-take, get_or-map, length-map, length-take-le}
+use Rattle.std.proofs.lemmas.Bool.{cases_eq, cases_lt, ne_eqb, eq-eqb, both_ways}
+use Rattle.std.proofs.Math.ListN as math
+use Rattle.std.proofs.lemmas.List.{get_or_default, get_or_read, get_or_push, get_or_append_left, get_or-map, length-map, same_lists}
 use Rattle.std.proofs.lemmas.List.Elements.{All-append, All-map, All-contains, Contains-append_right}
 use Rattle.std.proofs.lemmas.List.Folds.{list_any_at}
-use Rattle.tcc_reads.specs.History.{Entry, initial}
+use Rattle.tcc_reads.specs.History.{Entry, initial, owner, place}
 use Rattle.tcc_reads.specs.Sources.{name_cmp}
 use Rattle.tcc_graph.specs.Keys.{has_name, keys, keys_of}
 use Rattle.tcc_graph.specs.private.Grouped.{as_group, groups}
 use Rattle.tcc_graph.specs.KeyIndices.{name_of, IsAbsent, StandsAt}
-use Rattle.tcc_graph.specs.private.ReadTables.{over, values_from, Indexed, indexed_of, IsIndexed, AreIndexed, IsIndexTable, HasSources}
+use Rattle.tcc_graph.specs.private.ReadTables.{over, values_from, Indexed, indexed_of, unindexed, named, entry_of, entries_of, history_of, IsIndexed, AreIndexed, IsIndexTable, HasSources}
 use Rattle.tcc_graph.proofs.NameLemmas.{bytes_eq-same, bytes_eq-other, indices_differ, contains-has_name}
 use Rattle.tcc_graph.proofs.KeysLemmas.{has_name-keys, absent}
-
--- reads by names, of reads by indices
-abbrev pub named : List (List ℕ) → List (ℕ × ℕ) → List (List ℕ × ℕ)
-named names reads = map (λ read. (name_of names read.0, read.1)) reads
 
 module _ (names : List (List ℕ)) (sorted : IsStrictlySortedBy name_cmp names) where
   -- names are equal where their indices are
@@ -122,56 +119,73 @@ keys_read P e all k d h =
 
 -- ---- all transactions
 
-pub none_indexed : (names : List (List ℕ)) (entries : List Entry) → AreIndexed names (take 0 entries) []
-none_indexed names entries = record { long = refl; each = λ n h. absurd (omega (arith, h)) }
+pub none_indexed : (names : List (List ℕ)) → AreIndexed names [] []
+none_indexed names = record { long = refl; each = λ n h. absurd (omega (arith, h)) }
 
-pub more_indexed : (names : List (List ℕ)) (entries : List Entry) (i : ℕ) (indexed : List Indexed) (e : Entry) (p : Indexed)
-    → AreIndexed names (take i entries) indexed
-    → i < length entries → e ≡ get_or entries i e → IsIndexed names e p → AreIndexed names (take (i + 1) entries) (indexed ++ p ∷ [])
-more_indexed names entries i indexed e p before inside is here = record {
-  long = omega (arith, length-append indexed (p ∷ []), before.long, taken, length-take-le (i + 1) entries (omega arith));
-  each = λ n h. go n (cases_eq n i) (omega (arith, h, length-take-le (i + 1) entries (omega arith)));
+pub more_indexed : (names : List (List ℕ)) (entries : List Entry) (indexed : List Indexed) (e : Entry) (p : Indexed) → AreIndexed names entries indexed
+    → IsIndexed names e p → AreIndexed names (entries ++ e ∷ []) (indexed ++ p ∷ [])
+more_indexed names entries indexed e p before here = record {
+  long = omega (arith, length-append indexed (p ∷ []), length-append entries (e ∷ []), before.long);
+  each = λ n h. go n (cases_lt n (length entries)) (omega (arith, h, length-append entries (e ∷ [])));
 }
   where
-    taken : length (take i entries) ≡ i
-    taken = length-take-le i entries (omega arith)
+    go : (n : ℕ) → (n < length entries) ⊎ (length entries ≤ n) → n < length entries + 1
+        → IsIndexed names (get_or (entries ++ e ∷ []) n initial) (indexed_of (indexed ++ p ∷ []) n)
+    go n (inl early) low =
+        rw (get_or_append_left indexed (p ∷ []) unindexed n (omega (arith, before.long)), get_or_append_left entries (e ∷ []) initial n early) (before.each n early)
+    go n (inr late) low =
+        rw (get_or_push indexed p unindexed n (omega (arith, before.long)), get_or_push entries e initial n (omega arith)) here
 
-    go : (n : ℕ) → (n ≡ i) ⊎ (n ≡ i → ⊥) → n < i + 1 → IsIndexed names (get_or (take (i + 1) entries) n initial) (indexed_of (indexed ++ p ∷ []) n)
-    go n (inl e') low =
-        rw (
-          e',
-          get_or_push indexed p (record { writes = []; reads = [] }) i (before.long ∙ taken),
-          get_or-take (i + 1) entries i initial (omega arith),
-          ← get_or_read entries i e inside is initial,
-        ) here
-    go n (inr ne) low =
-        rw (
-          get_or_append_left indexed (p ∷ []) (record { writes = []; reads = [] }) n (omega (arith, before.long, taken)),
-          get_or-take (i + 1) entries n initial low,
-          ← get_or-take i entries n initial (omega arith),
-        )
-        (before.each n (omega (arith, taken)))
+pub count_is : (names : List (List ℕ)) (indexed : List Indexed) → length (entries_of names indexed) ≡ length indexed
+count_is names indexed = length-map indexed (entry_of names)
+
+-- the transaction of a number, by the names of its keys
+pub entry_is : (names : List (List ℕ)) (indexed : List Indexed) (n : ℕ) → get_or (entries_of names indexed) n initial ≡ entry_of names (indexed_of indexed n)
+entry_is names indexed n = math.get_or-map (entry_of names) indexed n unindexed
+
+pub owner_is : (sessions names : List (List ℕ)) (indexed : List Indexed) (n : ℕ) → owner (history_of sessions names indexed) n ≡ (indexed_of indexed n).owner
+owner_is sessions names indexed n = ap (λ (e : Entry). e.owner) (entry_is names indexed n)
+
+pub place_is : (sessions names : List (List ℕ)) (indexed : List Indexed) (n : ℕ) → place (history_of sessions names indexed) n ≡ (indexed_of indexed n).place
+place_is sessions names indexed n = ap (λ (e : Entry). e.place) (entry_is names indexed n)
+
+-- the transactions that are indexed, by their names again
+pub names_again : (names : List (List ℕ)) (entries : List Entry) (indexed : List Indexed) → AreIndexed names entries indexed → entries_of names indexed ≡ entries
+names_again names entries indexed are = same_lists (entries_of names indexed) entries long (λ n d inside.
+    let below : n < length entries = omega (arith, inside, long) in
+    let at = are.each n below in
+    get_or_default (entries_of names indexed) n d initial inside ∙ entry_is names indexed n ∙ whole (indexed_of indexed n) (get_or entries n initial) at
+    ∙ get_or_default entries n initial d below)
+  where
+    long : length (entries_of names indexed) ≡ length entries
+    long = length-map indexed (entry_of names) ∙ are.long
+
+    whole : (p : Indexed) (e : Entry) → IsIndexed names e p → entry_of names p ≡ e
+    whole p e at = go e at.owner at.place at.writes at.reads
+      where
+        go : (e : Entry) → p.owner ≡ e.owner → p.place ≡ e.place → map (name_of names) p.writes ≡ e.writes → named names p.reads ≡ e.reads → entry_of names p ≡ e
+        go e owner place writes reads = rw (owner, place, writes, reads) refl
 
 module _ (names : List (List ℕ)) (entries : List Entry) (indexed : List Indexed) (are : AreIndexed names entries indexed) where
   -- indices of keys that are written are within the names
   pub writes_within : All (λ p. All (λ k. k < length names) p.writes) indexed
-  writes_within n d h = rw (get_or_default indexed n d (record { writes = []; reads = [] }) h) ((are.each n (omega (arith, are.long))).writes_within)
+  writes_within n d h = rw (get_or_default indexed n d unindexed h) ((are.each n (omega (arith, are.long))).writes_within)
 
   -- so are those of keys that are read
   pub reads_within : All (λ p. All (λ read. read.0 < length names) p.reads) indexed
-  reads_within n d h = rw (get_or_default indexed n d (record { writes = []; reads = [] }) h) ((are.each n (omega (arith, are.long))).reads_within)
+  reads_within n d h = rw (get_or_default indexed n d unindexed h) ((are.each n (omega (arith, are.long))).reads_within)
 
   module _ (sources : All (HasSources (length entries)) entries) where
     from_sources : (n : ℕ) → n < length entries → All (λ read. read.1 < length entries) (indexed_of indexed n).reads
     from_sources n h = sources_named names (length entries) (indexed_of indexed n).reads (rw (are.each n h).reads (sources n initial h))
 
     pub indexed_sources : All (λ p. All (λ read. read.1 < length indexed) p.reads) indexed
-    indexed_sources n d h = rw (get_or_default indexed n d (record { writes = []; reads = [] }) h, are.long) (from_sources n (omega (arith, are.long)))
+    indexed_sources n d h = rw (get_or_default indexed n d unindexed h, are.long) (from_sources n (omega (arith, are.long)))
 
     pub reads_below : (c : ℕ) → c < length entries → (p : Indexed) → p ≡ get_or indexed c p
         → All (λ read. (read.0 < length names) × (read.1 < length entries)) p.reads
     reads_below c h p is =
-        rw (get_or_read indexed c p (omega (arith, are.long)) is (record { writes = []; reads = [] }))
+        rw (get_or_read indexed c p (omega (arith, are.long)) is unindexed)
         (λ k d l. ((are.each c h).reads_within k d l, from_sources c h k d l))
 
 -- the keys of each transaction are among the history's

@@ -69,6 +69,20 @@ module _ (f : ℕ → ℕ) where
       → IsCycle j (f s) (map (link_by f) links) × (cost (map (link_by f) links) ≡ cost links)
   cycle_by j s links some lead all = ((omega (arith, length-map links (link_by f)), lead_by j s s links lead all), moved_costs links)
 
+-- where the numbers stay, so does the link
+same_step : (s : Step) → step_by (λ n. n) s ≡ s
+same_step (step.Session a b) = refl
+same_step (step.Reads a b x) = refl
+
+same_steps : (walk : List Step) → map (step_by (λ n. n)) walk ≡ walk
+same_steps [] = refl
+same_steps (s ∷ walk) = rw (same_step s, same_steps walk) refl
+
+pub same_link : (l : Link) → link_by (λ n. n) l ≡ l
+same_link (link.Session a b) = refl
+same_link (link.Reads a b x) = refl
+same_link (link.Derived b a x c walk) = ap (link.Derived b a x c) (same_steps walk)
+
 -- links that lead somewhere do so by their numbers
 pub leads_on : (j : Judged) (a b : ℕ) (links : List Link) → LinksLead j a b links → LeadOn a b links
 leads_on j a b [] p = p

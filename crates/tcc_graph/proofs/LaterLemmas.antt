@@ -1,12 +1,14 @@
 -- Which numbers have a session pair from a transaction: those after it up to the end of its session.
-use Rattle.std.proofs.Common.{ℕ, ◌+◌, ◌<◌, ◌≤◌, ◌≡◌, ◌⊎◌, inl, inr, true, false, sym, ap, arith}
+use Rattle.std.proofs.Common.{ℕ, ◌+◌, ◌<◌, ◌≤◌, ◌≡◌, ◌⊎◌, inl, inr, true, false, List, length, sym, ap, arith}
 use Rattle.std.specs.Prelude.{nat_le, ◌↔◌}
 use Rattle.std.specs.List.Sorted.{IsPartitionPoint, IsPartitionedBy, IsNonDecreasingBy}
 use Rattle.std.proofs.lemmas.List.Sorted.{IsPartitionedBy-leb, IsNonDecreasingBy-from_default}
 use Rattle.std.proofs.Math.Nat.{lt_of_not-le}
 use Rattle.std.proofs.lemmas.Bool.{cases_lt, leb-true, leb-false}
-use Rattle.tcc_reads.specs.History.{Entry, History, IsBySession, initial, count, owner, place}
+use Rattle.tcc_reads.specs.History.{History, IsBySession, count, owner, place}
 use Rattle.tcc_graph.specs.Relations.{IsSessionPair}
+use Rattle.tcc_graph.specs.private.ReadTables.{Indexed, indexed_of, unindexed, entries_of, history_of}
+use Rattle.tcc_graph.proofs.IndexedLemmas.{count_is, owner_is}
 use Rattle.tcc_graph.proofs.Pairs.{PairParts, pair_parts, lower_first, initial_pair}
 
 -- from `init` there is one to each later number
@@ -58,25 +60,38 @@ module _ (h : History) (ordered : IsBySession h.entries) (u end : ℕ) (some : 0
         lower_first h u v some below (omega arith) bound same (rises.1 same)),
   )
 
-owners_rise : (h : History) → IsBySession h.entries → IsNonDecreasingBy (λ (e : Entry). e.owner) h.entries
-owners_rise h ordered = IsNonDecreasingBy-from_default (λ (e : Entry). e.owner) h.entries initial (λ i j upto below. go i j below (cases_lt i j) upto)
-  where
-    go : (i j : ℕ) → j < count h → (i < j) ⊎ (j ≤ i) → i ≤ j → owner h i ≤ owner h j
-    go i j below (inl less) upto = (ordered i j less below).0
-    go i j below (inr more) upto = let same : i ≡ j = omega (arith, more, upto) in omega (arith, ap (λ n. owner h n) same)
+-- the session of a transaction, by the list that a search goes through
+module _ (sessions names : List (List ℕ)) (indexed : List Indexed) (ordered : IsBySession (entries_of names indexed)) where
+  abbrev h : History
+  h = history_of sessions names indexed
 
--- what a search for the first transaction of a later session asks
-pub parted : (h : History) (mine : ℕ) → IsBySession h.entries → IsPartitionedBy (λ (e : Entry). nat_le e.owner mine) h.entries
-parted h mine ordered = IsPartitionedBy-leb (λ (e : Entry). e.owner) h.entries mine (owners_rise h ordered)
+  owners_rise : IsNonDecreasingBy (λ (p : Indexed). p.owner) indexed
+  owners_rise = IsNonDecreasingBy-from_default (λ (p : Indexed). p.owner) indexed unindexed (λ i j upto below. go i j below (cases_lt i j) upto)
+    where
+      go : (i j : ℕ) → j < length indexed → (i < j) ⊎ (j ≤ i) → i ≤ j → (indexed_of indexed i).owner ≤ (indexed_of indexed j).owner
+      go i j below (inl less) upto =
+          let rises = (ordered i j less (omega (arith, below, count_is names indexed))).0 in
+          rw (← owner_is sessions names indexed i, ← owner_is sessions names indexed j) rises
+      go i j below (inr more) upto = let same : i ≡ j = omega (arith, more, upto) in omega (arith, ap (λ n. (indexed_of indexed n).owner) same)
 
--- and what its answer says
-module _ (h : History) (ordered : IsBySession h.entries) (u end mine : ℕ) (is : mine ≡ owner h u) (below : u < count h) (within : end ≤ count h)
-    (point : IsPartitionPoint (λ (e : Entry). nat_le e.owner mine ≡ true) (λ (e : Entry). nat_le e.owner mine ≡ false) h.entries end) where
-  before : (k : ℕ) → k < end → owner h k ≤ owner h u
-  before k less = omega (arith, is, leb-true (owner h k) mine (point.0 k initial (omega arith) less))
+  -- what a search for the first transaction of a later session asks
+  pub parted : (mine : ℕ) → IsPartitionedBy (λ (p : Indexed). nat_le p.owner mine) indexed
+  parted mine = IsPartitionedBy-leb (λ (p : Indexed). p.owner) indexed mine owners_rise
 
-  after : (k : ℕ) → end ≤ k → k < count h → owner h u < owner h k
-  after k more less = omega (arith, is, leb-false (owner h k) mine (point.1 k initial more less))
+  -- and what its answer says
+  module _ (u end : ℕ) (below : u < count h) (within : end ≤ count h)
+      (point : IsPartitionPoint (λ (p : Indexed). nat_le p.owner (indexed_of indexed u).owner ≡ true)
+      (λ (p : Indexed). nat_le p.owner (indexed_of indexed u).owner ≡ false) indexed end) where
+    before : (k : ℕ) → k < end → owner h k ≤ owner h u
+    before k less =
+        rw (owner_is sessions names indexed k, owner_is sessions names indexed u)
+        (leb-true (indexed_of indexed k).owner (indexed_of indexed u).owner (point.0 k unindexed (omega (arith, less, within, count_is names indexed)) less))
 
-  pub ends : 0 < u → (u < end) × ((v : ℕ) → IsSessionPair h u v ↔ ((u + 1 ≤ v) × (v < end)))
-  ends some = (past h ordered u end some below within before after, later h ordered u end some below within before after)
+    after : (k : ℕ) → end ≤ k → k < count h → owner h u < owner h k
+    after k more less =
+        let inside : k < length indexed = omega (arith, less, count_is names indexed) in
+        rw (owner_is sessions names indexed k, owner_is sessions names indexed u)
+        (leb-false (indexed_of indexed k).owner (indexed_of indexed u).owner (point.1 k unindexed more inside))
+
+    pub ends : 0 < u → (u < end) × ((v : ℕ) → IsSessionPair h u v ↔ ((u + 1 ≤ v) × (v < end)))
+    ends some = (past h ordered u end some below within before after, later h ordered u end some below within before after)

@@ -11,25 +11,29 @@
 --   Sessions     who stands between two of a session, and right before one
 --   KeysLemmas   which names are keys
 --   SortedKeys   the keys are in byte order
---   WriterLemmas what is read is a key, and who its writers are
+--   WriterLemmas what is read is a key and stands among them, and who its writers are
+--   NamedReadings readings by the indices of keys are readings by their names
 --   Worked       small histories worked out by hand
 -- The others serve the proofs of this crate. Lemmas on lists, truth values and results alone: tcc_txn's proofs/Lists.
 pub mod Ascending
 pub mod GraphLemmas
 pub mod GroupedLemmas
 pub mod IndexedLemmas
-pub mod Judged
 pub mod Kept
 pub mod KeyRowLemmas
 pub mod KeyTableLemmas
 pub mod KeysLemmas
 pub mod LastLemmas
 pub mod LaterLemmas
+pub mod Led
 pub mod Leveled
 pub mod Linking
 pub mod NameLemmas
+pub mod NamedLemmas
+pub mod NamedReadings
 pub mod Numberings
 pub mod Pairs
+pub mod RouteLemmas
 pub mod Sessions
 pub mod SortedKeys
 pub mod TableLemmas

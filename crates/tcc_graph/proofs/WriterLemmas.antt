@@ -1,8 +1,9 @@
 -- What is read is a key, and who its writers are.
-use Rattle.std.proofs.Common.{ℕ, ◌<◌, ◌≡◌, ◌==◌, Bool, true, false, cond, ◌⊎◌, inl, inr, List, [], ◌∷◌, get_or, map, refl, sym, ◌∙◌, subst}
+use Rattle.std.proofs.Common.{ℕ, ◌<◌, ◌≡◌, ◌==◌, Bool, true, false, cond, ◌⊎◌, inl, inr, List, [], ◌∷◌, length, get_or, map, refl, sym, ◌∙◌, subst}
 use Rattle.std.proofs.Common.{arith, zero-add, bytes_eq}
 use Rattle.std.specs.List.{All, Contains, filter, list_any}
 use Rattle.std.proofs.lemmas.Bool.{or_right, or_cases, cond-true}
+use Rattle.std.proofs.lemmas.List.{get_or_default}
 use Rattle.std.proofs.lemmas.List.Elements.{All-filter, All-contains, All-nil, filter_passes}
 use Rattle.std.proofs.lemmas.List.Folds.{list_any_at, list_any-append}
 use Rattle.std.proofs.lemmas.List.FromFn.{length-range_with_len, get_or-range_with_len}
@@ -10,7 +11,9 @@ use Rattle.std.proofs.lemmas.Slice.Eq.{bytes_eq-Decides}
 use Rattle.tcc_txn.proofs.Lists.{in_filter}
 use Rattle.tcc_reads.specs.History.{History, count, entry_at, initial}
 use Rattle.tcc_graph.specs.Relations.{reads_from, IsReadsPair}
-use Rattle.tcc_graph.specs.Keys.{has_name, keys_of, is_key, writes, IsWriter, numbers, writers}
+use Rattle.tcc_graph.specs.Keys.{has_name, keys_of, is_key, writes, IsWriter, numbers, writers, keys, key_at}
+use Rattle.tcc_graph.proofs.KeysLemmas.{has_name-keys}
+use Rattle.tcc_graph.proofs.NameLemmas.{has_name-contains}
 
 -- ---- what is read is a key
 
@@ -38,6 +41,12 @@ read_is_key h a c x (from, to, (k, within, e)) =
     = list_any_kept (bytes_eq x) (λ read. read.0) (λ read. read.1 == a) (entry_at h c).reads named in
     list_any_at (λ e. has_name (keys_of e) x) h.entries c initial to
     (list_any-append (bytes_eq x) (entry_at h c).writes (map (λ read. read.0) (entry_at h c).reads) ∙ or_right _ _ read)
+
+-- what is read stands at some index among the keys
+pub key_place : (h : History) (a c : ℕ) (x : List ℕ) → IsReadsPair h a c x → (k : ℕ) × (k < length (keys h)) × (key_at h k ≡ x)
+key_place h a c x read =
+    let w = has_name-contains (keys h) x (has_name-keys h x ∙ read_is_key h a c x read) in
+    (w.0, w.1, get_or_default (keys h) w.0 [] x w.1 ∙ w.2)
 
 -- ---- writers
 

@@ -17,6 +17,10 @@ IsRoute j a b links = (0 < length links) × LinksLead j a b links
 abbrev pub IsCycle : Judged → ℕ → List Link → Type 0
 IsCycle j s links = IsRoute j s s links
 
+-- the links are a cycle from some start
+abbrev pub AreCycle : Judged → List Link → Type 0
+AreCycle j links = (s : ℕ) × IsCycle j s links
+
 abbrev pub HasCycle : Judged → Type 0
 HasCycle j = (s : ℕ) × (links : List Link) × IsCycle j s links
 

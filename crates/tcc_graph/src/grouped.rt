@@ -1,5 +1,5 @@
 //! Values in groups that are numbered.
-ghost use Rattle.std.specs.Prelude.{◌≡◌, ◌≤◌, ◌++◌, [], ◌∷◌, map, All, OnOk};
+ghost use Rattle.std.specs.Prelude.{◌≡◌, ◌≤◌, ◌++◌, [], ◌∷◌, length, map, zip, All, IfOk, OnOk};
 ghost use Rattle.std.specs.List.Sorted.{IsNonDecreasing};
 ghost use Rattle.tcc_graph.specs.private.Grouped.{of_group, IsSpan};
 ghost use Rattle.tcc_graph.specs.Relations.{has_items};
@@ -59,6 +59,20 @@ impl<T: Copy> Grouped<T> {
             return Err(NoMemory);
         }
         Ok(())
+    }
+
+    /// Other values in the same groups.
+    pub(crate) fn with_values<U: Copy>(
+        &self,
+        alloc: Global,
+        values: Vec<U>,
+    ) -> Result<Grouped<U>, NoMemory>
+        requires { length values.items ≡ length self.now }
+        ensures { IfOk result (λ other. other ≡ zip (map (λ p. p.0) self.now) values.items) }
+    {
+        let mut groups = Vec::with_capacity(alloc, self.groups.len())?;
+        groups.extend_from_slice(&self.groups)?;
+        Ok(Grouped { groups, values })
     }
 
     /// The group of each value.

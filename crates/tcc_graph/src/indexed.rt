@@ -1,4 +1,4 @@
-//! What transactions write and read, by the indices of the keys.
+//! Transactions, with what they write and read by the indices of the keys.
 ghost use Rattle.std.specs.Prelude.{◌≡◌, ◌<◌, ◌≤◌, true, map, length, All, IfOk};
 ghost use Rattle.std.specs.List.Sorted.{IsStrictlySortedBy};
 ghost use Rattle.std.specs.Ordering.{nat_cmp};
@@ -13,9 +13,11 @@ use std::marker::Model;
 use tcc_reads::Transaction;
 use tcc_txn::{Name, NoMemory};
 
-/// What a transaction writes and reads: indices among the keys, those read each with its source.
+/// A transaction: its session and place, and the indices of the keys that it writes and reads, those read each with its source.
 #[derive(Drop)]
 pub(crate) struct Indexed {
+    owner: u32,
+    place: u32,
     writes: Vec<u32>,
     reads: Vec<(u32, u32)>,
 }
@@ -25,7 +27,7 @@ impl Model for Indexed {
 
     ghost Value = { Indexed };
 
-    ghost view = { λ p. record { writes = p.writes.items; reads = p.reads.items } };
+    ghost view = { λ p. record { owner = p.owner; place = p.place; writes = p.writes.items; reads = p.reads.items } };
 }
 
 /// The index of a key that is among the sorted keys.
@@ -47,7 +49,7 @@ fn key_indices_of(alloc: Global, keys: &[Name], names: &[Name]) -> Result<Vec<u3
     ensures names { IfOk result (λ key_indices. map (name_of keys.now) key_indices.items ≡ names.now) }
     ensures within { IfOk result (λ key_indices. All (λ k. k < length keys.now) key_indices.items) }
 {
-    let mut key_indices = Vec::new(alloc);
+    let mut key_indices = Vec::with_capacity(alloc, names.len())?;
     for name in names {
         key_indices.push(key_index_in(keys, name))?;
     }
@@ -66,7 +68,7 @@ fn indexed_reads(
     ensures names { IfOk result (λ key_indices. map (λ read. (name_of keys.now read.0, read.1)) key_indices.items ≡ reads.now) }
     ensures within { IfOk result (λ key_indices. All (λ read. read.0 < length keys.now) key_indices.items) }
 {
-    let mut key_indices = Vec::new(alloc);
+    let mut key_indices = Vec::with_capacity(alloc, reads.len())?;
     for (key, source) in reads {
         key_indices.push((key_index_in(keys, key), *source))?;
     }
@@ -74,7 +76,7 @@ fn indexed_reads(
 }
 
 impl Indexed {
-    /// What the transaction writes and reads.
+    /// The transaction, by the indices of its keys.
     fn of(alloc: Global, keys: &[Name], transaction: &Transaction) -> Result<Indexed, NoMemory>
         requires sorted { IsStrictlySortedBy (slice_cmp nat_cmp) keys.now }
         requires few { length keys.now ≤ u32.MAX }
@@ -82,9 +84,25 @@ impl Indexed {
         ensures { IfOk result (λ indexed. IsIndexed keys.now transaction.now indexed) }
     {
         Ok(Indexed {
+            owner: transaction.owner(),
+            place: transaction.place(),
             writes: key_indices_of(alloc, keys, transaction.writes())?,
             reads: indexed_reads(alloc, keys, transaction.reads())?,
         })
+    }
+
+    /// The index of its session.
+    pub(crate) fn owner(&self) -> u32
+        ensures { result ≡ self.now.owner }
+    {
+        self.owner
+    }
+
+    /// Its place in its session.
+    pub(crate) fn place(&self) -> u32
+        ensures { result ≡ self.now.place }
+    {
+        self.place
     }
 
     /// The indices of the keys that it writes visibly.
@@ -102,20 +120,20 @@ impl Indexed {
     }
 }
 
-/// What each transaction writes and reads, by the indices of the keys.
+/// The transactions by the indices of their keys. Each is let go when its keys are indices, so both lists never stand whole.
 pub(crate) fn indexed_by(
     alloc: Global,
     keys: &[Name],
-    transactions: &[Transaction],
+    transactions: Vec<Transaction>,
 ) -> Result<Vec<Indexed>, NoMemory>
     requires sorted { IsStrictlySortedBy (slice_cmp nat_cmp) keys.now }
     requires few { length keys.now ≤ u32.MAX }
-    requires there { All (λ e. All (λ x. has_name keys.now x ≡ true) (keys_of e)) transactions.now }
-    ensures { IfOk result (λ indexed. AreIndexed keys.now transactions.now indexed.items) }
+    requires there { All (λ e. All (λ x. has_name keys.now x ≡ true) (keys_of e)) transactions.items }
+    ensures { IfOk result (λ indexed. AreIndexed keys.now transactions.items indexed.items) }
 {
-    let mut indexed = Vec::new(alloc);
+    let mut indexed = Vec::with_capacity(alloc, transactions.len())?;
     for transaction in transactions {
-        indexed.push(Indexed::of(alloc, keys, transaction)?)?;
+        indexed.push(Indexed::of(alloc, keys, &transaction)?)?;
     }
     Ok(indexed)
 }

@@ -5,7 +5,7 @@ ghost use Rattle.tcc_txn.specs.declared.limits.TheConstants.{LARGE_COUNT, LARGE_
 ghost use Rattle.tcc_reads.specs.History.{History, IsBySession, count, entry_at, owner};
 ghost use Rattle.tcc_graph.specs.Relations.{IsCausalPair, IsSessionPair, session_pair, previous, reads_from, causal_pair};
 ghost use Rattle.tcc_graph.specs.Walks.{IsStep, step_from, step_to};
-ghost use Rattle.tcc_graph.specs.Readings.{AreReadings, AreReadingsByIndex, AreReadingsOfKey};
+ghost use Rattle.tcc_graph.specs.Readings.{AreReadingsByIndex, AreReadingsOfKey};
 ghost use Rattle.tcc_graph.specs.Keys.{IsWriter, keys, key_at, writers, readers};
 ghost use Rattle.tcc_graph.specs.Levels.{judged};
 ghost use Rattle.tcc_graph.specs.Numbers.{at, label};
@@ -13,24 +13,23 @@ ghost use Rattle.tcc_graph.specs.Links.{IsLink};
 
 use crate::grouped::Grouped;
 use crate::indexed::{Indexed, indexed_by};
-use crate::judging::{is_link, is_writer};
 use crate::key_row::KeyRow;
 use crate::key_table::{key_index_of, key_table};
 use crate::keys::sorted_keys;
-use crate::tables::{index_table, parts_of, read_table};
+use crate::tables::{index_table, parts_of};
+use crate::validity::{is_link, is_writer};
 use crate::{Level, Link, Step};
 use std::alloc::Global;
 use std::marker::Model;
-use tcc_reads::{LargeResolved, Transaction};
+use tcc_reads::LargeResolved;
 use tcc_txn::{Name, NoMemory};
 
 /// The session order and the reads-from pairs of a history whose reads are resolved, up to the large limits. Number 0 is the initial
-/// transaction, `init`; the committed transactions follow by session name in byte order and by place.
+/// transaction, `init`; the committed transactions follow by session name in byte order and by place. Each name is held once: keys
+/// are known by their indices in byte order.
 #[derive(Drop)]
 pub struct LargeGraph {
     sessions: Vec<Name>,
-    transactions: Vec<Transaction>,
-    reads: Vec<Grouped<Name>>,
     keys: Vec<Name>,
     indexed: Vec<Indexed>,
     key_indices: Vec<Grouped<u32>>,
@@ -39,13 +38,14 @@ pub struct LargeGraph {
 
 impl Model for LargeGraph {
     ghost use Rattle.tcc_reads.specs.History.{History};
+    ghost use Rattle.tcc_graph.specs.private.ReadTables.{entries_of, history_of};
     ghost use Rattle.tcc_graph.specs.private.Graphs.{IsGraph};
 
     ghost Value = { History };
 
-    ghost view = { λ g. record { sessions = g.sessions.items; entries = g.transactions.items } };
+    ghost view = { λ g. history_of g.sessions.items g.keys.items g.indexed.items };
 
-    ghost invariant = { λ g. IsGraph g.sessions.items g.transactions.items g.reads.items g.keys.items g.indexed.items g.key_indices.items g.rows.items };
+    ghost invariant = { λ g. IsGraph g.sessions.items (entries_of g.keys.items g.indexed.items) g.keys.items g.indexed.items g.key_indices.items g.rows.items };
 }
 
 impl LargeGraph {
@@ -54,15 +54,12 @@ impl LargeGraph {
         ensures { IfOk result (λ g. g ≡ resolved) }
     {
         let (sessions, transactions) = parts_of(resolved);
-        let reads = read_table(alloc, &transactions)?;
         let keys = sorted_keys(alloc, &transactions)?;
-        let indexed = indexed_by(alloc, &keys, &transactions)?;
+        let indexed = indexed_by(alloc, &keys, transactions)?;
         let key_indices = index_table(alloc, &indexed)?;
         let rows = key_table(alloc, keys.len(), &indexed, &key_indices)?;
         Ok(LargeGraph {
             sessions,
-            transactions,
-            reads,
             keys,
             indexed,
             key_indices,
@@ -76,7 +73,7 @@ impl LargeGraph {
         ensures some { 0 < result }
         ensures few { result ≤ LARGE_COUNT }
     {
-        self.transactions.len() as u32
+        self.indexed.len() as u32
     }
 
     /// The names of the sessions, in byte order, also of those without committed transactions. Transactions are numbered
@@ -90,6 +87,15 @@ impl LargeGraph {
         &self.sessions
     }
 
+    /// Transactions are numbered by session and by place, and each but `init` is of a session.
+    pub fn numbered(&self)
+        ensures numbered { IsBySession self.now.entries }
+        ensures owners { (n : ℕ) → 0 < n → n < count self.now → owner self.now n < length self.now.sessions }
+    {
+        // The proof reads here how the transactions are numbered.
+        let _ = &self.sessions;
+    }
+
     /// The session's index and the place of a committed transaction; none for `init` and past the last number.
     pub fn at(&self, n: u32) -> Option<(u32, u32)>
         ensures { result ≡ at self.now n }
@@ -97,7 +103,7 @@ impl LargeGraph {
         if n == 0 {
             return None;
         }
-        let transaction = self.transactions.get(n as usize)?;
+        let transaction = self.indexed.get(n as usize)?;
         Some((transaction.owner(), transaction.place()))
     }
 
@@ -111,8 +117,8 @@ impl LargeGraph {
         if a == 0 || b == 0 {
             return b != 0;
         }
-        let from = &self.transactions[a as usize];
-        let to = &self.transactions[b as usize];
+        let from = &self.indexed[a as usize];
+        let to = &self.indexed[b as usize];
         from.owner() == to.owner() && from.place() < to.place()
     }
 
@@ -127,7 +133,7 @@ impl LargeGraph {
         ensures last { (b : ℕ) → IsSessionPair self.now b c → (b ≡ result) ⊎ IsSessionPair self.now b result }
     {
         // The proof reads here how the transactions are numbered.
-        let _ = &self.transactions;
+        let _ = &self.indexed;
         if self.session(c - 1, c) { c - 1 } else { 0 }
     }
 
@@ -143,47 +149,9 @@ impl LargeGraph {
         if u == 0 {
             return (1, self.count());
         }
-        let owner = self.transactions[u as usize].owner();
-        let end = self
-            .transactions
-            .partition_point(|other| other.owner() <= owner);
+        let owner = self.indexed[u as usize].owner();
+        let end = self.indexed.partition_point(|other| other.owner() <= owner);
         (u + 1, end as u32)
-    }
-
-    /// The keys that `b` reads from `a`, in byte order.
-    pub fn reads_from(&self, a: u32, b: u32) -> &[Name]
-        requires from { a < count self.now }
-        requires to { b < count self.now }
-        ensures { result.now ≡ reads_from self.now a b }
-    {
-        self.reads[a as usize].get(b)
-    }
-
-    /// The keys that a transaction reads, each with the transaction that it reads it from.
-    pub fn reads(&self, c: u32) -> &[(Name, u32)]
-        requires { c < count self.now }
-        ensures value { result.now ≡ (entry_at self.now c).reads }
-        ensures sources { All (λ read. read.1 < count self.now) result.now }
-    {
-        self.transactions[c as usize].reads()
-    }
-
-    /// The keys that a transaction writes visibly; none for `init`, which writes every key.
-    pub fn writes(&self, b: u32) -> &[Name]
-        requires { b < count self.now }
-        ensures { result.now ≡ (entry_at self.now b).writes }
-    {
-        self.transactions[b as usize].writes()
-    }
-
-    /// Who reads from `a`, by ascending number, and beside each a key that it reads there: of one reader in byte order,
-    /// each once.
-    pub fn readings(&self, a: u32) -> (&[u32], &[Name])
-        requires { a < count self.now }
-        ensures { AreReadings self.now a result.0.now result.1.now }
-    {
-        let reads = &self.reads[a as usize];
-        (reads.groups(), reads.values())
     }
 
     /// Whether `a` stands before `b` in session order, or `b` reads a key from `a`.
@@ -192,7 +160,7 @@ impl LargeGraph {
         requires to { b < count self.now }
         ensures { result ≡ causal_pair self.now a b }
     {
-        self.session(a, b) || self.reads[a as usize].has(b)
+        self.session(a, b) || self.key_indices[a as usize].has(b)
     }
 
     /// The step from one transaction to another by a pair: by session order where they are of one session.
@@ -205,7 +173,8 @@ impl LargeGraph {
         if self.session(from, to) {
             return Step::Session { from, to };
         }
-        let key = self.reads_from(from, to)[0];
+        let key_index = self.reads_from_at(from, to)[0];
+        let key = self.keys[key_index as usize];
         Step::Reads { from, to, key }
     }
 
@@ -282,14 +251,33 @@ impl LargeGraph {
         (readers.groups(), readers.values())
     }
 
+    /// What is read from `a`: the indices of keys, each in the group of its reader.
+    pub(crate) fn read_at(&self, a: u32) -> &Grouped<u32>
+        requires { a < count self.now }
+        ensures readings { AreReadingsByIndex self.now a (map (λ p. p.0) result.now) (map (λ p. p.1) result.now) }
+        ensures from { (b : ℕ) → b < count self.now → map (key_at self.now) (of_group result.now b) ≡ reads_from self.now a b }
+    {
+        &self.key_indices[a as usize]
+    }
+
     /// Who reads from `a`, by ascending number, and beside each the index of a key that it reads there: of one reader
     /// ascending, each once.
     pub fn readings_at(&self, a: u32) -> (&[u32], &[u32])
         requires { a < count self.now }
         ensures { AreReadingsByIndex self.now a result.0.now result.1.now }
     {
-        let key_indices = &self.key_indices[a as usize];
+        let key_indices = self.read_at(a);
         (key_indices.groups(), key_indices.values())
+    }
+
+    /// The indices of the keys that `b` reads from `a`, ascending.
+    pub fn reads_from_at(&self, a: u32, b: u32) -> &[u32]
+        requires from { a < count self.now }
+        requires to { b < count self.now }
+        ensures value { map (key_at self.now) result.now ≡ reads_from self.now a b }
+        ensures within { All (λ key_index. key_index < length (keys self.now)) result.now }
+    {
+        self.key_indices[a as usize].get(b)
     }
 
     /// The indices of the keys that a transaction reads, each with the transaction that it reads it from.
@@ -318,7 +306,7 @@ impl LargeGraph {
         if n == 0 {
             return Ok(format!(in alloc; "init")?);
         }
-        let transaction = &self.transactions[n as usize];
+        let transaction = &self.indexed[n as usize];
         let session = self.sessions[transaction.owner() as usize];
         let place = transaction.place();
         Ok(format!(in alloc; "{session}/{place}")?)

@@ -4,7 +4,6 @@
 mod graph;
 mod grouped;
 mod indexed;
-mod judging;
 mod key_row;
 mod key_table;
 mod keys;
@@ -13,9 +12,12 @@ pub mod laws;
 mod level;
 mod limits;
 mod link;
+mod named;
 mod renumbering;
+mod routes;
 mod step;
 mod tables;
+mod validity;
 
 pub use graph::Graph;
 pub use key_table::key_index_of;
@@ -24,4 +26,5 @@ pub use level::Level;
 pub use limits::{MAX_CYCLE_COST, MAX_LINK_COST};
 pub use link::Link;
 pub use renumbering::Renumbering;
+pub use routes::is_cycle;
 pub use step::{Step, Walk};

@@ -2,6 +2,7 @@
 ghost use Rattle.std.specs.Prelude.{◌↔◌, All, IsTrue};
 ghost use Rattle.tcc_graph.specs.Walks.{IsStepBelow};
 
+use crate::renumbering::Same;
 use crate::{Step, Walk};
 use std::alloc::Global;
 use tcc_txn::{Name, NoMemory};
@@ -112,29 +113,6 @@ impl Link {
     pub fn copy(&self, alloc: Global) -> Result<Link, NoMemory>
         ensures { IfOk result (λ copy. copy ≡ self.now) }
     {
-        Ok(match self {
-            Link::Session { from, to } => Link::Session {
-                from: *from,
-                to: *to,
-            },
-            Link::Reads { from, to, key } => Link::Reads {
-                from: *from,
-                to: *to,
-                key: *key,
-            },
-            Link::Derived {
-                from,
-                to,
-                key,
-                reader,
-                walk,
-            } => Link::Derived {
-                from: *from,
-                to: *to,
-                key: *key,
-                reader: *reader,
-                walk: walk.copy(alloc)?,
-            },
-        })
+        self.renumbered(alloc, &Same)
     }
 }

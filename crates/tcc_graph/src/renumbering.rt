@@ -17,6 +17,17 @@ pub trait Renumbering {
         ensures { result ≡ by self.now number };
 }
 
+/// The numbers as they are.
+pub(crate) struct Same;
+
+impl Renumbering for Same {
+    ghost by = { λ same number. number };
+
+    fn number(&self, number: u32) -> u32 {
+        number
+    }
+}
+
 impl Step {
     /// The step in other numbers.
     fn renumbered<N: Renumbering>(&self, numbers: &N) -> Step

@@ -13,11 +13,11 @@ use Rattle.tcc_reads.proofs.Rising.{by_session}
 use Rattle.tcc_graph.specs.Relations.{IsSessionPair}
 use Rattle.tcc_graph.proofs.Pairs.{PairParts, pair_parts}
 use Rattle.tcc_growth.specs.Growth.{Grows, number_in}
-use Rattle.tcc_growth.specs.Slices.{IsPart, IsSlice}
-use Rattle.tcc_growth.proofs.Placed.{IsAlike}
-use Rattle.tcc_growth.proofs.Numbered.{number_below, of_number, place_is}
+use Rattle.tcc_slices.specs.Parts.{IsPart, IsSlice}
+use Rattle.tcc_growth.proofs.Continued.{IsAlike}
+use Rattle.tcc_slices.proofs.Numbered.{number_below, of_number, place_is}
 use Rattle.tcc_growth.proofs.Meeting.{moved_zero, IsMoved, moves}
-use Rattle.tcc_growth.proofs.Sliced.{same_names, same_owner}
+use Rattle.tcc_slices.proofs.Sliced.{same_names, same_owner}
 
 -- ---- what depends on the operations alone
 

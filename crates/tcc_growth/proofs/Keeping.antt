@@ -13,11 +13,11 @@ use Rattle.tcc_growth.specs.Growth.{Grows}
 use Rattle.tcc_growth.specs.Growth.{number_in, link_in, CarriesLinks, CarriesCycles, KeepsLabels, KeepsLinks, KeepsCycles, KeepsAnomalies}
 use Rattle.tcc_growth.specs.Growth.{CostsNoMore, IsFirstMissing}
 use Rattle.tcc_graph.specs.Renumbered.{link_by}
-use Rattle.tcc_growth.specs.Slices.{IsSlice}
-use Rattle.tcc_growth.proofs.Numbered.{of_number, number_below}
+use Rattle.tcc_slices.specs.Parts.{IsSlice}
+use Rattle.tcc_slices.proofs.Numbered.{of_number, number_below}
 use Rattle.tcc_growth.proofs.Meeting.{moves, moved_zero}
 use Rattle.tcc_graph.proofs.Kept.{kept_link, all_kept, cycle_by, leads_on, moved_cost}
-use Rattle.tcc_growth.proofs.Sliced.{sliced}
+use Rattle.tcc_slices.proofs.Sliced.{sliced}
 use Rattle.tcc_growth.proofs.Growth.{grown}
 use Rattle.tcc_graph.specs.Levels.{judged}
 

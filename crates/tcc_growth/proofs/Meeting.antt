@@ -19,8 +19,8 @@ use Rattle.tcc_answer.specs.Labels.{labels_of}
 use Rattle.tcc_growth.specs.Moved.{number_among}
 use Rattle.tcc_growth.specs.Growth.{number_in}
 use Rattle.tcc_growth.proofs.Labels.{label_other, label_at, label_once}
-use Rattle.tcc_growth.proofs.Placed.{IsAlike, carried}
-use Rattle.tcc_growth.proofs.Numbered.{number_some, number_below, number_stands, number_of, place_is, name_is}
+use Rattle.tcc_growth.proofs.Continued.{IsAlike, carried}
+use Rattle.tcc_slices.proofs.Numbered.{number_some, number_below, number_stands, number_of, place_is, name_is}
 
 same_bytes : (a b : List ℕ) → a ≡ b → bytes_eq a b ≡ true
 same_bytes a b e = ap (λ (z : List ℕ). bytes_eq a z) (sym e) ∙ itself a

@@ -1,3 +1,2 @@
 pub mod Moved
 pub mod Growth
-pub mod Slices

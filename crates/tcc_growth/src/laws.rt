@@ -10,7 +10,7 @@ ghost use Rattle.tcc_graph.specs.declared.link.Link.{Link};
 ghost use Rattle.tcc_graph.specs.Renumbered.{LeadOn, link_by};
 ghost use Rattle.tcc_growth.specs.Growth.{Grows, IsFirstMissing, number_in, link_in, CarriesLinks, CarriesCycles, KeepsLabels, KeepsLinks, KeepsCycles};
 ghost use Rattle.tcc_growth.specs.Growth.{KeepsAnomalies, CostsNoMore};
-ghost use Rattle.tcc_growth.specs.Slices.{IsSlice};
+ghost use Rattle.tcc_slices.specs.Parts.{IsSlice};
 ghost use Rattle.tcc_reads.specs.Sources.{history};
 
 /// Where each committed transaction of a resolved snapshot is a part of one of another resolved snapshot, by a map of numbers

@@ -1,32 +1,25 @@
 -- What stands behind a transaction and has to stand before it: by clocks and next writers.
-use Rattle.std.proofs.Common.{◌≡◌, ◌≢◌, ◌<◌, ◌≤◌, ◌+◌, ◌*◌, ◌-◌, ◌⊎◌, inl, inr, ℕ, Option, None, Some, List, length, get_or, slice_index, refl, sym, ap, subst, ◌∙◌, arith}
-use Rattle.std.specs.Prelude.{min, All}
+use Rattle.std.proofs.Common.{◌≡◌, ◌≢◌, ◌<◌, ◌≤◌, ◌+◌, ◌*◌, ◌-◌, ◌⊎◌, inl, inr, ℕ, Option, List, length, get_or, refl, sym, ap, subst, ◌∙◌, arith}
+use Rattle.std.specs.Prelude.{min}
 use Rattle.std.specs.Int.{div_ceil}
 use Rattle.std.proofs.lemmas.Bool.{cases_eq, cases_lt, cases_order}
 use Rattle.tcc_reads.specs.History.{History, IsBySession, count, owner}
-use Rattle.tcc_graph.specs.Relations.{IsReadsPair}
-use Rattle.tcc_graph.specs.Readings.{AreReadingsByIndex}
-use Rattle.tcc_graph.specs.Keys.{keys, key_at}
 use Rattle.tcc_graph.specs.Levels.{causally}
-use Rattle.tcc_graph.specs.Links.{IsReason}
-use Rattle.tcc_graph.specs.Orders.{Before, IsNumbering}
-use Rattle.tcc_graph.specs.Tables.{row_of}
+use Rattle.tcc_graph.specs.Orders.{IsNumbering}
 use Rattle.tcc_graph.specs.Walks.{IsReached}
-use Rattle.tcc_graph.specs.declared.step.Step.{Step}
 use Rattle.tcc_graph.proofs.Numberings.{has_index, one_index, not_the_other_way}
 use Rattle.tcc_graph.proofs.Pairs.{lower_first, initial_pair}
 use Rattle.tcc_graph.proofs.Walking.{pair_walk, reached_append}
-use Rattle.tcc_clocks.specs.Clocks.{AreClocks, LeadsOnward, AreLatestOf, IsBefore, IsOneOf}
+use Rattle.tcc_clocks.specs.Clocks.{LeadsOnward, AreLatestOf, IsBefore, IsOneOf}
 use Rattle.tcc_clocks.specs.declared.latest.TheConstants.{WIDE}
 use Rattle.tcc_cert.specs.Tables.{IsFirstAt, IsEarlier}
 use Rattle.tcc_judge.specs.declared.least.TheConstants.{NONE}
 use Rattle.tcc_judge.specs.Orders.{BreaksAxiom}
 use Rattle.tcc_judge.specs.private.Least.{IsLeastOf, IsFoundFirst}
-use Rattle.tcc_judge.specs.private.NextWriters.{AreNextWriters, IsNextWriter}
-use Rattle.tcc_judge.specs.private.Behind.{IsWithin, IsBehindBy, IsBehindIn, IsBehindOf, IsBrokenIn, IsBrokenFrom, first_with}
-use Rattle.tcc_judge.proofs.LeastLemmas.{least_none, least_same, least_lower, least_both}
+use Rattle.tcc_judge.specs.private.NextWriters.{IsNextWriter}
+use Rattle.tcc_judge.specs.private.Behind.{IsWithin, IsBehindBy, IsBehindOf, IsBrokenIn, IsBrokenFrom, first_with}
+use Rattle.tcc_judge.proofs.LeastLemmas.{least_none, least_same, least_lower}
 use Rattle.tcc_judge.proofs.FoundLemmas.{first_more, found_same}
-use Rattle.tcc_judge.proofs.ReadingLemmas.{reading_at, reading_place}
 
 -- ---- the numbers of sessions that a clock has come to
 pub within_none : (next clock : List ℕ) → IsLeastOf (IsWithin next clock 0) NONE
@@ -107,52 +100,6 @@ module _ (h : History) (numbered : IsBySession h.entries) (order : List ℕ) (fr
           let low : get_or next is.session 0 ≤ b = (nexts is.session is.narrow).lowest b is.next in
           let one = w.lowest (get_or next is.session 0) (record { session = is.session; first = omega (arith, is.narrow, long); here = refl; passed = omega arith }) in
           omega arith
-
--- ---- the readings of one transaction
-module _ (h : History) (order : List ℕ) (from place a : ℕ) (readers key_indices : List ℕ) where
-  abbrev pub By : ℕ → ℕ → Type 0
-  By i b = IsBehindBy h order from place (key_at h (get_or key_indices i 0)) (get_or readers i 0) b
-
-  abbrev pub In : ℕ → ℕ → Type 0
-  In i b = IsBehindIn h order from place readers key_indices i b
-
-  pub behind_none : IsLeastOf (In 0) NONE
-  behind_none = least_none (In 0) (λ b is. omega (arith, is.first))
-
-  pub behind_more : (i one least : ℕ) → IsLeastOf (By i) one → IsLeastOf (In i) least → IsLeastOf (In (i + 1)) (min one least)
-  behind_more i one least v w =
-      least_same (λ b. By i b ⊎ In i b) (In (i + 1)) (min one least) (λ b is. there b is) (λ b is. back b is (cases_eq is.index i)) (least_both (By i) (In i) one least v w)
-    where
-      there : (b : ℕ) → By i b ⊎ In i b → In (i + 1) b
-      there b (inl is) = record { index = i; first = omega arith; behind = is }
-      there b (inr is) = record { index = is.index; first = omega (arith, is.first); behind = is.behind }
-
-      back : (b : ℕ) → (is : In (i + 1) b) → (is.index ≡ i) ⊎ (is.index ≢ i) → By i b ⊎ In i b
-      back b is (inl same) = inl (subst (λ (j : ℕ). By j b) same is.behind)
-      back b is (inr other) = inr record { index = is.index; first = omega (arith, is.first); behind = is.behind }
-
-  pub behind_all : AreReadingsByIndex h a readers key_indices → (i least : ℕ) → i ≡ length readers → IsLeastOf (In i) least
-      → IsLeastOf (IsBehindOf h order from place a) least
-  behind_all are i least all w = least_same (In i) (IsBehindOf h order from place a) least (λ b is. there b is) (λ b is. back b is) w
-    where
-      there : (b : ℕ) → In i b → IsBehindOf h order from place a b
-      there b is = record {
-        reader = get_or readers is.index 0;
-        key = key_at h (get_or key_indices is.index 0);
-        pair = (reading_at h a readers key_indices are is.index (omega (arith, is.first, all))).pair;
-        behind = is.behind;
-      }
-
-      back : (b : ℕ) → IsBehindOf h order from place a b → In i b
-      back b is = go (reading_place h a readers key_indices are is.reader is.key is.pair)
-        where
-          go : (j : ℕ) × (j < length readers) × (get_or readers j 0 ≡ is.reader) × (key_at h (get_or key_indices j 0) ≡ is.key) → In i b
-          go (j, l, e, f) = record {
-            index = j;
-            first = omega (arith, l, all);
-            behind = subst (λ (c : ℕ). IsBehindBy h order from place (key_at h (get_or key_indices j 0)) c b) (sym e)
-                (subst (λ (y : List ℕ). IsBehindBy h order from place y is.reader b) (sym f) is.behind);
-          }
 
 -- ---- what is broken
 module _ (h : History) (order : List ℕ) (numbering : IsNumbering (count h) order) (from place a : ℕ) (inside : place < length order) (here : get_or order place 0 ≡ a) where

@@ -6,9 +6,10 @@ use Rattle.tcc_graph.specs.Routes.{IsCycle, IsLeastCycle}
 use Rattle.tcc_cert.specs.CycleRules.{ends_at}
 use Rattle.tcc_cert.specs.declared.large.LinksClaim.{LinksClaim}
 use Rattle.tcc_cert.specs.declared.large.Run.{Run}
+use Rattle.tcc_check.specs.Asked.{AllHold}
 use Rattle.tcc_check.proofs.RightLinks.{cycle_of_right}
 use Rattle.tcc_judge.specs.Cycles.{IsRightCycle}
-use Rattle.tcc_judge.specs.Verdicts.{AllHold, least_rules}
+use Rattle.tcc_judge.specs.Verdicts.{least_rules}
 
 module _ (h : History) (k : LinksClaim) (good : IsRightCycle h k) where
   pub right_cycle : IsCycle (judged h k.level) (ends_at 0 k.links) k.links

@@ -1,15 +1,14 @@
 -- Where an order keeps all pairs, a cycle that costs less goes through `init`, or else a derived link leads back over each of its transactions.
-use Rattle.std.proofs.Common.{◌≡◌, ◌≢◌, ◌<◌, ◌≤◌, ◌+◌, ◌-◌, ◌⊎◌, ◌↔◌, inl, inr, ℕ, zero, suc, List, [], ◌∷◌, ◌++◌, length, length-append, get_or, refl, sym, ap, subst, ◌∙◌, arith}
+use Rattle.std.proofs.Common.{◌≡◌, ◌≢◌, ◌<◌, ◌≤◌, ◌+◌, ◌-◌, ◌⊎◌, inl, inr, ℕ, zero, suc, List, [], ◌∷◌, ◌++◌, length, length-append, get_or, refl, sym, ap, subst, ◌∙◌, arith}
 use Rattle.std.specs.List.{All, Contains}
 use Rattle.std.proofs.lemmas.Bool.{cases_eq, cases_lt}
 use Rattle.std.proofs.lemmas.List.{get_or_default, get_or_past}
 use Rattle.std.proofs.lemmas.List.Elements.{All-cons, All-nil}
 use Rattle.tcc_reads.specs.History.{History, count}
-use Rattle.tcc_graph.specs.Keys.{keys, key_at}
+use Rattle.tcc_graph.specs.Keys.{key_at}
 use Rattle.tcc_graph.specs.Levels.{Judged, judged}
 use Rattle.tcc_graph.specs.Links.{IsReason, cost, link_from, link_to}
 use Rattle.tcc_graph.specs.Orders.{IsNumbering}
-use Rattle.tcc_graph.specs.Relations.{IsCausalPair}
 use Rattle.tcc_graph.specs.Routes.{IsCycle, LinksLead}
 use Rattle.tcc_graph.specs.declared.level.Level.{Level}
 use Rattle.tcc_graph.specs.declared.link.Link.{Link}
@@ -28,7 +27,7 @@ use Rattle.tcc_clocks.specs.Clocks.{LeadsOnward}
 use Rattle.tcc_judge.specs.Spanned.{IsSpanned, IsStaleKey}
 use Rattle.tcc_judge.specs.private.Positions.{ArePositions}
 use Rattle.tcc_judge.proofs.PositionLemmas.{before_at}
-use Rattle.tcc_judge.proofs.ReadingLemmas.{key_place}
+use Rattle.tcc_graph.proofs.WriterLemmas.{key_place}
 
 -- ---- links by one that ends at `init`
 record ComesToInit (links : List Link) : Type 0 where

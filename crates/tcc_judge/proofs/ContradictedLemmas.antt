@@ -1,10 +1,10 @@
 -- What an order contradicts, as the readings, the places of the order and the blocks of sessions come.
-use Rattle.std.proofs.Common.{◌≡◌, ◌≢◌, ◌<◌, ◌≤◌, ◌+◌, ◌-◌, ◌⊎◌, ◌↔◌, ◌++◌, [], inl, inr, ℕ, Bool, true, false, not, ◌==◌, List, length, get_or, set, take, drop, replicate, slice_index, refl, sym, ap, subst, ◌∙◌, arith}
+use Rattle.std.proofs.Common.{◌≡◌, ◌≢◌, ◌<◌, ◌≤◌, ◌+◌, ◌-◌, ◌⊎◌, ◌↔◌, inl, inr, ℕ, Bool, true, false, not, ◌==◌, List, length, get_or, set, replicate, refl, sym, ap, subst, ◌∙◌, arith}
 use Rattle.std.specs.Prelude.{max, nat_le}
 use Rattle.std.specs.List.{Contains}
 use Rattle.std.specs.List.Sorted.{IsNonDecreasing, IsPartitionPoint}
 use Rattle.std.proofs.lemmas.Bool.{cases_eq, cases_lt, cases_order, false≢true, eq-eqb, ne_eqb, leb-true, le-leb}
-use Rattle.std.proofs.lemmas.List.{get_or-set_same, get_or-set_other, get_or-replicate, append-nil, drop_all, take_all, get_or_default, get_or_past, length-set, length-replicate}
+use Rattle.std.proofs.lemmas.List.{get_or-set_same, get_or-set_other, get_or-replicate, get_or_default, get_or_past, length-set, length-replicate}
 use Rattle.std.proofs.lemmas.List.Elements.{Contains-get_or}
 use Rattle.tcc_reads.specs.History.{History, IsBySession, count, owner}
 use Rattle.tcc_graph.specs.Relations.{IsReadsPair}
@@ -21,20 +21,15 @@ use Rattle.tcc_graph.proofs.WriterLemmas.{writer_listed, writer_writes}
 use Rattle.tcc_clocks.specs.Clocks.{AreClocks, AreLatestOf, IsBefore, IsOneOf, LeadsOnward}
 use Rattle.tcc_clocks.specs.declared.latest.TheConstants.{WIDE}
 use Rattle.tcc_judge.specs.declared.least.TheConstants.{NONE}
-use Rattle.tcc_judge.specs.Spanned.{IsStaleKey}
 use Rattle.tcc_judge.specs.private.Behind.{IsBehindBy, IsWithin}
-use Rattle.tcc_judge.specs.private.Contradicted.{AreContradicted, AreContradictedTo, IsBehindAt, IsBehindSome, IsBehindTo, IsBehindToIn, IsContradictedBy, IsGreatestOf, IsLedBackTo, IsReadTo}
+use Rattle.tcc_judge.specs.private.Contradicted.{AreContradicted, AreContradictedTo, IsBehindAt, IsBehindSome, IsBehindTo, IsContradictedBy, IsGreatestOf, IsLedBackTo, IsReadTo}
 use Rattle.tcc_judge.specs.private.Least.{IsLeastOf}
 use Rattle.tcc_judge.specs.private.NextWriters.{AreNextWriters, IsNextWriter}
+use Rattle.tcc_judge.specs.private.Readings.{IsByFirst}
 use Rattle.tcc_judge.proofs.BehindLemmas.{behind_by, never_init, reaches_too}
 use Rattle.tcc_judge.specs.private.Positions.{ArePositions}
 use Rattle.tcc_judge.proofs.PositionLemmas.{before_at}
-use Rattle.tcc_judge.proofs.ReadingLemmas.{reading_at, reading_index, reading_place}
-
--- ---- what a call wrote into a vector
-pub written_back : {X : Type 0} (len : ℕ) (new items : List X) → length new ≡ length items → len ≡ length items → take len (new ++ drop (length new) items) ≡ new
-written_back len new items same long =
-    ap (λ rest. take len (new ++ rest)) (drop_all (length new) items (omega arith)) ∙ (ap (take len) (append-nil new) ∙ take_all len new (omega arith))
+use Rattle.tcc_judge.proofs.ReadingLemmas.{By, by_reading, one_more, one_or_before, reading_by, reading_at, reading_index}
 
 -- ---- the greatest of some numbers
 pub greatest_none : (Is : ℕ → Type 0) → ((n : ℕ) → Is n → ⊥) → IsGreatestOf Is 0
@@ -258,49 +253,26 @@ module _ (h : History) (numbered : IsBySession h.entries) (few : count h < NONE)
 
 -- ---- the readings of one transaction
 module _ (h : History) (order positions : List ℕ) (from place a : ℕ) (readers key_indices : List ℕ) where
-  abbrev pub By : ℕ → ℕ → Type 0
-  By i n = IsBehindAt h order positions from place (key_at h (get_or key_indices i 0)) (get_or readers i 0) n
+  abbrev At : List ℕ → ℕ → ℕ → Type 0
+  At x c n = IsBehindAt h order positions from place x c n
 
-  abbrev pub In : ℕ → ℕ → Type 0
-  In i n = IsBehindToIn h order positions from place readers key_indices i n
+  abbrev pub AtFirst : ℕ → ℕ → Type 0
+  AtFirst i n = IsByFirst h readers key_indices At i n
 
-  pub to_none : IsGreatestOf (In 0) 0
-  to_none = greatest_none (In 0) (λ n is. omega (arith, is.first))
+  pub to_none : IsGreatestOf (AtFirst 0) 0
+  to_none = greatest_none (AtFirst 0) (λ n is. omega (arith, is.first))
 
-  pub to_more : (i one last : ℕ) → IsGreatestOf (By i) one → IsGreatestOf (In i) last → IsGreatestOf (In (i + 1)) (max one last)
+  pub to_more : (i one last : ℕ) → IsGreatestOf (At (key_at h (get_or key_indices i 0)) (get_or readers i 0)) one → IsGreatestOf (AtFirst i) last
+      → IsGreatestOf (AtFirst (i + 1)) (max one last)
   to_more i one last v w =
-      greatest_same (λ n. By i n ⊎ In i n) (In (i + 1)) (max one last) (λ n is. there n is) (λ n is. back n is (cases_eq is.index i)) (greatest_both (By i) (In i) one last v w)
-    where
-      there : (n : ℕ) → By i n ⊎ In i n → In (i + 1) n
-      there n (inl is) = record { index = i; first = omega arith; behind = is }
-      there n (inr is) = record { index = is.index; first = omega (arith, is.first); behind = is.behind }
+      greatest_same _ (AtFirst (i + 1)) (max one last) (one_more h a readers key_indices At i) (one_or_before h a readers key_indices At i)
+      (greatest_both (By h a readers key_indices At i) (AtFirst i) one last v w)
 
-      back : (n : ℕ) → (is : In (i + 1) n) → (is.index ≡ i) ⊎ (is.index ≢ i) → By i n ⊎ In i n
-      back n is (inl same) = inl (subst (λ (j : ℕ). By j n) same is.behind)
-      back n is (inr other) = inr record { index = is.index; first = omega (arith, is.first); behind = is.behind }
-
-  pub to_all : AreReadingsByIndex h a readers key_indices → (i last : ℕ) → i ≡ length readers → IsGreatestOf (In i) last
+  pub to_all : AreReadingsByIndex h a readers key_indices → (i last : ℕ) → i ≡ length readers → IsGreatestOf (AtFirst i) last
       → IsGreatestOf (IsBehindTo h order positions from place a) last
-  to_all are i last all w = greatest_same (In i) (IsBehindTo h order positions from place a) last (λ n is. there n is) (λ n is. back n is) w
-    where
-      there : (n : ℕ) → In i n → IsBehindTo h order positions from place a n
-      there n is = record {
-        reader = get_or readers is.index 0;
-        key = key_at h (get_or key_indices is.index 0);
-        pair = (reading_at h a readers key_indices are is.index (omega (arith, is.first, all))).pair;
-        behind = is.behind;
-      }
-
-      back : (n : ℕ) → IsBehindTo h order positions from place a n → In i n
-      back n is = go (reading_place h a readers key_indices are is.reader is.key is.pair)
-        where
-          go : (j : ℕ) × (j < length readers) × (get_or readers j 0 ≡ is.reader) × (key_at h (get_or key_indices j 0) ≡ is.key) → In i n
-          go (j, l, e, f) = record {
-            index = j;
-            first = omega (arith, l, all);
-            behind = subst (λ (c : ℕ). IsBehindAt h order positions from place (key_at h (get_or key_indices j 0)) c n) (sym e)
-                (subst (λ (y : List ℕ). IsBehindAt h order positions from place y is.reader n) (sym f) is.behind);
-          }
+  to_all are i last all w =
+      greatest_same (AtFirst i) (IsBehindTo h order positions from place a) last (by_reading h a readers key_indices At are i all)
+      (reading_by h a readers key_indices At are i all) w
 
 -- ---- keys, by the readings from `init`
 -- one of the first readings from `init` is of the key, and contradicted
@@ -447,51 +419,32 @@ module _ (h : History) (order : List ℕ) (numbering : IsNumbering (count h) ord
       }) w
 
 -- ---- the sessions of one block more
+-- who contradicts a reading is of each stretch of sessions that its own is in
+abbrev of_sessions : (h : History) (order : List ℕ) (a : ℕ) (x : List ℕ) (c from end low high : ℕ) → (w : IsContradictedBy h order from end a x c)
+    → low ≤ owner h w.by → owner h w.by < high → IsContradictedBy h order low high a x c
+of_sessions h order a x c from end low high w above below = record {
+  by = w.by;
+  committed = w.committed;
+  low = above;
+  high = below;
+  walk = w.walk;
+  reason = w.reason;
+  apart = w.apart;
+}
+
 module _ (h : History) (order : List ℕ) (middle end a : ℕ) (more : middle ≤ end) (x : List ℕ) (c : ℕ) where
   abbrev by_earlier : IsContradictedBy h order 0 middle a x c → IsContradictedBy h order 0 end a x c
-  by_earlier w = record {
-    by = w.by;
-    committed = w.committed;
-    low = w.low;
-    high = omega (arith, w.high);
-    walk = w.walk;
-    reason = w.reason;
-    apart = w.apart;
-  }
+  by_earlier w = of_sessions h order a x c 0 middle 0 end w w.low (omega (arith, w.high))
 
   abbrev by_later : IsContradictedBy h order middle end a x c → IsContradictedBy h order 0 end a x c
-  by_later w = record {
-    by = w.by;
-    committed = w.committed;
-    low = omega arith;
-    high = w.high;
-    walk = w.walk;
-    reason = w.reason;
-    apart = w.apart;
-  }
+  by_later w = of_sessions h order a x c middle end 0 end w (omega arith) w.high
 
   by_either : IsContradictedBy h order 0 end a x c → IsContradictedBy h order 0 middle a x c ⊎ IsContradictedBy h order middle end a x c
   by_either w = go (cases_lt (owner h w.by) middle)
     where
       go : (owner h w.by < middle) ⊎ (middle ≤ owner h w.by) → IsContradictedBy h order 0 middle a x c ⊎ IsContradictedBy h order middle end a x c
-      go (inl less) = inl record {
-        by = w.by;
-        committed = w.committed;
-        low = w.low;
-        high = less;
-        walk = w.walk;
-        reason = w.reason;
-        apart = w.apart;
-      }
-      go (inr l) = inr record {
-        by = w.by;
-        committed = w.committed;
-        low = l;
-        high = w.high;
-        walk = w.walk;
-        reason = w.reason;
-        apart = w.apart;
-      }
+      go (inl less) = inl (of_sessions h order a x c 0 end 0 middle w w.low less)
+      go (inr l) = inr (of_sessions h order a x c 0 end middle end w l w.high)
 
 read_more : (h : History) (order positions : List ℕ) (middle end a one last : ℕ) → middle ≤ end → IsGreatestOf (IsReadTo h order positions middle end a) one
     → IsGreatestOf (IsReadTo h order positions 0 middle a) last → IsGreatestOf (IsReadTo h order positions 0 end a) (max one last)
@@ -509,29 +462,13 @@ read_more h order positions middle end a one last more v w =
     back n is (inl less) = inr record {
       key = is.key;
       reader = is.reader;
-      contradicted = record {
-        by = is.contradicted.by;
-        committed = is.contradicted.committed;
-        low = is.contradicted.low;
-        high = less;
-        walk = is.contradicted.walk;
-        reason = is.contradicted.reason;
-        apart = is.contradicted.apart;
-      };
+      contradicted = of_sessions h order a is.key is.reader 0 end 0 middle is.contradicted is.contradicted.low less;
       here = is.here;
     }
     back n is (inr l) = inl record {
       key = is.key;
       reader = is.reader;
-      contradicted = record {
-        by = is.contradicted.by;
-        committed = is.contradicted.committed;
-        low = l;
-        high = is.contradicted.high;
-        walk = is.contradicted.walk;
-        reason = is.contradicted.reason;
-        apart = is.contradicted.apart;
-      };
+      contradicted = of_sessions h order a is.key is.reader 0 end middle end is.contradicted l is.contradicted.high;
       here = is.here;
     }
 

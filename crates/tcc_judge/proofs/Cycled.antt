@@ -1,11 +1,10 @@
 -- What the rules on a claim of a cycle say.
-use Rattle.std.proofs.Common.{◌≡◌, ◌<◌, ◌≤◌, ◌⊎◌, inl, inr, ℕ, Option, None, Some, List, sym, subst, ◌∙◌, arith}
+use Rattle.std.proofs.Common.{◌≡◌, ◌<◌, ◌≤◌, ◌⊎◌, inl, inr, ℕ, sym, subst, arith}
 use Rattle.std.specs.Prelude.{min}
 use Rattle.tcc_reads.specs.History.{History}
 use Rattle.tcc_graph.specs.Levels.{judged}
 use Rattle.tcc_graph.specs.declared.level.Level.TheVariants.{Causal}
 use Rattle.tcc_cert.specs.Tables.{IsFirstAt, IsEarlier}
-use Rattle.tcc_cert.specs.declared.large.LinksClaim.{LinksClaim}
 use Rattle.tcc_least.specs.Shapes.{IsFirstPlace, IsRound, IsReturn, NoneBelow}
 use Rattle.tcc_least.proofs.Shapes.{below_none}
 use Rattle.tcc_judge.specs.Cycles.{BreaksRound, BreaksReturn}

@@ -14,10 +14,11 @@ use Rattle.tcc_graph.proofs.Pairs.{initial_pair, lower_first}
 use Rattle.tcc_cert.specs.declared.large.Run.{Run}
 use Rattle.tcc_cert.specs.RunsTold.{before_runs, order_claim_of, runs_told}
 use Rattle.tcc_judge.specs.Runs.{first_of, next_behind, told_from, told_of, order_of, AreWhole}
-use Rattle.tcc_judge.specs.Verdicts.{AllHold, order_rules}
+use Rattle.tcc_judge.specs.Verdicts.{order_rules}
 use Rattle.tcc_judge.proofs.Firsts.{front, first_within, firsts_rise}
 use Rattle.tcc_judge.proofs.Laid.{IsLaid, IsPlaced, laid_none, laid_one}
 use Rattle.tcc_judge.proofs.Ordered.{accepted_order}
+use Rattle.tcc_check.specs.Asked.{AllHold}
 
 -- one transaction of a session
 abbrev one_of : ℕ → Run

@@ -1,12 +1,11 @@
 -- Rows that are each held for one key, seen as one list of them.
 use Rattle.std.proofs.Common.{◌≡◌, ◌≢◌, ◌<◌, ◌≤◌, ◌⊎◌, inl, inr, ℕ, zero, suc, List, [], ◌∷◌, ◌++◌, map, length, length-append, get_or, set, replicate, slice_index, take, refl, sym, ap, ◌∙◌, arith}
 use Rattle.std.specs.Prelude.{min}
-use Rattle.std.specs.List.{All}
 use Rattle.std.proofs.lemmas.Bool.{cases_eq}
 use Rattle.std.proofs.lemmas.List.{get_or-set_same, get_or-set_other, length-set, get_or_append_left, get_or-replicate}
 use Rattle.std.proofs.lemmas.List.Elements.{All-weaker}
 use Rattle.tcc_graph.specs.Tables.{row_of}
-use Rattle.tcc_clocks.proofs.NamedRows.{named_row, own_row, own_inside}
+use Rattle.tcc_clocks.proofs.NamedRows.{named_row, own_inside}
 use Rattle.tcc_clocks.specs.declared.latest.TheConstants.{WIDE}
 use Rattle.tcc_judge.specs.declared.least.TheConstants.{NONE}
 use Rattle.tcc_judge.specs.private.NextWriters.{AreHeldOnce, lowered}

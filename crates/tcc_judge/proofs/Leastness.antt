@@ -1,5 +1,5 @@
 -- What the rules with an order say of a claim that no cycle costs less.
-use Rattle.std.proofs.Common.{◌≡◌, ◌≢◌, ◌<◌, ◌≤◌, ◌⊎◌, ◌↔◌, ◌∙◌, inl, inr, ℕ, Bool, Option, Some, List, [], ◌∷◌, length, get_or, refl, sym, ap, subst, arith}
+use Rattle.std.proofs.Common.{◌≡◌, ◌≢◌, ◌<◌, ◌≤◌, ◌⊎◌, ◌↔◌, ◌∙◌, inl, inr, ℕ, Bool, Option, Some, List, [], ◌∷◌, length, get_or, sym, ap, subst, arith}
 use Rattle.std.specs.Prelude.{IsTrue, false}
 use Rattle.std.specs.List.{All, AllPairs}
 use Rattle.std.proofs.lemmas.List.{get_or_default}
@@ -15,12 +15,14 @@ use Rattle.tcc_judge.specs.Runs.{AreWhole, order_of}
 use Rattle.tcc_least.specs.Shapes.{NoneBelow}
 use Rattle.tcc_judge.specs.Cycles.{BreaksOnward, HasLinksSizes, IsRightCycle}
 use Rattle.tcc_judge.specs.Spanned.{AreFew, IsBounded, IsSpanned, IsStaleKey}
-use Rattle.tcc_judge.specs.Verdicts.{AllHold, IsFirstBroken, IsVerdictOf, as_whole, at_each, cycle_rules, least_rules, least_rules_of}
+use Rattle.tcc_judge.specs.Verdicts.{cycle_rules, least_rules, least_rules_of, links_rules}
 use Rattle.tcc_judge.specs.declared.verdict.Rule.{Rule}
-use Rattle.tcc_judge.specs.declared.verdict.Rule.TheVariants.{Onward, Limits, Cheaper}
-use Rattle.tcc_judge.specs.declared.verdict.Verdict.{Verdict}
-use Rattle.tcc_judge.specs.declared.verdict.Verdict.TheVariants as verdict
-use Rattle.tcc_judge.specs.private.Telling.{IsOrdered}
+use Rattle.tcc_judge.specs.declared.verdict.Rule.TheVariants.{Sizes, Onward, Limits, Cheaper}
+use Rattle.tcc_check.specs.declared.verdict.Verdict.{Verdict}
+use Rattle.tcc_check.specs.Asked.{IsFirstBroken, IsVerdictOf, as_whole, at_each}
+use Rattle.tcc_check.proofs.Asked.{answer_later}
+use Rattle.tcc_check.specs.declared.verdict.Verdict.TheVariants as verdict
+use Rattle.tcc_judge.specs.private.Decoding.{IsOrdered}
 use Rattle.tcc_judge.specs.private.Contradicted.{AreContradicted}
 use Rattle.tcc_judge.specs.private.Members.{AreMarkedUnder, AreThose, IsMarked}
 use Rattle.tcc_judge.specs.private.Onward.{onward_rules}
@@ -52,7 +54,7 @@ by_order h level most runs more rule at (inr (pairs, inr (bounded, inl broken)))
 by_order h level most runs more rule at (inr (pairs, inr (bounded, inr later))) = inr ((λ at is. pairs at is.1), inr ((λ _. bounded), inr later))
 
 -- past a cost of 4 those are the rules
-pub past_four : (h : History) (level : Level) (most : ℕ) (runs : List Run) → 4 < most → (said : Verdict)
+pub past_four : (h : History) (level : Level) (most : ℕ) (runs : List Run) → 4 < most → (said : Verdict Rule)
     → IsVerdictOf (onward_rules (judged h level) (order_of h runs) most) said → IsVerdictOf (least_rules h level most runs) said
 past_four h level most runs more verdict.Accepted (pairs, (bounded, (none, rest))) = (
   (λ at broken. absurd (omega (arith, broken.0, more))),
@@ -62,12 +64,11 @@ past_four h level most runs more (verdict.Rejected rule at) broken =
     inr ((λ at is. absurd (omega (arith, is.0, more))), inr ((λ at is. absurd (omega (arith, is.0, more))), by_order h level most runs more rule at broken))
 
 -- the verdict on that no cycle costs less is that on the claim where the sizes and the links are right
-pub with_links : (h : History) (k : LinksClaim) (runs : List Run) → k.least ≡ Some runs → HasLinksSizes h k → IsRightCycle h k → (said : Verdict)
+pub with_links : (h : History) (k : LinksClaim) (runs : List Run) → k.least ≡ Some runs → HasLinksSizes h k → IsRightCycle h k → (said : Verdict Rule)
     → IsVerdictOf (least_rules h k.level k.cost runs) said → IsVerdictOf (cycle_rules h k) said
-with_links h k runs is sizes right verdict.Accepted w =
-    (sizes, (right, subst (λ (z : Option (List Run)). AllHold (least_rules_of h k.level k.cost z)) (sym is) w))
-with_links h k runs is sizes right (verdict.Rejected rule at) w =
-    inr (sizes, inr (right, subst (λ (z : Option (List Run)). IsFirstBroken (least_rules_of h k.level k.cost z) rule at) (sym is) w))
+with_links h k runs is sizes right said w =
+    answer_later (as_whole Sizes (HasLinksSizes h k) ∷ links_rules h k) (least_rules_of h k.level k.cost k.least) said (sizes, (right, tt))
+    (subst (λ (z : Option (List Run)). IsVerdictOf (least_rules_of h k.level k.cost z) said) (sym is) w)
 
 -- ---- what two searches found
 pub either_found : (Among Into : Type 0) (into among : Bool) → into ≡ false → (IsTrue into ↔ Into) → (IsTrue among ↔ Among) → IsTrue among ↔ (Among ⊎ Into)

@@ -1,12 +1,12 @@
 -- The next writers behind a place of an order, as one place more is passed.
-use Rattle.std.proofs.Common.{◌≡◌, ◌≢◌, ◌<◌, ◌≤◌, ◌+◌, ◌==◌, ◌||◌, ◌⊎◌, inl, inr, ℕ, Bool, true, false, zero, suc, List, [], ◌∷◌, map, length, get_or, set, take, replicate, slice_index, refl, sym, ap, subst, ◌∙◌, arith}
+use Rattle.std.proofs.Common.{◌≡◌, ◌≢◌, ◌<◌, ◌≤◌, ◌+◌, ◌==◌, ◌⊎◌, inl, inr, ℕ, true, false, List, [], map, length, get_or, set, take, replicate, slice_index, refl, sym, ap, subst, ◌∙◌, arith}
 use Rattle.std.specs.Prelude.{min}
 use Rattle.std.specs.List.{All, Contains, list_any}
-use Rattle.std.proofs.lemmas.Bool.{cases_eq, cases_Bool, false≢true, eqb-true, eq-eqb, ne_eqb, or_cases, or_left, or_right}
-use Rattle.std.proofs.lemmas.List.{get_or-set_same, get_or-set_other, get_or_default, length-set, get_or-replicate, length-replicate, take_all}
+use Rattle.std.proofs.lemmas.Bool.{cases_eq, cases_Bool, false≢true, eqb-true, or_cases, or_right}
+use Rattle.std.proofs.lemmas.List.{get_or-set_same, get_or-set_other, length-set, get_or-replicate, length-replicate}
+use Rattle.tcc_txn.proofs.Lists.{found_number, number_found}
 use Rattle.tcc_reads.specs.History.{History, count, owner, entry_at}
 use Rattle.tcc_graph.specs.Keys.{keys, key_at, has_name, writes}
-use Rattle.tcc_graph.specs.KeyIndices.{name_of}
 use Rattle.tcc_graph.specs.Tables.{row_of}
 use Rattle.tcc_graph.proofs.IndexedLemmas.{has_name-indices}
 use Rattle.tcc_graph.proofs.SortedKeys.{keys_sorted}
@@ -18,25 +18,12 @@ use Rattle.tcc_judge.specs.private.NextWriters.{AreNextWriters, IsNextWriter, Ar
 use Rattle.tcc_judge.proofs.LeastLemmas.{least_none, least_same, least_lower}
 
 -- ---- whether a list has a number
-pub has_number : (xs : List ℕ) (k : ℕ) → list_any (λ j. j == k) xs ≡ true → Contains xs k
-has_number [] k h = absurd (false≢true h)
-has_number (x ∷ xs) k h = go (has_number xs k) (or_cases (x == k) (list_any (λ j. j == k) xs) h)
-  where
-    go : (list_any (λ j. j == k) xs ≡ true → Contains xs k) → ((x == k) ≡ true) ⊎ (list_any (λ j. j == k) xs ≡ true) → Contains (x ∷ xs) k
-    go later (inl e) = (0, omega arith, eqb-true x k e)
-    go later (inr rest) = let w = later rest in (suc w.0, omega (arith, w.1), w.2)
-
-pub number_has : (xs : List ℕ) (k : ℕ) → Contains xs k → list_any (λ j. j == k) xs ≡ true
-number_has [] k h = absurd (nothing_in k h)
-number_has (x ∷ xs) k (zero, l, e) = or_left (x == k) (list_any (λ j. j == k) xs) (eq-eqb x k e)
-number_has (x ∷ xs) k (suc i, l, e) = or_right (x == k) (list_any (λ j. j == k) xs) (number_has xs k (i, omega arith, e))
-
 known_in : (xs : List ℕ) (k : ℕ) → Contains xs k ⊎ (Contains xs k → ⊥)
 known_in xs k = go (cases_Bool (list_any (λ j. j == k) xs))
   where
     go : (list_any (λ j. j == k) xs ≡ true) ⊎ (list_any (λ j. j == k) xs ≡ false) → Contains xs k ⊎ (Contains xs k → ⊥)
-    go (inl t) = inl (has_number xs k t)
-    go (inr f) = inr (λ is. false≢true (sym f ∙ number_has xs k is))
+    go (inl t) = inl (found_number xs k t)
+    go (inr f) = inr (λ is. false≢true (sym f ∙ number_found xs k is))
 
 -- ---- a table of which some keys are lowered
 pub lowered_none : (table : List (List ℕ)) (session number : ℕ) → AreLowered [] session number table table
@@ -104,18 +91,23 @@ module _ (key_indices : List ℕ) (i session number : ℕ) (old table : List (Li
           ap (λ row. slice_index row s) (other_row k other) ∙ w.kept k s l (λ there. apart (still_taken key_indices i inside k there))
 
 -- ---- one place more
+-- a next writer behind one place is one behind each that it stands at or behind
+from_place : (h : History) (order x : List ℕ) (session b place other : ℕ) → (w : IsNextWriter h order x session place b) → other ≤ w.index
+    → IsNextWriter h order x session other b
+from_place h order x session b place other w behind = record {
+  committed = w.committed;
+  below = w.below;
+  owned = w.owned;
+  writes = w.writes;
+  index = w.index;
+  behind = behind;
+  inside = w.inside;
+  here = w.here;
+}
+
 module _ (h : History) (order : List ℕ) (from place : ℕ) (inside : place < length order) where
   still_next : (x : List ℕ) (session b : ℕ) → IsNextWriter h order x session (place + 1) b → IsNextWriter h order x session place b
-  still_next x session b w = record {
-    committed = w.committed;
-    below = w.below;
-    owned = w.owned;
-    writes = w.writes;
-    index = w.index;
-    behind = omega (arith, w.behind);
-    inside = w.inside;
-    here = w.here;
-  }
+  still_next x session b w = from_place h order x session b (place + 1) place w (omega (arith, w.behind))
 
   -- a next writer was one already, or stands at the place
   next_or_here : (x : List ℕ) (session b : ℕ) → IsNextWriter h order x session place b → IsNextWriter h order x session (place + 1) b ⊎ (get_or order place 0 ≡ b)
@@ -123,16 +115,7 @@ module _ (h : History) (order : List ℕ) (from place : ℕ) (inside : place < l
     where
       go : (w.index ≡ place) ⊎ (w.index ≢ place) → IsNextWriter h order x session (place + 1) b ⊎ (get_or order place 0 ≡ b)
       go (inl same) = inr (ap (λ i. get_or order i 0) (sym same) ∙ w.here)
-      go (inr apart) = inl record {
-        committed = w.committed;
-        below = w.below;
-        owned = w.owned;
-        writes = w.writes;
-        index = w.index;
-        behind = omega (arith, w.behind);
-        inside = w.inside;
-        here = w.here;
-      }
+      go (inr apart) = inl (from_place h order x session b place (place + 1) w (omega (arith, w.behind, apart)))
 
   -- who stands at the place is of no session of the block
   pub next_outside : (table : List (List ℕ)) → ((session : ℕ) → session < WIDE → 0 < get_or order place 0 → owner h (get_or order place 0) ≢ from + session)
@@ -164,14 +147,14 @@ module _ (h : History) (order : List ℕ) (from place : ℕ) (inside : place < l
     by_name k l = rw (← named) (has_name-indices (keys h) (keys_sorted h) key_indices k within l)
 
     it_writes : (k : ℕ) → k < length (keys h) → Contains key_indices k → writes h a (key_at h k) ≡ true
-    it_writes k l is = or_right (a == 0) (has_name (entry_at h a).writes (key_at h k)) (by_name k l ∙ number_has key_indices k is)
+    it_writes k l is = or_right (a == 0) (has_name (entry_at h a).writes (key_at h k)) (by_name k l ∙ number_found key_indices k is)
 
     what_it_writes : (k : ℕ) → k < length (keys h) → writes h a (key_at h k) ≡ true → Contains key_indices k
     what_it_writes k l is = go (or_cases (a == 0) (has_name (entry_at h a).writes (key_at h k)) is)
       where
         go : ((a == 0) ≡ true) ⊎ (has_name (entry_at h a).writes (key_at h k) ≡ true) → Contains key_indices k
         go (inl e) = absurd (omega (arith, eqb-true a 0 e, some))
-        go (inr e) = has_number key_indices k (sym (by_name k l) ∙ e)
+        go (inr e) = found_number key_indices k (sym (by_name k l) ∙ e)
 
     pub next_here : (old new : List (List ℕ)) → AreLowered key_indices session a old new → AreNextWriters h order from (place + 1) old
         → AreNextWriters h order from place new

@@ -1,5 +1,5 @@
 -- What the rules on an order say.
-use Rattle.std.proofs.Common.{◌≡◌, ◌≢◌, ◌<◌, ◌≤◌, ◌⊎◌, ◌↔◌, inl, inr, ℕ, Option, None, List, length, get_or, sym, ◌∙◌, arith}
+use Rattle.std.proofs.Common.{◌≡◌, ◌≢◌, ◌<◌, ◌≤◌, ◌⊎◌, ◌↔◌, inl, inr, ℕ, Option, None, List, [], ◌∷◌, length, get_or, sym, ◌∙◌, arith}
 use Rattle.std.proofs.lemmas.Bool.{cases_eq, cases_lt}
 use Rattle.tcc_reads.specs.History.{History, IsBySession, count, owner}
 use Rattle.tcc_graph.specs.Levels.{judged}
@@ -10,12 +10,15 @@ use Rattle.tcc_clocks.specs.Clocks.{LeadsOnward}
 use Rattle.tcc_cert.specs.declared.large.RunsClaim.{RunsClaim}
 use Rattle.tcc_judge.specs.Orders.{BreaksPair}
 use Rattle.tcc_judge.specs.Runs.{order_of}
-use Rattle.tcc_judge.specs.Verdicts.{AllHold, HasOrderSizes, IsVerdictOf, order_rules, pair_rules}
-use Rattle.tcc_judge.specs.declared.verdict.Verdict.{Verdict}
-use Rattle.tcc_judge.specs.declared.verdict.Verdict.TheVariants as verdict
+use Rattle.tcc_judge.specs.Verdicts.{HasOrderSizes, order_rules, pair_rules}
+use Rattle.tcc_judge.specs.declared.verdict.Rule.{Rule}
+use Rattle.tcc_check.specs.declared.verdict.Verdict.{Verdict}
+use Rattle.tcc_check.specs.Asked.{AllHold, IsVerdictOf, as_whole}
+use Rattle.tcc_check.proofs.Asked.{answer_later}
+use Rattle.tcc_judge.specs.declared.verdict.Rule.TheVariants.{Sizes}
 use Rattle.tcc_judge.specs.private.Least.{IsFoundFirst}
 use Rattle.tcc_judge.specs.private.Positions.{ArePositions, IsTurned}
-use Rattle.tcc_judge.specs.private.Telling.{IsOrdered}
+use Rattle.tcc_judge.specs.private.Decoding.{IsOrdered}
 use Rattle.tcc_judge.proofs.FoundLemmas.{found_same}
 use Rattle.tcc_judge.proofs.PositionLemmas.{before_at, at_before}
 use Rattle.tcc_judge.proofs.Laid.{told_numbering, told_sessions}
@@ -90,7 +93,7 @@ accepted_order h numbered some owned k = ((λ all. there all), λ both. back bot
     )
 
 -- the verdict on an order is that on the claim where the sizes are right
-pub with_sizes : (h : History) (k : RunsClaim) → HasOrderSizes h k → (said : Verdict) → IsVerdictOf (pair_rules (judged h k.level) (order_of h k.runs)) said
+pub with_sizes : (h : History) (k : RunsClaim) → HasOrderSizes h k → (said : Verdict Rule) → IsVerdictOf (pair_rules (judged h k.level) (order_of h k.runs)) said
     → IsVerdictOf (order_rules h k) said
-with_sizes h k sizes verdict.Accepted w = (sizes, w)
-with_sizes h k sizes (verdict.Rejected rule at) w = inr (sizes, w)
+with_sizes h k sizes said w =
+    answer_later (as_whole Sizes (HasOrderSizes h k) ∷ []) (pair_rules (judged h k.level) (order_of h k.runs)) said (sizes, tt) w

@@ -1,5 +1,5 @@
 -- Own claims keep the rules, and what keeps the rules is accepted.
-use Rattle.std.proofs.Common.{◌≡◌, ◌≤◌, inl, inr, ℕ, Option, None, Some, List, [], ◌∷◌, refl, arith}
+use Rattle.std.proofs.Common.{◌≡◌, ◌≤◌, inl, inr, ℕ, Option, None, Some, List, [], refl, arith}
 use Rattle.tcc_reads.specs.History.{History}
 use Rattle.tcc_graph.specs.Levels.{judged}
 use Rattle.tcc_graph.specs.Links.{cost}
@@ -9,38 +9,21 @@ use Rattle.tcc_graph.specs.declared.link.Link.{Link}
 use Rattle.tcc_cert.specs.Tables.{IsFirstAt}
 use Rattle.tcc_cert.specs.declared.large.LargeCertificate.{LargeCertificate}
 use Rattle.tcc_cert.specs.declared.large.LargeCertificate.TheVariants as certificate
-use Rattle.tcc_cert.specs.declared.large.LinksClaim.{LinksClaim}
 use Rattle.tcc_cert.specs.declared.large.Run.{Run}
 use Rattle.tcc_cert.proofs.OwnLinks.{cycle_right, links_within}
 use Rattle.tcc_least.proofs.Shapes.{below_none}
 use Rattle.tcc_judge.specs.Claims.{links_claim_of, cycle_claim_of, short_claim_of}
-use Rattle.tcc_judge.specs.Cycles.{IsCycleFault, IsRightCycle, BreaksOnward, BreaksRound, BreaksReturn}
-use Rattle.tcc_judge.specs.Verdicts.{AllHold, Asked, IsFirstBroken, IsVerdictOf, cycle_rules, least_rules_of, rules_of}
+use Rattle.tcc_judge.specs.Cycles.{IsRightCycle, BreaksOnward, BreaksRound, BreaksReturn}
+use Rattle.tcc_judge.specs.Verdicts.{cycle_rules, least_rules_of, rules_of}
 use Rattle.tcc_judge.specs.declared.verdict.Rule.{Rule}
-use Rattle.tcc_judge.specs.declared.verdict.Verdict.{Verdict}
-use Rattle.tcc_judge.specs.declared.verdict.Verdict.TheVariants as verdict
+use Rattle.tcc_check.specs.declared.verdict.Verdict.{Verdict}
+use Rattle.tcc_check.specs.Asked.{AllHold, IsVerdictOf}
+use Rattle.tcc_check.proofs.Asked.{AreApart, accepted_by, links_apart}
+use Rattle.tcc_check.specs.declared.verdict.Verdict.TheVariants as verdict
 
 -- ---- what keeps the rules is accepted
--- a rule that is broken does not hold
-abbrev AreApart : List Asked → Type 0
-AreApart [] = Unit {0}
-AreApart (asked ∷ later) = ((at : ℕ × ℕ) → asked.broken at → asked.holds → ⊥) × AreApart later
-
-not_broken : (rules : List Asked) → AreApart rules → AllHold rules → (rule : Rule) (at : ℕ × ℕ) → IsFirstBroken rules rule at → ⊥
-not_broken [] apart all rule at broken = broken
-not_broken (asked ∷ later) apart all rule at (inl broken) = apart.0 at broken.1 all.0
-not_broken (asked ∷ later) apart all rule at (inr after) = not_broken later apart.1 all.1 rule at after.1
-
-accepted_by : (rules : List Asked) → AreApart rules → AllHold rules → (said : Verdict) → IsVerdictOf rules said → said ≡ verdict.Accepted
-accepted_by rules apart all verdict.Accepted is = refl
-accepted_by rules apart all (verdict.Rejected rule at) is = absurd (not_broken rules apart all rule at is)
-
 first_apart : (broken : ℕ × ℕ → Type 0) (at : ℕ × ℕ) → IsFirstAt broken at → ((where_ : ℕ × ℕ) → broken where_ → ⊥) → ⊥
 first_apart broken at first none = none at first.here
-
-cycle_apart : (h : History) (k : LinksClaim) (at : ℕ × ℕ) → IsCycleFault h k at → IsRightCycle h k → ⊥
-cycle_apart h k at (inl wrong) right = right.right at.0 wrong.0
-cycle_apart h k at (inr sum) right = sum.1.1 right
 
 least_apart : (h : History) (level : Level) (most : ℕ) (least : Option (List Run)) → AreApart (least_rules_of h level most least)
 least_apart h level most None = tt
@@ -51,9 +34,9 @@ least_apart h level most (Some runs) = (
 
 rules_apart : (h : History) (claim : LargeCertificate) → AreApart (rules_of h claim)
 rules_apart h (certificate.Order k) = ((λ at broken. broken.1), ((λ at first none. none at first.here), ((λ at first none. none at first.here), tt)))
-rules_apart h (certificate.Cycle k) = ((λ at broken. broken.1), (cycle_apart h k, least_apart h k.level k.cost k.least))
+rules_apart h (certificate.Cycle k) = ((λ at broken. broken.1), (links_apart (judged h k.level) k.cost k.links, least_apart h k.level k.cost k.least))
 
-pub kept_accepted : (h : History) (claim : LargeCertificate) → AllHold (rules_of h claim) → (said : Verdict) → IsVerdictOf (rules_of h claim) said
+pub kept_accepted : (h : History) (claim : LargeCertificate) → AllHold (rules_of h claim) → (said : Verdict Rule) → IsVerdictOf (rules_of h claim) said
     → said ≡ verdict.Accepted
 kept_accepted h claim all said is = accepted_by (rules_of h claim) (rules_apart h claim) all said is
 

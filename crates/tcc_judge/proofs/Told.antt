@@ -8,7 +8,7 @@ use Rattle.tcc_reads.specs.History.{History, IsBySession, count, owner, place}
 use Rattle.tcc_graph.specs.Numbers.{at}
 use Rattle.tcc_cert.specs.declared.large.Run.{Run}
 use Rattle.tcc_judge.specs.Runs.{first_of, next_behind, told_from, told_of, order_of, AreWhole}
-use Rattle.tcc_judge.specs.private.Telling.{AreFirsts, IsTold}
+use Rattle.tcc_judge.specs.private.Decoding.{AreFirsts, IsTold}
 use Rattle.tcc_judge.proofs.Firsts.{first_none, firsts_rise}
 
 -- ---- where a transaction stands

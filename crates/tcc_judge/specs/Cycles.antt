@@ -2,7 +2,7 @@
 use Rattle.std.specs.Prelude.{ℕ, ◌<◌, ◌≤◌, ◌≡◌, List, [], All, MatchOption}
 use Rattle.tcc_reads.specs.History.{History, count}
 use Rattle.tcc_graph.specs.Levels.{judged}
-use Rattle.tcc_cert.specs.CycleRules.{AreLinksRight, IsLinkBelow, IsLinksFault}
+use Rattle.tcc_cert.specs.CycleRules.{AreLinksRight, IsLinkBelow}
 use Rattle.tcc_cert.specs.declared.large.LinksClaim.{LinksClaim}
 use Rattle.tcc_cert.specs.declared.large.Run.{Run}
 use Rattle.tcc_least.specs.Shapes.{IsRound, IsReturn}
@@ -12,10 +12,6 @@ use Rattle.tcc_judge.specs.Runs.{AreWhole, order_of}
 -- the links, one at least, are a cycle of the cost that is claimed
 abbrev pub IsRightCycle : History → LinksClaim → Type 0
 IsRightCycle h k = AreLinksRight (judged h k.level) k.cost k.links
-
--- where the rule on links is broken: at the first link that is not right, from 1, or, where all are, at 0
-abbrev pub IsCycleFault : History → LinksClaim → ℕ × ℕ → Type 0
-IsCycleFault h k at = IsLinksFault (judged h k.level) k.cost k.links at
 
 -- the runs beside a claim that no cycle costs less: past a cost of 4 those of an order, else none
 pub record AreNeeded (h : History) (most : ℕ) (runs : List Run) : Type 0 where

@@ -2,9 +2,10 @@
 pub mod Least
 pub mod Positions
 pub mod NextWriters
+pub mod Readings
 pub mod Behind
 pub mod Contradicted
 pub mod Members
-pub mod Telling
+pub mod Decoding
 pub mod Singles
 pub mod Onward

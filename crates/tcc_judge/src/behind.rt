@@ -78,7 +78,7 @@ fn earlier_of(found: Option<(u32, u32)>, at: (u32, u32)) -> (u32, u32)
     }
 }
 
-/// So where there is another pair.
+/// The first of what was found and the pair of `b` and `a`, where `b` is one.
 pub(crate) fn first_with(found: Option<(u32, u32)>, b: u32, a: u32) -> Option<(u32, u32)>
     ensures { result ≡ first_with found b a }
 {

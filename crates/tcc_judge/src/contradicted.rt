@@ -1,7 +1,7 @@
 //! What an order of the causal pairs contradicts, at `Causal`: by the pass of `behind`, run to its end. Of each place the last transaction
 //! is kept that has to stand before it and doesn't, and of each key whether one has to stand before `init`. That takes the steps of that
 //! pass, and for each reading that is contradicted one search by halving in each session.
-ghost use Rattle.std.specs.Prelude.{◌≡◌, ◌<◌, ◌≤◌, ◌+◌, ◌⊎◌, ◌↔◌, ℕ, List, length, slice_index, slice_index_or, true, false, All, Contains, IfOk, IsTrue, OnOk};
+ghost use Rattle.std.specs.Prelude.{◌≡◌, ◌<◌, ◌≤◌, ◌+◌, ◌⊎◌, ◌↔◌, ℕ, List, length, slice_index, slice_index_or, true, false, Contains, IfOk, IsTrue, OnOk};
 ghost use Rattle.std.specs.List.Sorted.{IsNonDecreasing};
 ghost use Rattle.tcc_reads.specs.History.{History, IsBySession, count};
 ghost use Rattle.tcc_graph.specs.Keys.{keys, key_at};

@@ -1,32 +1,26 @@
 //! The judge of a claim that links are a cycle, and perhaps a least one.
-ghost use Rattle.std.specs.Prelude.{◌≡◌, ◌≤◌, ◌↔◌, [], All, IfOk, IsTrue, List};
+ghost use Rattle.std.specs.Prelude.{◌≡◌, ◌≤◌, ◌↔◌, [], IfOk, IsTrue, List};
 ghost use Rattle.tcc_reads.specs.History.{IsBySession, count};
 ghost use Rattle.tcc_graph.specs.declared.level.Level.{Level};
 ghost use Rattle.tcc_cert.specs.declared.large.Run.{Run};
-ghost use Rattle.tcc_cert.specs.CycleRules.{IsLinkBelow};
 ghost use Rattle.tcc_judge.specs.declared.cycles.TheConstants.{SHORT};
 ghost use Rattle.tcc_judge.specs.Cycles.{AreNeeded, HasLinksSizes};
-ghost use Rattle.tcc_judge.specs.Verdicts.{IsVerdictOf, cycle_rules, least_rules};
+ghost use Rattle.tcc_judge.specs.Verdicts.{cycle_rules, least_rules};
+ghost use Rattle.tcc_check.specs.Asked.{IsVerdictOf};
 
+use crate::decoding::told;
 use crate::links::judge_links;
 use crate::onward::onward_verdict;
-use crate::telling::told;
 use crate::{Rule, Verdict};
 use std::alloc::Global;
 use tcc_cert::{LinksClaim, Run};
-use tcc_graph::{LargeGraph, Level, Link};
+use tcc_check::are_links_below;
+use tcc_graph::{LargeGraph, Level};
 use tcc_least::{ShortCycle, short_cycle};
 use tcc_txn::NoMemory;
 
 /// Up to this cost no runs are needed.
 const SHORT: u32 = 4;
-
-/// Whether all numbers in the links are below the count.
-fn are_links_below(links: &[Link], count: u32) -> bool
-    ensures { IsTrue result ↔ All (IsLinkBelow count) links.now }
-{
-    links.iter().all(|link| link.is_below(count))
-}
 
 /// Whether there are no runs.
 fn is_none(runs: &[Run]) -> bool

@@ -16,9 +16,11 @@ ghost use Rattle.tcc_least.specs.Shapes.{AreLeast};
 ghost use Rattle.tcc_judge.specs.Runs.{order_of};
 ghost use Rattle.tcc_judge.specs.Claims.{cycle_claim_of, short_claim_of};
 ghost use Rattle.tcc_judge.specs.Cycles.{IsRightCycle};
-ghost use Rattle.tcc_judge.specs.Verdicts.{AllHold, HasOrderSizes, IsVerdictOf, cycle_rules, least_rules, order_rules, rules_of};
-ghost use Rattle.tcc_judge.specs.declared.verdict.Verdict.{Verdict};
-ghost use Rattle.tcc_judge.specs.declared.verdict.Verdict.TheVariants as verdict;
+ghost use Rattle.tcc_judge.specs.Verdicts.{HasOrderSizes, cycle_rules, least_rules, order_rules, rules_of};
+ghost use Rattle.tcc_judge.specs.declared.verdict.Rule.{Rule};
+ghost use Rattle.tcc_check.specs.declared.verdict.Verdict.{Verdict};
+ghost use Rattle.tcc_check.specs.Asked.{AllHold, IsVerdictOf};
+ghost use Rattle.tcc_check.specs.declared.verdict.Verdict.TheVariants as verdict;
 
 use tcc_graph::LargeGraph;
 
@@ -72,6 +74,6 @@ pub fn own_short()
 
 /// What keeps the rules is accepted: no other verdict is that of the rules.
 pub fn kept()
-    ensures { (h : History) (claim : LargeCertificate) → AllHold (rules_of h claim) → (said : Verdict) → IsVerdictOf (rules_of h claim) said
+    ensures { (h : History) (claim : LargeCertificate) → AllHold (rules_of h claim) → (said : Verdict Rule) → IsVerdictOf (rules_of h claim) said
         → said ≡ verdict.Accepted }
 {}

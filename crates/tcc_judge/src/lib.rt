@@ -3,9 +3,10 @@
 #![tactic(auto)]
 
 mod behind;
+mod claims;
 mod contradicted;
 mod cycles;
-mod judging;
+mod decoding;
 pub mod laws;
 mod least;
 mod links;
@@ -15,12 +16,11 @@ mod onward;
 mod ordering;
 mod positions;
 mod singles;
-mod telling;
 mod turned;
 mod verdict;
 
+pub use claims::judge;
 pub use cycles::judge_cycle;
-pub use judging::judge;
 pub use links::judge_links;
 pub use ordering::judge_order;
 pub use verdict::{Rule, Verdict};

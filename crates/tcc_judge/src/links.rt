@@ -1,6 +1,7 @@
 //! The rule on the links of a cycle, as `tcc_check` has it.
 ghost use Rattle.std.specs.Prelude.{IfOk};
-ghost use Rattle.tcc_judge.specs.Verdicts.{IsVerdictOf, links_rules};
+ghost use Rattle.tcc_judge.specs.Verdicts.{links_rules};
+ghost use Rattle.tcc_check.specs.Asked.{IsVerdictOf};
 
 use crate::{Rule, Verdict};
 use tcc_cert::LinksClaim;

@@ -1,6 +1,6 @@
 //! The transactions over which a derived link leads back, and what is marked as a list, while there are few enough. For N
 //! transactions that takes N steps.
-ghost use Rattle.std.specs.Prelude.{◌≡◌, ◌<◌, ◌≤◌, ℕ, List, ◌↔◌, length, slice_index, IfOk, IsTrue, MatchOption};
+ghost use Rattle.std.specs.Prelude.{◌≡◌, ◌<◌, ◌≤◌, ◌↔◌, length, IfOk, IsTrue, MatchOption};
 ghost use Rattle.tcc_graph.specs.Orders.{IsNumbering};
 ghost use Rattle.tcc_judge.specs.Spanned.{AreFew};
 ghost use Rattle.tcc_judge.specs.private.Members.{AreMarkedUnder, AreThose, IsMarked};

@@ -1,5 +1,5 @@
 //! Of each key and each session of a block the next writer behind a place of an order, along the order backwards.
-ghost use Rattle.std.specs.Prelude.{◌≡◌, ◌<◌, ◌+◌, ℕ, List, length, set, slice_index, All, IfOk, OnOk, replicate};
+ghost use Rattle.std.specs.Prelude.{◌≡◌, ◌<◌, ◌+◌, ℕ, List, length, set, All, IfOk, OnOk, replicate};
 ghost use Rattle.tcc_graph.specs.Tables.{row_of};
 ghost use Rattle.tcc_judge.specs.declared.least.TheConstants.{NONE};
 ghost use Rattle.tcc_clocks.specs.declared.latest.TheConstants.{WIDE};

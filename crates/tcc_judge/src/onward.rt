@@ -1,6 +1,6 @@
 //! The rules on that no cycle costs less, past a cost of 4. Where the order that runs tell keeps all pairs, a cycle that costs less
 //! goes through `init`, or else a derived link leads back in the order over each of its transactions; so it is looked for there.
-ghost use Rattle.std.specs.Prelude.{◌≡◌, ◌<◌, ◌≤◌, ◌⊎◌, ◌↔◌, ℕ, length, slice_index, All, AllPairs, IfOk, IsTrue, MatchOption};
+ghost use Rattle.std.specs.Prelude.{◌≡◌, ◌<◌, ◌≤◌, ◌⊎◌, ◌↔◌, length, slice_index, All, AllPairs, IfOk, IsTrue, MatchOption};
 ghost use Rattle.tcc_reads.specs.History.{IsBySession, count};
 ghost use Rattle.tcc_graph.specs.Keys.{keys};
 ghost use Rattle.tcc_graph.specs.Levels.{judged};
@@ -9,16 +9,15 @@ ghost use Rattle.tcc_clocks.specs.Clocks.{LeadsOnward};
 ghost use Rattle.tcc_lanes.specs.Among.{HasCheaperAmong, HasCheaperIntoInit};
 ghost use Rattle.tcc_lanes.specs.declared.limits.TheConstants.{MOST_MEMBERS, MOST_STEPS};
 ghost use Rattle.tcc_judge.specs.Spanned.{IsBounded, IsSpanned, IsStaleKey};
-ghost use Rattle.tcc_judge.specs.Verdicts.{IsVerdictOf};
+ghost use Rattle.tcc_check.specs.Asked.{IsVerdictOf};
 ghost use Rattle.tcc_judge.specs.private.Members.{AreThose};
 ghost use Rattle.tcc_judge.specs.private.Onward.{onward_rules};
 ghost use Rattle.tcc_judge.specs.private.Positions.{ArePositions};
-ghost use Rattle.tcc_judge.specs.private.Telling.{IsOrdered};
+ghost use Rattle.tcc_judge.specs.private.Decoding.{IsOrdered};
 
 use crate::contradicted::contradicted_along;
 use crate::members::{marked, marked_under};
-use crate::positions::positions_of;
-use crate::turned::first_turned;
+use crate::turned::kept_positions;
 use crate::{Rule, Verdict};
 use std::alloc::Global;
 use tcc_graph::{LargeGraph, Level};
@@ -111,13 +110,15 @@ pub(crate) fn onward_verdict(
     requires init { slice_index order.now 0 ≡ 0 }
     ensures { IfOk result (IsVerdictOf (onward_rules (judged graph.now level) order.now most)) }
 {
-    let positions = positions_of(alloc, order, graph.count())?;
-    if let Some(at) = first_turned(graph, &positions) {
-        return Ok(Verdict::Rejected {
-            rule: Rule::Onward,
-            at,
-        });
-    }
+    let positions = match kept_positions(alloc, graph, order)? {
+        Ok(positions) => positions,
+        Err(at) => {
+            return Ok(Verdict::Rejected {
+                rule: Rule::Onward,
+                at,
+            });
+        }
+    };
     let Some(narrowed) = narrow_down(alloc, graph, order, &positions, most)? else {
         return Ok(Verdict::Rejected {
             rule: Rule::Limits,

@@ -1,22 +1,21 @@
 //! The judge of a claim that runs tell a commit order.
-ghost use Rattle.std.specs.Prelude.{◌≡◌, ℕ, IfOk, List, MatchOption};
+ghost use Rattle.std.specs.Prelude.{◌≡◌, IfOk, MatchOption};
 ghost use Rattle.tcc_reads.specs.History.{IsBySession, count};
 ghost use Rattle.tcc_graph.specs.Levels.{judged};
-ghost use Rattle.tcc_graph.specs.Orders.{Before, IsNumbering};
-ghost use Rattle.tcc_graph.specs.Relations.{IsSessionPair};
+ghost use Rattle.tcc_graph.specs.Orders.{IsNumbering};
 ghost use Rattle.tcc_clocks.specs.Clocks.{LeadsOnward};
 ghost use Rattle.tcc_judge.specs.Orders.{BreaksAxiom};
 ghost use Rattle.tcc_judge.specs.Runs.{order_of};
-ghost use Rattle.tcc_judge.specs.Verdicts.{HasOrderSizes, IsVerdictOf, order_rules, pair_rules};
+ghost use Rattle.tcc_judge.specs.Verdicts.{HasOrderSizes, order_rules, pair_rules};
 ghost use Rattle.tcc_judge.specs.private.Least.{IsFoundFirst};
 ghost use Rattle.tcc_judge.specs.private.Positions.{ArePositions};
-ghost use Rattle.tcc_judge.specs.private.Telling.{IsOrdered};
+ghost use Rattle.tcc_judge.specs.private.Decoding.{IsOrdered};
+ghost use Rattle.tcc_check.specs.Asked.{IsVerdictOf};
 
 use crate::behind::first_behind;
-use crate::positions::positions_of;
+use crate::decoding::told;
 use crate::singles::first_single;
-use crate::telling::told;
-use crate::turned::first_turned;
+use crate::turned::kept_positions;
 use crate::{Rule, Verdict};
 use std::alloc::Global;
 use tcc_cert::RunsClaim;
@@ -54,13 +53,15 @@ pub(crate) fn pairs_verdict(
     requires ordered { IsOrdered graph.now order.now }
     ensures { IfOk result (IsVerdictOf (pair_rules (judged graph.now level) order.now)) }
 {
-    let positions = positions_of(alloc, order, graph.count())?;
-    if let Some(at) = first_turned(graph, &positions) {
-        return Ok(Verdict::Rejected {
-            rule: Rule::Pairs,
-            at,
-        });
-    }
+    let positions = match kept_positions(alloc, graph, order)? {
+        Ok(positions) => positions,
+        Err(at) => {
+            return Ok(Verdict::Rejected {
+                rule: Rule::Pairs,
+                at,
+            });
+        }
+    };
     match first_broken(alloc, graph, level, order, &positions)? {
         Some(at) => Ok(Verdict::Rejected {
             rule: Rule::Axiom,

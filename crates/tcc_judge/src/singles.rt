@@ -14,11 +14,11 @@ ghost use Rattle.tcc_judge.specs.Orders.{BreaksAxiom};
 ghost use Rattle.tcc_judge.specs.private.Least.{IsFoundFirst, IsLeastOf};
 ghost use Rattle.tcc_judge.specs.private.Positions.{ArePositions};
 ghost use Rattle.tcc_judge.specs.private.Singles.{DoRise, IsBegin, IsInSession, IsSingle, IsSingleOf, IsSource, is_passed};
-ghost use Rattle.tcc_judge.specs.private.Telling.{AreFirsts};
+ghost use Rattle.tcc_judge.specs.private.Decoding.{AreFirsts};
 
 use crate::behind::first_with;
+use crate::decoding::firsts_of;
 use crate::least::NONE;
-use crate::telling::firsts_of;
 use std::alloc::Global;
 use tcc_graph::LargeGraph;
 use tcc_txn::NoMemory;

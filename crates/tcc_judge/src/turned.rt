@@ -1,11 +1,17 @@
-//! The first reads-from pair that is not in order.
-ghost use Rattle.std.specs.Prelude.{◌<◌, ◌≡◌, ℕ, length};
+//! The first reads-from pair that is not in order, and the positions of an order that keeps them all.
+ghost use Rattle.std.specs.Prelude.{◌<◌, ◌≡◌, length, IfOk, MatchResult};
 ghost use Rattle.tcc_reads.specs.History.{count};
+ghost use Rattle.tcc_cert.specs.Tables.{IsFirstAt};
+ghost use Rattle.tcc_judge.specs.Orders.{BreaksPair};
 ghost use Rattle.tcc_judge.specs.private.Least.{IsFoundFirst, IsLeastOf};
-ghost use Rattle.tcc_judge.specs.private.Positions.{IsTurned};
+ghost use Rattle.tcc_judge.specs.private.Positions.{IsTurned, KeepsPairs};
+ghost use Rattle.tcc_judge.specs.private.Decoding.{IsOrdered};
 
 use crate::least::NONE;
+use crate::positions::positions_of;
+use std::alloc::Global;
 use tcc_graph::LargeGraph;
+use tcc_txn::NoMemory;
 
 /// The least transaction that reads from `a` and does not stand behind it.
 fn least_turned(graph: &LargeGraph, positions: &[u32], a: u32) -> u32
@@ -25,7 +31,7 @@ fn least_turned(graph: &LargeGraph, positions: &[u32], a: u32) -> u32
 }
 
 /// The first reads-from pair that is not in order.
-pub(crate) fn first_turned(graph: &LargeGraph, positions: &[u32]) -> Option<(u32, u32)>
+fn first_turned(graph: &LargeGraph, positions: &[u32]) -> Option<(u32, u32)>
     requires { length positions.now ≡ count graph.now }
     ensures { IsFoundFirst (IsTurned graph.now positions.now) result }
 {
@@ -36,4 +42,22 @@ pub(crate) fn first_turned(graph: &LargeGraph, positions: &[u32]) -> Option<(u32
         }
     }
     None
+}
+
+/// The positions of an order that keeps all pairs; else its first reads-from pair that is not in order.
+pub(crate) fn kept_positions(
+    alloc: Global,
+    graph: &LargeGraph,
+    order: &[u32],
+) -> Result<Result<Vec<u32>, (u32, u32)>, NoMemory>
+    requires { IsOrdered graph.now order.now }
+    ensures { IfOk result (λ kept. MatchResult kept
+        (λ positions. KeepsPairs graph.now order.now positions.items)
+        (IsFirstAt (BreaksPair graph.now order.now))) }
+{
+    let positions = positions_of(alloc, order, graph.count())?;
+    match first_turned(graph, &positions) {
+        Some(at) => Ok(Err(at)),
+        None => Ok(Ok(positions)),
+    }
 }

@@ -47,11 +47,4 @@ impl Rule {
 }
 
 /// What the rules say of a claim.
-#[derive(Clone, Copy, Debug, PartialEq, Eq)]
-pub enum Verdict {
-    /// All of them hold, and so the claim is true.
-    Accepted,
-    /// This is the first broken rule, and where it is broken first: two transactions; of `Links` the number of the first wrong
-    /// link, from 1, and 0; and 0 and 0 where the rule names nothing.
-    Rejected { rule: Rule, at: (u32, u32) },
-}
+pub type Verdict = tcc_check::Verdict<Rule>;

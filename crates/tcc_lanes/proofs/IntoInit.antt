@@ -1,6 +1,5 @@
 -- Lanes of keys: where they begin, and where they are read from `init`.
 use Rattle.std.proofs.Common.{◌≡◌, ◌≢◌, ◌<◌, ◌≤◌, ◌+◌, ◌-◌, ◌↔◌, ◌⊎◌, inl, inr, ℕ, true, List, length, get_or, set, replicate, length-set, refl, sym, ap, subst, ◌∙◌, arith}
-use Rattle.std.specs.Prelude.{bit_or}
 use Rattle.std.specs.List.{All, Contains}
 use Rattle.std.proofs.lemmas.Bool.{cases_eq, cases_lt}
 use Rattle.std.proofs.lemmas.List.{get_or-set_other, get_or-set_same, get_or_default, length-replicate}
@@ -11,8 +10,6 @@ use Rattle.tcc_graph.specs.Levels.{Judged, judged}
 use Rattle.tcc_graph.specs.Links.{IsReason}
 use Rattle.tcc_graph.specs.Relations.{IsReadsPair}
 use Rattle.tcc_graph.specs.declared.level.Level.{Level}
-use Rattle.tcc_graph.proofs.IndexedLemmas.{one_index}
-use Rattle.tcc_graph.proofs.SortedKeys.{keys_sorted}
 use Rattle.tcc_graph.proofs.Walking.{walk_below}
 use Rattle.tcc_least.proofs.ReadLemmas.{AreReadsAt, is_read, read_is}
 use Rattle.tcc_lanes.specs.Among.{HasCheaperIntoInit}
@@ -20,41 +17,14 @@ use Rattle.tcc_lanes.specs.declared.words.TheConstants.{LANES}
 use Rattle.tcc_lanes.specs.private.Marks.{HasLane, IsAt, AreMarksOf}
 use Rattle.tcc_lanes.specs.private.Walks.{AreWalked}
 use Rattle.tcc_lanes.specs.private.IntoInit.{AreBegun, HasIntoInit, IsIntoInit, IsMetByInit, IsReadOfInit, IsWrittenBy}
+use Rattle.tcc_lanes.proofs.MarkLemmas.{key_of_read}
 use Rattle.tcc_lanes.proofs.Tiles.{IsTile}
-use Rattle.tcc_lanes.proofs.WordLemmas.{either_has, none_has, zeros_nowhere}
+use Rattle.tcc_lanes.proofs.WordLemmas.{AreJoined, zeros_nowhere}
 
 -- ---- the lanes of the keys that a transaction writes
--- a word has the lanes of the first of some keys
-abbrev pub AreJoined : List ℕ → List ℕ → ℕ → ℕ → Type 0
-AreJoined key_lanes key_indices end word = (i : ℕ) → i < LANES → HasLane word i ↔ ((n : ℕ) × (n < end) × IsAt key_lanes (get_or key_indices n 0) i)
-
-pub joined_none : (key_lanes key_indices : List ℕ) → AreJoined key_lanes key_indices 0 0
-joined_none key_lanes key_indices = λ i l. ((λ has. absurd (none_has i has)), λ w. absurd (omega (arith, w.1)))
-
-pub joined_more : (key_lanes key_indices : List ℕ) (k word : ℕ) → AreJoined key_lanes key_indices k word
-    → AreJoined key_lanes key_indices (k + 1) (bit_or word (get_or key_lanes (get_or key_indices k 0) 0))
-joined_more key_lanes key_indices k word w = λ i l. (there i l, back i l)
-  where
-    one : ℕ
-    one = get_or key_lanes (get_or key_indices k 0) 0
-
-    there : (i : ℕ) → i < LANES → HasLane (bit_or word one) i → (n : ℕ) × (n < k + 1) × IsAt key_lanes (get_or key_indices n 0) i
-    there i l has = go ((either_has word one i).0 has)
-      where
-        go : HasLane word i ⊎ HasLane one i → (n : ℕ) × (n < k + 1) × IsAt key_lanes (get_or key_indices n 0) i
-        go (inl old) = let v = (w i l).0 old in (v.0, omega (arith, v.1), v.2)
-        go (inr new) = (k, omega arith, new)
-
-    back : (i : ℕ) → i < LANES → (n : ℕ) × (n < k + 1) × IsAt key_lanes (get_or key_indices n 0) i → HasLane (bit_or word one) i
-    back i l (n, less, at) = go (cases_eq n k)
-      where
-        go : (n ≡ k) ⊎ (n ≢ k) → HasLane (bit_or word one) i
-        go (inl same) = (either_has word one i).1 (inr (subst (λ (m : ℕ). IsAt key_lanes (get_or key_indices m 0) i) same at))
-        go (inr other) = (either_has word one i).1 (inl ((w i l).1 (n, omega (arith, less, other), at)))
-
 pub joined_all : (h : History) (key_lanes key_indices : List ℕ) (v : ℕ) → All (λ k. k < length (keys h)) key_indices
     → ((k : ℕ) → k < length (keys h) → Contains key_indices k ↔ (writes h v (key_at h k) ≡ true)) → (n word : ℕ) → length key_indices ≡ n
-    → AreJoined key_lanes key_indices n word → (i : ℕ) → i < LANES → HasLane word i ↔ IsWrittenBy h key_lanes v i
+    → AreJoined key_lanes (λ m. get_or key_indices m 0) n word → (i : ℕ) → i < LANES → HasLane word i ↔ IsWrittenBy h key_lanes v i
 joined_all h key_lanes key_indices v inside written n word all w = λ i l. (there i l, back i l)
   where
     there : (i : ℕ) → i < LANES → HasLane word i → IsWrittenBy h key_lanes v i
@@ -125,15 +95,10 @@ module _ (h : History) (key_lanes : List ℕ) (word reader : ℕ) (reads : List 
       go : (read : ℕ × ℕ) × Contains reads read × (read.1 ≡ 0) × (key_at h read.0 ≡ key_at h k) → ⊥
       go (read, (m, within, is), initial, key) =
           none m (omega (arith, within, all)) (ap (λ (r : ℕ × ℕ). r.1) here ∙ initial) i lane has
-          (subst (λ (z : ℕ). IsAt key_lanes z i) (sym (ap (λ (r : ℕ × ℕ). r.0) here ∙ same)) at)
+          (subst (λ (z : ℕ). IsAt key_lanes z i) (sym (key_of_read h reader reads are m k within inside (ap (λ (r : ℕ × ℕ). key_at h r.0) here ∙ key))) at)
         where
           here : get_or reads m (0, 0) ≡ read
           here = get_or_default reads m (0, 0) read within ∙ is
-
-          same : read.0 ≡ k
-          same =
-              one_index (keys h) (keys_sorted h) read.0 k
-              (subst (λ (r : ℕ × ℕ). r.0 < length (keys h)) here (are.within m (0, 0) within).0) inside key
 
 -- ---- some keys together
 module _ (h : History) (level : Level) (most : ℕ) (tile key_lanes begun reached : List ℕ) (inside : All (λ k. k < length (keys h)) tile) (lanes : length tile ≤ LANES)

@@ -1,13 +1,15 @@
 -- Marks where lanes are.
-use Rattle.std.proofs.Common.{◌≡◌, ◌≢◌, ◌<◌, ◌+◌, ◌==◌, ◌⊎◌, ◌↔◌, inl, inr, ℕ, zero, suc, true, List, [], ◌∷◌, ◌++◌, map, length, get_or, set, take, drop, replicate, refl, sym, ap, subst, ◌∙◌, arith}
+use Rattle.std.proofs.Common.{◌≡◌, ◌≢◌, ◌<◌, ◌+◌, ◌==◌, ◌⊎◌, ◌↔◌, inl, inr, ℕ, true, List, map, length, get_or, set, take, replicate, refl, sym, ap, subst, ◌∙◌, arith}
 use Rattle.std.specs.List.{All, Contains, list_any}
-use Rattle.std.proofs.lemmas.Bool.{cases_eq, false≢true, eqb-true, eq-eqb, or_cases, or_left, or_right}
-use Rattle.std.proofs.lemmas.List.{get_or-set_same, get_or-set_other, get_or-replicate, length-replicate, append-nil, drop_all, take_all}
+use Rattle.std.proofs.lemmas.Bool.{cases_eq, eqb-true, or_cases, or_right}
+use Rattle.std.proofs.lemmas.List.{get_or-set_same, get_or-set_other, get_or-replicate, length-replicate}
 use Rattle.tcc_bits.proofs.Lists.{one_of_taken, still_taken, last_taken, nothing_in}
+use Rattle.tcc_txn.proofs.Lists.{found_number, number_found}
 use Rattle.tcc_reads.specs.History.{History, entry_at}
 use Rattle.tcc_graph.specs.Keys.{keys, key_at, has_name, writes}
-use Rattle.tcc_graph.proofs.IndexedLemmas.{has_name-indices}
+use Rattle.tcc_graph.proofs.IndexedLemmas.{has_name-indices, one_index}
 use Rattle.tcc_graph.proofs.SortedKeys.{keys_sorted}
+use Rattle.tcc_least.proofs.ReadLemmas.{AreReadsAt}
 use Rattle.tcc_lanes.specs.declared.words.TheConstants.{LANES}
 use Rattle.tcc_lanes.specs.private.Marks.{HasLane, IsAt, AreMarksOf, AreWriterMarks}
 use Rattle.tcc_lanes.proofs.WordLemmas.{none_has}
@@ -103,25 +105,12 @@ more_marks count indices k old new w same each = record { long = same ∙ w.long
         by (inl same_lane) = inr (sym is ∙ ap (λ n. get_or indices n 0) same_lane, same_lane)
         by (inr other) = inl ((w.each v i l m).1 (omega (arith, less, other), is))
 
--- ---- whether a list of numbers has one
-has_number : (xs : List ℕ) (k : ℕ) → list_any (λ j. j == k) xs ≡ true → Contains xs k
-has_number [] k h = absurd (false≢true h)
-has_number (x ∷ xs) k h = go (has_number xs k) (or_cases (x == k) (list_any (λ j. j == k) xs) h)
-  where
-    go : (list_any (λ j. j == k) xs ≡ true → Contains xs k) → ((x == k) ≡ true) ⊎ (list_any (λ j. j == k) xs ≡ true) → Contains (x ∷ xs) k
-    go later (inl e) = (0, omega arith, eqb-true x k e)
-    go later (inr rest) = let w = later rest in (suc w.0, omega (arith, w.1), w.2)
-
-number_has : (xs : List ℕ) (k : ℕ) → Contains xs k → list_any (λ j. j == k) xs ≡ true
-number_has [] k h = absurd (nothing_in k h)
-number_has (x ∷ xs) k (zero, l, e) = or_left (x == k) (list_any (λ j. j == k) xs) (eq-eqb x k e)
-number_has (x ∷ xs) k (suc n, l, e) = or_right (x == k) (list_any (λ j. j == k) xs) (number_has xs k (n, omega arith, e))
-
+-- ---- writers
 -- the keys that a transaction writes, by their indices
 pub written_by : (h : History) (b : ℕ) (key_indices : List ℕ) → map (key_at h) key_indices ≡ (entry_at h b).writes
     → All (λ key_index. key_index < length (keys h)) key_indices → 0 < b → (k : ℕ) → k < length (keys h)
     → Contains key_indices k ↔ (writes h b (key_at h k) ≡ true)
-written_by h b key_indices named within some k l = ((λ is. or_right (b == 0) (has_name (entry_at h b).writes (key_at h k)) (by_name ∙ number_has key_indices k is)), back)
+written_by h b key_indices named within some k l = ((λ is. or_right (b == 0) (has_name (entry_at h b).writes (key_at h k)) (by_name ∙ number_found key_indices k is)), back)
   where
     by_name : has_name (entry_at h b).writes (key_at h k) ≡ list_any (λ j. j == k) key_indices
     by_name = rw (← named) (has_name-indices (keys h) (keys_sorted h) key_indices k within l)
@@ -131,7 +120,7 @@ written_by h b key_indices named within some k l = ((λ is. or_right (b == 0) (h
       where
         go : ((b == 0) ≡ true) ⊎ (has_name (entry_at h b).writes (key_at h k) ≡ true) → Contains key_indices k
         go (inl e) = absurd (omega (arith, eqb-true b 0 e, some))
-        go (inr e) = has_number key_indices k (sym by_name ∙ e)
+        go (inr e) = found_number key_indices k (sym by_name ∙ e)
 
 -- ---- each lane at the keys that its transaction writes
 pub no_writers : (h : History) (writers : List ℕ) → AreWriterMarks h writers 0 (replicate (length (keys h)) 0)
@@ -165,7 +154,7 @@ more_writers h writers n key_indices old new written w same each = record { long
         by (inl one) = inr ((written k l).1 (subst (λ (j : ℕ). writes h (get_or writers j 0) (key_at h k) ≡ true) one is), one)
         by (inr other) = inl ((w.each k i l m).1 (omega (arith, less, other), is))
 
--- a list that was written in place
-pub written_back : (len : ℕ) (new items : List ℕ) → length new ≡ length items → len ≡ length items → take len (new ++ drop (length new) items) ≡ new
-written_back len new items same long =
-    ap (λ rest. take len (new ++ rest)) (drop_all (length new) items (omega arith)) ∙ (ap (take len) (append-nil new) ∙ take_all len new (omega arith))
+-- ---- a key that is read has one index
+pub key_of_read : (h : History) (c : ℕ) (reads : List (ℕ × ℕ)) → AreReadsAt h c reads → (m k : ℕ) → m < length reads → k < length (keys h)
+    → key_at h (get_or reads m (0, 0)).0 ≡ key_at h k → (get_or reads m (0, 0)).0 ≡ k
+key_of_read h c reads are m k inside low same = one_index (keys h) (keys_sorted h) (get_or reads m (0, 0)).0 k (are.within m (0, 0) inside).0 low same

@@ -6,15 +6,14 @@ use Rattle.std.proofs.lemmas.Bool.{cases_eq, cases_lt}
 use Rattle.std.proofs.lemmas.List.{get_or-replicate, get_or-set_other, get_or-set_same, get_or_default, length-replicate}
 use Rattle.std.proofs.lemmas.List.Elements.{Contains-get_or}
 use Rattle.tcc_reads.specs.History.{History, count}
-use Rattle.tcc_graph.specs.Keys.{keys, key_at}
-use Rattle.tcc_graph.proofs.IndexedLemmas.{one_index}
-use Rattle.tcc_graph.proofs.SortedKeys.{keys_sorted}
+use Rattle.tcc_graph.specs.Keys.{key_at}
 use Rattle.tcc_least.proofs.ReadLemmas.{AreReadsAt, is_read, read_is}
 use Rattle.tcc_lanes.specs.declared.limits.TheConstants.{MOST_MEMBERS}
 use Rattle.tcc_lanes.specs.declared.words.TheConstants.{LANES}
 use Rattle.tcc_lanes.specs.private.Marks.{HasLane, IsAt}
 use Rattle.tcc_lanes.specs.private.Pricing.{AreColumns, IsMetAt, IsMetIn}
 use Rattle.tcc_lanes.proofs.Grown.{OneBelow, grown_more, grown_none, grown_same, one_earlier, one_last, one_or_last}
+use Rattle.tcc_lanes.proofs.MarkLemmas.{key_of_read}
 use Rattle.tcc_lanes.proofs.WordLemmas.{both_have, either_has}
 
 -- ---- columns
@@ -146,18 +145,16 @@ module _ (columns writers : List ℕ) (word : ℕ) (reads : List (ℕ × ℕ)) (
             omega (arith, within, all),
             (
               ap (λ (r : ℕ × ℕ). get_or columns r.1 0) read_here ∙ (ap (λ (b : ℕ). get_or columns b 0) from ∙ here),
-              (both_have word (get_or writers (get_or reads m (0, 0)).0 0) i).1
-                  (has, subst (λ (z : ℕ). IsAt writers z i) (sym (ap (λ (r : ℕ × ℕ). r.0) read_here ∙ same)) at),
+              (both_have word (get_or writers (get_or reads m (0, 0)).0 0) i).1 (
+                has,
+                subst (λ (z : ℕ). IsAt writers z i)
+                    (sym (key_of_read h reader reads are m k within inside (ap (λ (r : ℕ × ℕ). key_at h r.0) read_here ∙ key))) at,
+              ),
             ),
           )
             where
               read_here : get_or reads m (0, 0) ≡ read
               read_here = get_or_default reads m (0, 0) read within ∙ is
-
-              same : read.0 ≡ k
-              same =
-                  one_index (keys h) (keys_sorted h) read.0 k
-                  (subst (λ (r : ℕ × ℕ). r.0 < length (keys h)) read_here (are.within m (0, 0) within).0) inside key
 
 -- ---- all readers
 module _ (h : History) (columns writers reached old : List ℕ) where

@@ -1,19 +1,17 @@
 -- Prices of derived links by longer and longer walks.
-use Rattle.std.proofs.Common.{◌≡◌, ◌≢◌, ◌<◌, ◌≤◌, ◌+◌, ◌*◌, ◌⊎◌, ◌↔◌, inl, inr, ℕ, List, [], length, get_or, replicate, true, refl, sym, subst, ◌∙◌, arith}
+use Rattle.std.proofs.Common.{◌≡◌, ◌≢◌, ◌<◌, ◌≤◌, ◌+◌, ◌*◌, ◌⊎◌, ◌↔◌, inl, inr, ℕ, List, length, get_or, replicate, true, refl, sym, subst, ◌∙◌, arith}
 use Rattle.std.specs.List.{All}
 use Rattle.std.proofs.lemmas.Bool.{cases_lt}
-use Rattle.std.proofs.lemmas.List.{get_or-replicate, get_or_default, length-replicate}
+use Rattle.std.proofs.lemmas.List.{get_or-replicate, length-replicate}
 use Rattle.tcc_reads.specs.History.{History, count}
-use Rattle.tcc_graph.specs.Keys.{IsWriter, key_at, keys, writes}
+use Rattle.tcc_graph.specs.Keys.{IsWriter, key_at, writes}
 use Rattle.tcc_graph.specs.Levels.{Judged, judged, IsAllowedWalk}
 use Rattle.tcc_graph.specs.Links.{IsReason}
 use Rattle.tcc_graph.specs.Relations.{IsReadsPair}
 use Rattle.tcc_graph.specs.declared.level.Level.{Level}
 use Rattle.tcc_graph.specs.declared.step.Step.{Step}
-use Rattle.tcc_graph.proofs.KeysLemmas.{has_name-keys}
-use Rattle.tcc_graph.proofs.NameLemmas.{has_name-contains}
 use Rattle.tcc_graph.proofs.Walking.{walk_below}
-use Rattle.tcc_graph.proofs.WriterLemmas.{read_is_key}
+use Rattle.tcc_graph.proofs.WriterLemmas.{key_place}
 use Rattle.tcc_lanes.specs.declared.pricing.TheConstants.{NONE}
 use Rattle.tcc_lanes.specs.declared.words.TheConstants.{LANES}
 use Rattle.tcc_lanes.specs.private.Marks.{IsAt, AreMarksOf, AreWriterMarks}
@@ -22,12 +20,6 @@ use Rattle.tcc_lanes.specs.private.Walks.{AreWalked}
 use Rattle.tcc_lanes.specs.private.Pricing.{AreColumns, ArePrices, IsLowered, IsMetIn, cell}
 use Rattle.tcc_lanes.proofs.Walked.{none_walked, walked_more}
 use Rattle.tcc_lanes.proofs.WordLemmas.{zeros_nowhere}
-
--- what is read stands at some place among the keys
-key_place : (h : History) (a c : ℕ) (x : List ℕ) → IsReadsPair h a c x → (k : ℕ) × (k < length (keys h)) × (key_at h k ≡ x)
-key_place h a c x pair =
-    let there = has_name-contains (keys h) x (has_name-keys h x ∙ read_is_key h a c x pair) in
-    (there.0, there.1, get_or_default (keys h) there.0 [] x there.1 ∙ there.2)
 
 -- a lane has come, in so many steps at most, to a reader of what its start writes, which reads it from the member of a column
 abbrev pub IsFound : Judged → List ℕ → List ℕ → ℕ → ℕ → ℕ → Type 0

@@ -11,39 +11,12 @@ use Rattle.tcc_clocks.proofs.Reaching.{none_before, parent_or_init, session_more
 use Rattle.tcc_least.proofs.ReadLemmas.{AreReadsAt, is_read, read_is}
 use Rattle.tcc_lanes.specs.declared.words.TheConstants.{LANES}
 use Rattle.tcc_lanes.specs.private.Marks.{HasLane, IsAt, IsLedTo, IsReadFrom, IsRun, run_on}
-use Rattle.tcc_lanes.proofs.WordLemmas.{none_has, either_has}
+use Rattle.tcc_lanes.proofs.WordLemmas.{AreJoined, either_has, none_has}
 
 -- ---- the sources
--- the lane is marked at the source of one of the first reads
-abbrev pub IsReadIn : List ℕ → List (ℕ × ℕ) → ℕ → ℕ → Type 0
-IsReadIn marks reads end i = (k : ℕ) × (k < end) × IsAt marks (get_or reads k (0, 0)).1 i
-
+-- a word has the lanes that are marked at the source of one of the first reads
 abbrev pub AreIn : List ℕ → List (ℕ × ℕ) → ℕ → ℕ → Type 0
-AreIn marks reads end word = (i : ℕ) → i < LANES → HasLane word i ↔ IsReadIn marks reads end i
-
-pub in_none : (marks : List ℕ) (reads : List (ℕ × ℕ)) → AreIn marks reads 0 0
-in_none marks reads = λ i l. ((λ has. absurd (none_has i has)), λ w. absurd (omega (arith, w.1)))
-
-pub in_more : (marks : List ℕ) (reads : List (ℕ × ℕ)) (k word : ℕ) → AreIn marks reads k word
-    → AreIn marks reads (k + 1) (bit_or word (get_or marks (get_or reads k (0, 0)).1 0))
-in_more marks reads k word w = λ i l. (there i l, back i l)
-  where
-    one : ℕ
-    one = get_or marks (get_or reads k (0, 0)).1 0
-
-    there : (i : ℕ) → i < LANES → HasLane (bit_or word one) i → IsReadIn marks reads (k + 1) i
-    there i l has = go ((either_has word one i).0 has)
-      where
-        go : HasLane word i ⊎ HasLane one i → IsReadIn marks reads (k + 1) i
-        go (inl old) = let v = (w i l).0 old in (v.0, omega (arith, v.1), v.2)
-        go (inr new) = (k, omega arith, new)
-
-    back : (i : ℕ) → i < LANES → IsReadIn marks reads (k + 1) i → HasLane (bit_or word one) i
-    back i l (n, less, at) = go (cases_eq n k)
-      where
-        go : (n ≡ k) ⊎ (n ≢ k) → HasLane (bit_or word one) i
-        go (inl same) = (either_has word one i).1 (inr (subst (λ (m : ℕ). IsAt marks (get_or reads m (0, 0)).1 i) same at))
-        go (inr other) = (either_has word one i).1 (inl ((w i l).1 (n, omega (arith, less, other), at)))
+AreIn marks reads end word = AreJoined marks (λ k. (get_or reads k (0, 0)).1) end word
 
 pub in_all : (h : History) (marks : List ℕ) (v : ℕ) (reads : List (ℕ × ℕ)) → AreReadsAt h v reads → v < count h → (k word : ℕ) → length reads ≡ k
     → AreIn marks reads k word → (i : ℕ) → i < LANES → HasLane word i ↔ IsReadFrom h marks v i

@@ -1,5 +1,5 @@
 -- Words of marks: what is joined, what two have in common, and one mark more.
-use Rattle.std.proofs.Common.{◌≡◌, ◌≢◌, ◌<◌, ◌≤◌, ◌↔◌, ◌⊎◌, inl, inr, ℕ, IsTrue, not, nat_eq, replicate, sym, ap, subst, ◌∙◌, arith, w64, ◌*◌, ◌%◌, ◌^◌}
+use Rattle.std.proofs.Common.{◌≡◌, ◌≢◌, ◌<◌, ◌≤◌, ◌+◌, ◌↔◌, ◌⊎◌, inl, inr, ℕ, List, get_or, IsTrue, not, nat_eq, replicate, sym, ap, subst, ◌∙◌, arith, w64, ◌*◌, ◌%◌, ◌^◌}
 use Rattle.std.specs.Prelude.{bit_and, bit_or}
 use Rattle.std.specs.Int.{bit_at, bit_not, trailing_zeros}
 use Rattle.std.proofs.lemmas.Bool.{cases_eq, cases_lt, eq-eqb, false≢true, ne_eqb}
@@ -86,3 +86,32 @@ sharing a b fits = (there, back)
     back : (i : ℕ) × (i < LANES) × HasLane a i × HasLane b i → IsTrue (not (nat_eq (bit_and a b) 0))
     back (i, inside, in_a, in_b) =
         ap not (ne_eqb (bit_and a b) 0 (λ none. none_has i (subst (λ (w : ℕ). HasLane w i) none ((both_have a b i).1 (in_a, in_b)))))
+
+-- ---- words joined
+-- a word has the lanes that are marked at one of the first of some places
+abbrev pub AreJoined : List ℕ → (ℕ → ℕ) → ℕ → ℕ → Type 0
+AreJoined marks place end word = (i : ℕ) → i < LANES → HasLane word i ↔ ((n : ℕ) × (n < end) × IsAt marks (place n) i)
+
+pub joined_none : (marks : List ℕ) (place : ℕ → ℕ) → AreJoined marks place 0 0
+joined_none marks place = λ i l. ((λ has. absurd (none_has i has)), λ w. absurd (omega (arith, w.1)))
+
+pub joined_more : (marks : List ℕ) (place : ℕ → ℕ) (k word : ℕ) → AreJoined marks place k word
+    → AreJoined marks place (k + 1) (bit_or word (get_or marks (place k) 0))
+joined_more marks place k word w = λ i l. (there i l, back i l)
+  where
+    one : ℕ
+    one = get_or marks (place k) 0
+
+    there : (i : ℕ) → i < LANES → HasLane (bit_or word one) i → (n : ℕ) × (n < k + 1) × IsAt marks (place n) i
+    there i l has = go ((either_has word one i).0 has)
+      where
+        go : HasLane word i ⊎ HasLane one i → (n : ℕ) × (n < k + 1) × IsAt marks (place n) i
+        go (inl old) = let v = (w i l).0 old in (v.0, omega (arith, v.1), v.2)
+        go (inr new) = (k, omega arith, new)
+
+    back : (i : ℕ) → i < LANES → (n : ℕ) × (n < k + 1) × IsAt marks (place n) i → HasLane (bit_or word one) i
+    back i l (n, less, at) = go (cases_eq n k)
+      where
+        go : (n ≡ k) ⊎ (n ≢ k) → HasLane (bit_or word one) i
+        go (inl same) = (either_has word one i).1 (inr (subst (λ (m : ℕ). IsAt marks (place m) i) same at))
+        go (inr other) = (either_has word one i).1 (inl ((w i l).1 (n, omega (arith, less, other), at)))

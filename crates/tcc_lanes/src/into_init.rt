@@ -10,8 +10,8 @@ ghost use Rattle.tcc_lanes.specs.Among.{HasCheaperIntoInit};
 ghost use Rattle.tcc_lanes.specs.private.Marks.{HasLane};
 ghost use Rattle.tcc_lanes.specs.private.IntoInit.{AreBegun, HasIntoInit, IsMetByInit, IsReadOfInit, IsWrittenBy};
 
+use crate::frontier::walked;
 use crate::marking::marks_of;
-use crate::walking::walked;
 use crate::words::{LANES, shares};
 use std::alloc::Global;
 use tcc_clocks::previous_of_each;

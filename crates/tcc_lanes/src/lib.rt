@@ -3,6 +3,7 @@
 #![tactic(auto)]
 
 mod among;
+mod frontier;
 mod into_init;
 pub mod laws;
 mod limits;
@@ -12,7 +13,6 @@ mod price_rows;
 mod pricing;
 mod settling;
 mod spreading;
-mod walking;
 mod words;
 
 pub use among::has_cheaper_among;

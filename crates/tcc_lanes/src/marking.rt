@@ -1,5 +1,5 @@
 //! Marks where lanes are.
-ghost use Rattle.std.specs.Prelude.{◌≡◌, ◌≤◌, ◌<◌, ◌↔◌, ◌⊎◌, ℕ, length, slice_index, All, Contains, IfOk};
+ghost use Rattle.std.specs.Prelude.{◌≡◌, ◌≤◌, ◌<◌, ◌↔◌, ◌⊎◌, ℕ, length, All, Contains, IfOk};
 ghost use Rattle.tcc_reads.specs.History.{count};
 ghost use Rattle.tcc_graph.specs.Keys.{keys};
 ghost use Rattle.tcc_lanes.specs.private.Marks.{AreMarksOf, AreWriterMarks, IsAt};

@@ -1,5 +1,5 @@
 //! Which lanes have come to a reader of what their starts write, by the member that it is read from.
-ghost use Rattle.std.specs.Prelude.{◌≡◌, ◌≤◌, ◌<◌, ◌↔◌, ◌⊎◌, ℕ, length, slice_index, All, AllPairs, IfOk};
+ghost use Rattle.std.specs.Prelude.{◌≡◌, ◌≤◌, ◌<◌, ◌↔◌, ◌⊎◌, ℕ, length, All, AllPairs, IfOk};
 ghost use Rattle.tcc_reads.specs.History.{count};
 ghost use Rattle.tcc_graph.specs.Keys.{keys};
 ghost use Rattle.tcc_lanes.specs.declared.limits.TheConstants.{MOST_MEMBERS};
@@ -54,7 +54,7 @@ fn meet_at(
     }
 }
 
-/// So of all transactions, by the lanes that have come to each.
+/// Adds for each transaction the lanes that have come to it and that its reads show.
 pub(crate) fn meet(
     graph: &LargeGraph,
     columns: &[u32],

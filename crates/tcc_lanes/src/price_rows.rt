@@ -1,5 +1,5 @@
 //! A row of prices for each member.
-ghost use Rattle.std.specs.Prelude.{◌≡◌, ◌≤◌, ◌<◌, ◌+◌, ◌*◌, ℕ, List, length, if◌then◌else◌, All, AllPairs, IfOk, OnOk};
+ghost use Rattle.std.specs.Prelude.{◌≡◌, ◌≤◌, ◌<◌, ◌+◌, ◌*◌, List, length, if◌then◌else◌, All, AllPairs, IfOk, OnOk};
 ghost use Rattle.tcc_reads.specs.History.{count};
 ghost use Rattle.tcc_graph.specs.Levels.{IsAllowed, judged};
 ghost use Rattle.tcc_graph.specs.Relations.{causal_pair};

@@ -1,7 +1,7 @@
 //! What links among members cost: 1 where there is a pair, and else a step more than the shortest walk of a derived link, found from
 //! 64 members at a time. For M members, N transactions and R reads, and walks of so many steps at most, that takes M / 64 times so
 //! many sweeps of N + R, and M * M bytes.
-ghost use Rattle.std.specs.Prelude.{◌≡◌, ◌≢◌, ◌≤◌, ◌<◌, ◌+◌, ◌*◌, ◌↔◌, ℕ, IsTrue, [], length, slice_index, slice_index_or, All, AllPairs, IfOk, OnOk};
+ghost use Rattle.std.specs.Prelude.{◌≡◌, ◌≢◌, ◌≤◌, ◌<◌, ◌+◌, ◌*◌, ◌↔◌, ℕ, IsTrue, length, slice_index, All, IfOk};
 ghost use Rattle.tcc_reads.specs.History.{IsBySession, count};
 ghost use Rattle.tcc_graph.specs.Levels.{judged};
 ghost use Rattle.tcc_clocks.specs.Parents.{ArePrevious};
@@ -11,9 +11,9 @@ ghost use Rattle.tcc_lanes.specs.declared.pricing.TheConstants.{NONE};
 ghost use Rattle.tcc_lanes.specs.private.Marks.{HasLane, IsAt};
 ghost use Rattle.tcc_lanes.specs.private.Pricing.{AreColumns, ArePrices, IsLowered, cell};
 
+use crate::frontier::walk_on;
 use crate::marking::{marks_of, writer_marks};
 use crate::meeting::{columns_of, meet};
-use crate::walking::walk_on;
 use crate::words::{LANES, has_lane};
 use std::alloc::Global;
 use tcc_graph::{LargeGraph, Level};
@@ -56,7 +56,7 @@ fn lower_column(table: &mut [u8], column: usize, starts: &[u32], word: u64, to: 
     }
 }
 
-/// So of each column.
+/// Lowers the prices of each column for the lanes of its word, where these start elsewhere.
 fn lower(table: &mut [u8], members: &[u32], starts: &[u32], found: &[u64], price: u8)
     requires lanes { length starts.now ≤ LANES }
     requires few { length members.now ≤ MOST_MEMBERS }

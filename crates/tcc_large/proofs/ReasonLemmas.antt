@@ -1,20 +1,18 @@
 -- Derived links between two transactions, by what was looked at so far.
-use Rattle.std.proofs.Common.{ℕ, ◌+◌, ◌<◌, ◌≤◌, ◌≡◌, ◌≢◌, ◌⊎◌, inl, inr, false, List, [], ◌∷◌, length, get_or, refl, sym, ap, subst, ◌∙◌, arith}
-use Rattle.std.specs.Prelude.{slice_index}
+use Rattle.std.proofs.Common.{ℕ, ◌+◌, ◌<◌, ◌≤◌, ◌≡◌, ◌≢◌, ◌⊎◌, inl, inr, false, List, [], ◌∷◌, length, get_or, map, refl, sym, ap, subst, ◌∙◌, arith}
+use Rattle.std.specs.Prelude.{All, slice_index}
 use Rattle.std.proofs.lemmas.Bool.{cases_lt, false≢true}
-use Rattle.std.proofs.lemmas.List.{get_or_default}
+use Rattle.std.proofs.lemmas.List.{get_or-map, get_or_default, get_or_read}
 use Rattle.tcc_reads.specs.History.{History, count}
 use Rattle.tcc_graph.specs.Relations.{IsCausalPair, IsReadsPair, causal_pair, reads_from}
-use Rattle.tcc_graph.specs.Keys.{IsWriter}
+use Rattle.tcc_graph.specs.KeyIndices.{name_of}
+use Rattle.tcc_graph.specs.Keys.{IsWriter, key_at, keys}
 use Rattle.tcc_graph.specs.Levels.{Judged, causally, atomically}
 use Rattle.tcc_graph.specs.Links.{MayContradict}
-use Rattle.tcc_graph.specs.Readings.{AreReadings}
 use Rattle.tcc_graph.specs.Walks.{step_from, step_to, IsStep, IsWalk}
 use Rattle.tcc_graph.specs.declared.step.Step.{Step}
 use Rattle.tcc_graph.specs.declared.link.Link.TheVariants as link
 use Rattle.tcc_graph.proofs.Pairs.{pair_from_kinds, step_pair}
-use Rattle.tcc_least.proofs.Built.{NoneOverwritten}
-use Rattle.tcc_least.proofs.Listed.{at_pair}
 use Rattle.tcc_order.specs.Placements.{IsDerivedPair}
 use Rattle.tcc_large.specs.private.Reaching.{IsReach, IsMore, AreSpread, number_at}
 use Rattle.tcc_large.specs.private.Retracing.{IsHeldBack, IsLinkBetween}
@@ -45,6 +43,15 @@ WritesNone h from keys n = (k : ℕ) → k < n → IsWriter h from (get_or keys 
 pub none_more : (h : History) (from : ℕ) (keys : List (List ℕ)) (n : ℕ) → WritesNone h from keys n → (IsWriter h from (get_or keys n []) → ⊥)
     → WritesNone h from keys (n + 1)
 none_more h from keys n none here = one_more (λ k. IsWriter h from (get_or keys k []) → ⊥) n none here
+
+-- the key at an index among those that one reads from another
+pub key_read : (h : History) (a b n : ℕ) (indices : List ℕ) (names : List (List ℕ)) (one : List ℕ) → names ≡ keys h → map (key_at h) indices ≡ reads_from h a b
+    → All (λ k. k < length (keys h)) indices → n < length indices → one ≡ get_or names (get_or indices n 0) one → one ≡ get_or (reads_from h a b) n []
+key_read h a b n indices names one all same within inside is =
+    let below : get_or indices n 0 < length (keys h) = within n 0 inside in
+    let there : get_or indices n 0 < length names = rw all below in
+    get_or_read names (get_or indices n 0) one there is [] ∙ ap (λ ns. name_of ns (get_or indices n 0)) all
+    ∙ sym (get_or-map (key_at h) indices n 0 [] inside) ∙ ap (λ ns. get_or ns n []) same
 
 pub none_contradicts : (h : History) (from to reader n : ℕ) → length (reads_from h to reader) ≤ n → WritesNone h from (reads_from h to reader) n
     → (x : List ℕ) → MayContradict h from to x reader → ⊥
@@ -94,11 +101,9 @@ one_pair h b c (s ∷ []) path one =
     subst (λ (z : ℕ). IsCausalPair h z c) path.1.0 (subst (λ (z : ℕ). IsCausalPair h (step_from s) z) path.1.2 (step_pair h s path.1.1))
 one_pair h b c (s ∷ t ∷ steps) path one = absurd (omega (arith, one))
 
-pub no_step : (h : History) (from to : ℕ) (readers : List ℕ) (names : List (List ℕ)) (n : ℕ) → AreReadings h to readers names → length readers ≤ n
-    → NoneOverwritten h from readers names n → IsDerivedPair (atomically h) from to → ⊥
-no_step h from to readers names n are all none (x, c, walk, ((apart, reads, writer), (path, allowed))) =
-    let w = at_pair readers names [] are.long c x ((are.each c x).1 reads) in
-    none w.0 (omega (arith, w.1, all)) (rw (w.2, w.3) (writer, one_pair h from c walk path allowed))
+-- and such a link has a reader to which a pair leads
+pub step_read : (h : History) (from to : ℕ) → IsDerivedPair (atomically h) from to → (x : List ℕ) × (c : ℕ) × MayContradict h from to x c × IsCausalPair h from c
+step_read h from to (x, c, walk, (contradicts, (path, allowed))) = (x, c, contradicts, one_pair h from c walk path allowed)
 
 -- the link of one step
 pub step_link : (h : History) (b a d : ℕ) (x : List ℕ) (s : Step) → b ≢ a → IsReadsPair h a d x → IsWriter h b x → step_from s ≡ b → step_to s ≡ d

@@ -15,7 +15,7 @@ use Rattle.tcc_clocks.specs.Parents.{parents, HasSourcesAt}
 use Rattle.tcc_clocks.proofs.Along.{parents_below}
 use Rattle.tcc_clocks.proofs.Reaching.{parent_pair}
 use Rattle.tcc_order.specs.Placements.{HoldsBack, IsLeft, IsStuck}
-use Rattle.tcc_large.specs.Cycles.{AreCycle}
+use Rattle.tcc_graph.specs.Routes.{AreCycle}
 use Rattle.tcc_large.specs.private.Retracing.{GoesRound, IsHeldBack, IsLinkBetween}
 use Rattle.tcc_large.proofs.Numbered.{AreNumbered, numbered_room}
 use Rattle.tcc_large.proofs.ReasonLemmas.{derived_ends}

@@ -11,7 +11,8 @@ use Rattle.tcc_graph.specs.declared.link.Link.{Link}
 use Rattle.tcc_graph.proofs.Linking.{cost_append, some_links}
 use Rattle.tcc_graph.proofs.Pairs.{link_below}
 use Rattle.tcc_least.specs.Shapes.{AreLeast}
-use Rattle.tcc_large.specs.Cycles.{AreCycle, IsSimple}
+use Rattle.tcc_graph.specs.Routes.{AreCycle}
+use Rattle.tcc_large.specs.Cycles.{IsSimple}
 use Rattle.tcc_large.specs.private.Returning.{start_at, end_at, IsClosed, IsFirstReturn}
 use Rattle.tcc_large.proofs.Numbered.{AreNumbered, numbered_room, numbered_more}
 

@@ -5,7 +5,8 @@ use Rattle.tcc_graph.specs.Links.{cost}
 use Rattle.tcc_graph.specs.Orders.{IsFirstOrder}
 use Rattle.tcc_graph.specs.declared.link.Link.{Link}
 use Rattle.tcc_least.specs.Shapes.{AreLeast, NoneBelow}
-use Rattle.tcc_large.specs.Cycles.{AreCycle, IsSimple}
+use Rattle.tcc_graph.specs.Routes.{AreCycle}
+use Rattle.tcc_large.specs.Cycles.{IsSimple}
 use Rattle.tcc_large.specs.declared.decision.Decision.{Decision}
 use Rattle.tcc_large.specs.declared.decision.Decision.TheVariants as decision
 

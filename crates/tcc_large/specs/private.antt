@@ -1,6 +1,4 @@
 -- What nobody has to believe: private functions say it to one another, or proofs to themselves.
-pub mod Carrying
-pub mod Needing
 pub mod Reaching
 pub mod Retracing
 pub mod Returning

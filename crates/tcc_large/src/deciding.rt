@@ -2,19 +2,18 @@
 ghost use Rattle.std.specs.Prelude.{◌≡◌, IfOk};
 ghost use Rattle.tcc_graph.specs.Links.{cost};
 ghost use Rattle.tcc_graph.specs.declared.level.Level.{Level};
-ghost use Rattle.tcc_large.specs.Cycles.{AreCycle};
+ghost use Rattle.tcc_graph.specs.Routes.{AreCycle};
 ghost use Rattle.tcc_large.specs.Decisions.{IsDecision};
 ghost use Rattle.tcc_graph.specs.Levels.{judged};
 ghost use Rattle.tcc_order.specs.Placements.{IsPlacement, IsStuck};
 
 use crate::decision::Decision;
 use crate::finding::found_cycle;
-use crate::judging::is_cycle;
 use crate::lining::order_to_judge;
 use crate::retracing::cycle_of;
 use crate::simple::simple_cycle;
 use std::alloc::Global;
-use tcc_graph::{LargeGraph, Level, Link};
+use tcc_graph::{LargeGraph, Level, Link, is_cycle};
 use tcc_least::least_short;
 use tcc_order::{Placement, Stuck, place};
 use tcc_txn::NoMemory;

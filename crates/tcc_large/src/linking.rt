@@ -70,7 +70,7 @@ fn step(pairs: &Pairs<'_>, from: u32, to: u32) -> Option<Step> {
     if pairs.is_session(from, to) {
         return Some(Step::Session { from, to });
     }
-    let key = *pairs.reads_from(from, to).first()?;
+    let key = pairs.key(*pairs.reads_from(from, to).first()?)?;
     Some(Step::Reads { from, to, key })
 }
 

@@ -171,10 +171,10 @@ impl<'a> Pairs<'a> {
         }
     }
 
-    /// The keys that one transaction reads from another.
-    pub(crate) fn reads_from(&self, source: u32, reader: u32) -> &'a [Name] {
+    /// The indices of the keys that one transaction reads from another.
+    pub(crate) fn reads_from(&self, source: u32, reader: u32) -> &'a [u32] {
         if source < self.graph.count() && reader < self.graph.count() {
-            self.graph.reads_from(source, reader)
+            self.graph.reads_from_at(source, reader)
         } else {
             &[]
         }

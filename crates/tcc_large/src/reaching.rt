@@ -181,7 +181,7 @@ impl Reach {
         graph.count();
         let from = self.queue[position as usize].0;
         self.spread_session(graph, position)?;
-        let (readers, _keys) = graph.readings(from);
+        let (readers, _key_indices) = graph.readings_at(from);
         self.meet_each(graph, position, readers)?;
         Ok(())
     }

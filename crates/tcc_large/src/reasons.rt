@@ -1,8 +1,6 @@
 //! The link between two transactions of which one is known to stand before the other.
-ghost use Rattle.std.specs.Prelude.{◌≡◌, ◌≢◌, ◌<◌, ◌⊎◌, ◌↔◌, List, ℕ, IfOk, IsTrue, MatchOption};
+ghost use Rattle.std.specs.Prelude.{◌≢◌, ◌<◌, List, ℕ, IfOk, MatchOption};
 ghost use Rattle.tcc_reads.specs.History.{count};
-ghost use Rattle.tcc_graph.specs.Relations.{IsReadsPair};
-ghost use Rattle.tcc_least.specs.private.Building.{Overwrites};
 ghost use Rattle.tcc_graph.specs.Levels.{causally, atomically, judged};
 ghost use Rattle.tcc_graph.specs.Links.{MayContradict};
 ghost use Rattle.tcc_order.specs.Placements.{IsDerivedPair};
@@ -11,6 +9,7 @@ ghost use Rattle.tcc_large.specs.private.Retracing.{IsHeldBack, IsLinkBetween};
 use crate::reaching::Reach;
 use std::alloc::Global;
 use tcc_graph::{LargeGraph, Level, Link, Walk};
+use tcc_least::overwritten;
 use tcc_txn::{Name, NoMemory};
 
 /// A key that the reader reads from `to`, and that `from`, another transaction, writes too.
@@ -21,9 +20,11 @@ fn contradicted(graph: &LargeGraph, from: u32, to: u32, reader: u32) -> Option<N
     ensures { MatchOption result ((x : List ℕ) → MayContradict graph.now from to x reader → ⊥)
         (λ key. MayContradict graph.now from to key reader) }
 {
-    for key in graph.reads_from(to, reader) {
-        if graph.is_writer(from, key) {
-            return Some(*key);
+    let keys = graph.keys();
+    for key_index in graph.reads_from_at(to, reader) {
+        let key = keys[*key_index as usize];
+        if graph.is_writer(from, &key) {
+            return Some(key);
         }
     }
     None
@@ -49,29 +50,6 @@ fn derived_by_walk(alloc: Global, graph: &LargeGraph, from: u32, to: u32) -> Res
                 reader,
                 walk,
             });
-        }
-    }
-    unreachable!()
-}
-
-/// Whether a transaction writes the key, and a pair leads from it to the reader.
-fn overwrites(graph: &LargeGraph, from: u32, reader: u32, key: &Name) -> bool
-    requires from { from < count graph.now }
-    requires reader { reader < count graph.now }
-    ensures { IsTrue result ↔ Overwrites graph.now from reader key.now }
-{
-    graph.is_writer(from, key) && graph.causal(from, reader)
-}
-
-/// A reader of `to`, and a key that it reads there, which `from` writes too, from which a pair leads to the reader.
-fn overwritten(graph: &LargeGraph, from: u32, to: u32) -> (u32, Name)
-    requires { IsDerivedPair (atomically graph.now) from to }
-    ensures { IsReadsPair graph.now to result.0 result.1 × Overwrites graph.now from result.0 result.1 }
-{
-    let (readers, keys) = graph.readings(to);
-    for index in 0..readers.len() {
-        if overwrites(graph, from, readers[index], &keys[index]) {
-            return (readers[index], keys[index]);
         }
     }
     unreachable!()

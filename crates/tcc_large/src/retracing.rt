@@ -6,7 +6,7 @@ ghost use Rattle.tcc_graph.specs.Levels.{judged};
 ghost use Rattle.tcc_graph.specs.Relations.{IsSessionPair};
 ghost use Rattle.tcc_bits.specs.Bits.{is_marked};
 ghost use Rattle.tcc_order.specs.Placements.{IsLeft, IsStuck};
-ghost use Rattle.tcc_large.specs.Cycles.{AreCycle};
+ghost use Rattle.tcc_graph.specs.Routes.{AreCycle};
 ghost use Rattle.tcc_large.specs.private.Retracing.{IsHeldBack, GoesRound};
 
 use crate::cells::Cells;

@@ -3,7 +3,8 @@
 //! transaction.
 ghost use Rattle.std.specs.Prelude.{IfOk};
 ghost use Rattle.tcc_graph.specs.Levels.{Judged};
-ghost use Rattle.tcc_large.specs.Cycles.{AreCycle, IsSimple};
+ghost use Rattle.tcc_graph.specs.Routes.{AreCycle};
+ghost use Rattle.tcc_large.specs.Cycles.{IsSimple};
 ghost use Rattle.tcc_large.specs.private.Returning.{IsClosed, IsFirstReturn};
 
 use crate::cells::Cells;

@@ -5,11 +5,13 @@ use Rattle.tcc_txn.specs.Snapshots.{Sessions}
 use Rattle.tcc_reads.specs.Sources.{history}
 use Rattle.tcc_cert.specs.LargeReading.{is_large}
 use Rattle.tcc_cert.specs.declared.certificate.Certificate.{Certificate}
+use Rattle.tcc_check.specs.Asked.{IsVerdictOf}
 use Rattle.tcc_check.specs.Verdicts.{IsVerdict}
 use Rattle.tcc_check.specs.declared.stream_fault.StreamFault.{StreamFault}
 use Rattle.tcc_check.specs.declared.stream_fault.StreamFault.TheVariants.{Text, NoMemory}
+use Rattle.tcc_check.specs.declared.verdict.Rule.{Rule}
 use Rattle.tcc_check.specs.declared.verdict.Verdict.{Verdict}
-use Rattle.tcc_judge.specs.Verdicts.{IsVerdictOf, rules_of}
+use Rattle.tcc_judge.specs.Verdicts.{rules_of}
 use Rattle.tcc_print.specs.declared.halt.Halt.{Halt}
 use Rattle.tcc_print.specs.private.Halts.{by_stream}
 use Rattle.tcc_verdict.specs.private.Stages.{MayBeOfText}
@@ -25,7 +27,7 @@ same_history : (s : Sessions) (graph : SizedGraph) → IsSizedHistory s graph �
 same_history s (Small h) sized = sized.1
 same_history s (Large h) sized = sized.1
 
-verdict_for : (s : Sessions) (graph : SizedGraph) (c : Certificate) (v : Verdict) → IsSizedHistory s graph → IsSizedVerdict graph c v → IsVerdictFor s c v
+verdict_for : (s : Sessions) (graph : SizedGraph) (c : Certificate) (v : Verdict Rule) → IsSizedHistory s graph → IsSizedVerdict graph c v → IsVerdictFor s c v
 verdict_for s (Small h) c v sized is = inl (sized.0, subst (λ h. IsVerdict h c v) sized.1 is)
 verdict_for s (Large h) c v sized is = inr (sized.0, is)
 

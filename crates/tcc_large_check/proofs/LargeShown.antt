@@ -9,17 +9,18 @@ use Rattle.tcc_reads.specs.Sources.{history}
 use Rattle.tcc_cert.specs.Rules.{Certifies}
 use Rattle.tcc_cert.specs.declared.certificate.Certificate.{Certificate}
 use Rattle.tcc_cert.specs.declared.large.LargeCertificate.{LargeCertificate}
+use Rattle.tcc_check.specs.Asked.{AllHold, IsVerdictOf}
 use Rattle.tcc_check.specs.Verdicts.{IsTrueClaim}
+use Rattle.tcc_check.specs.declared.verdict.Rule.{Rule}
 use Rattle.tcc_check.specs.declared.verdict.Verdict.{Verdict}
 use Rattle.tcc_check.specs.declared.verdict.Verdict.TheVariants as verdict
-use Rattle.tcc_judge.specs.Verdicts.{AllHold, IsVerdictOf, rules_of}
-use Rattle.tcc_judge.specs.declared.verdict.Verdict.{Verdict as JudgeVerdict}
-use Rattle.tcc_judge.specs.declared.verdict.Verdict.TheVariants as judge_verdict
+use Rattle.tcc_judge.specs.Verdicts.{rules_of}
+use Rattle.tcc_judge.specs.declared.verdict.Rule.{Rule as LargeRule}
 use Rattle.tcc_print.specs.Statuses.{code_of, verdict_status}
 use Rattle.tcc_verdict.specs.Checking.{IsRun}
 use Rattle.tcc_verdict.proofs.Shown.{Succeeds, TellsHalts, run_succeeds}
 use Rattle.tcc_large_check.specs.LargeChecks.{IsLargeShown, IsLargeTextCheck, IsTrueLargeClaim, IsTrueText, IsVerdictFor, large_check}
-use Rattle.tcc_large_check.specs.LargeTexts.{judge_status, large_status}
+use Rattle.tcc_large_check.specs.LargeTexts.{large_status}
 use Rattle.tcc_large_check.specs.declared.judgement.LargeJudgement.{LargeJudgement}
 use Rattle.tcc_large_check.specs.declared.judgement.LargeJudgement.TheVariants.{Small, Large}
 
@@ -28,15 +29,15 @@ large_tells = record { text = λ why. refl; status = λ why. refl }
 
 module _ (certified : (h : History) (k : Certificate) → Certifies h k → IsTrueClaim h k)
     (accepted : (s : Sessions) (k : LargeCertificate) → AllHold (rules_of (history s) k) → IsTrueLargeClaim (history s) k) (s : Sessions) where
-  small_true : (c : Certificate) (v : Verdict) → IsVerdictFor s c v → code_of (verdict_status v) ≡ 0 → IsTrueClaim (history s) c
+  small_true : (c : Certificate) (v : Verdict Rule) → IsVerdictFor s c v → code_of (verdict_status v) ≡ 0 → IsTrueClaim (history s) c
   small_true c verdict.Accepted (inl is) success = certified (history s) c is.1
   small_true c verdict.Accepted (inr past) success = let e = past.1 in let bad : ⊥ = cc in absurd bad
   small_true c (verdict.Rejected rule at) is success = let bad : ⊥ = cc in absurd bad
 
-  large_true : (c : LargeCertificate) (v : JudgeVerdict) → IsVerdictOf (rules_of (history s) c) v → code_of (judge_status v) ≡ 0
+  large_true : (c : LargeCertificate) (v : Verdict LargeRule) → IsVerdictOf (rules_of (history s) c) v → code_of (verdict_status v) ≡ 0
       → IsTrueLargeClaim (history s) c
-  large_true c judge_verdict.Accepted is success = accepted s c is
-  large_true c (judge_verdict.Rejected rule at) is success = let bad : ⊥ = cc in absurd bad
+  large_true c verdict.Accepted is success = accepted s c is
+  large_true c (verdict.Rejected rule at) is success = let bad : ⊥ = cc in absurd bad
 
   -- what a judgement that ends with success is about is true
   text_true : (text : List ℕ) (j : LargeJudgement) → IsLargeTextCheck s text (Ok j) → code_of (large_status j) ≡ 0 → IsTrueText (history s) text

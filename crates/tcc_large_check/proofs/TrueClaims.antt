@@ -13,11 +13,12 @@ use Rattle.tcc_cert.specs.declared.large.LargeCertificate.TheVariants as certifi
 use Rattle.tcc_cert.specs.declared.large.LinksClaim.{LinksClaim}
 use Rattle.tcc_cert.specs.declared.large.Run.{Run}
 use Rattle.tcc_judge.specs.Cycles.{IsRightCycle}
-use Rattle.tcc_judge.specs.Verdicts.{AllHold, least_rules_of, rules_of}
+use Rattle.tcc_judge.specs.Verdicts.{least_rules_of, rules_of}
 use Rattle.tcc_judge.proofs.Certified.{least_cycle, right_cycle}
 use Rattle.tcc_judge.proofs.Ordered.{accepted_order}
 use Rattle.tcc_large_check.specs.LargeChecks.{IsTrueLargeClaim}
 use Rattle.tcc_large_check.proofs.Owned.{owned}
+use Rattle.tcc_check.specs.Asked.{AllHold}
 
 -- a cycle, and a least one where that is claimed
 cycle_true : (h : History) (k : LinksClaim) (least : Option (List Run)) → IsRightCycle h k → AllHold (least_rules_of h k.level k.cost least)

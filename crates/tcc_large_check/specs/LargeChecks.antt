@@ -22,11 +22,13 @@ use Rattle.tcc_cert.specs.declared.large.LargeCertificate.{LargeCertificate}
 use Rattle.tcc_cert.specs.declared.large.LargeCertificate.TheVariants as certificate
 use Rattle.tcc_check.specs.Streams.{claim_of}
 use Rattle.tcc_check.specs.Verdicts.{IsVerdict, IsTrueClaim}
+use Rattle.tcc_check.specs.declared.verdict.Rule.{Rule}
 use Rattle.tcc_check.specs.declared.verdict.Rule.TheVariants.{Sizes}
 use Rattle.tcc_check.specs.declared.verdict.Verdict.{Verdict}
 use Rattle.tcc_check.specs.declared.verdict.Verdict.TheVariants as verdict
 use Rattle.tcc_judge.specs.Runs.{order_of}
-use Rattle.tcc_judge.specs.Verdicts.{IsVerdictOf, rules_of}
+use Rattle.tcc_check.specs.Asked.{IsVerdictOf}
+use Rattle.tcc_judge.specs.Verdicts.{rules_of}
 use Rattle.tcc_print.specs.declared.halt.Halt.{Halt}
 use Rattle.tcc_print.specs.declared.halt.Halt.TheVariants.{Text}
 use Rattle.tcc_verdict.specs.Checking.{Check}
@@ -43,7 +45,7 @@ large_claim_of (certificate.Cycle k) = claim.Cycle k.cost (is_some k.least)
 
 -- the verdict on a certificate of version 1 or 2: within the small limits by its rules; past them it is rejected by the one on sizes,
 -- since these versions are of histories within them
-abbrev pub IsVerdictFor : Sessions → Certificate → Verdict → Type 0
+abbrev pub IsVerdictFor : Sessions → Certificate → Verdict Rule → Type 0
 IsVerdictFor s c v = (KeepsLimits s × IsVerdict (history s) c v) ⊎ ((KeepsLimits s → ⊥) × (v ≡ verdict.Rejected Sizes (0, 0)))
 
 -- the first fault of a text of any version, or that of a reader that failed before

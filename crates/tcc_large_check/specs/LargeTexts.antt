@@ -3,13 +3,12 @@ use Rattle.std.specs.Prelude.{ℕ, true, false, List, ◌++◌, Result, Ok, Err,
 use Rattle.tcc_check.specs.declared.judgement.Claim.TheVariants as claim
 use Rattle.tcc_judge.specs.Verdicts.{rule_number}
 use Rattle.tcc_judge.specs.declared.verdict.Rule.{Rule}
-use Rattle.tcc_judge.specs.declared.verdict.Verdict.{Verdict}
-use Rattle.tcc_judge.specs.declared.verdict.Verdict.TheVariants as verdict
+use Rattle.tcc_check.specs.declared.verdict.Verdict.{Verdict}
+use Rattle.tcc_check.specs.declared.verdict.Verdict.TheVariants as verdict
 use Rattle.tcc_print.specs.Statuses.{halt_status, verdict_status}
-use Rattle.tcc_print.specs.Texts.{accepted_text, halt_text, verdict_text}
+use Rattle.tcc_print.specs.Texts.{accepted_text, halt_text, rejected_text, verdict_text}
 use Rattle.tcc_print.specs.declared.halt.Halt.{Halt}
 use Rattle.tcc_print.specs.declared.status.Status.{Status}
-use Rattle.tcc_print.specs.declared.status.Status.TheVariants.{Success, Rejected}
 use Rattle.tcc_large_check.specs.declared.judgement.LargeClaim.{LargeClaim}
 use Rattle.tcc_large_check.specs.declared.judgement.LargeClaim.TheVariants.{Order, Cycle}
 use Rattle.tcc_large_check.specs.declared.judgement.LargeJudgement.{LargeJudgement}
@@ -21,28 +20,19 @@ large_accepted_text Order = accepted_text claim.Order
 large_accepted_text (Cycle cost true) = accepted_text (claim.Cycle cost)
 large_accepted_text (Cycle cost false) = codes "accepted: cycle, " ++ (decimal cost ++ codes " steps, least not claimed\n")
 
--- rejected: rule K at I J
-abbrev pub large_rejected_text : Rule → ℕ × ℕ → List ℕ
-large_rejected_text rule at =
-    codes "rejected: rule " ++ (decimal (rule_number rule) ++ (codes " at " ++ (decimal at.0 ++ (codes " " ++ (decimal at.1 ++ codes "\n")))))
-
 -- the line of a claim and the verdict on it
-abbrev pub large_line : LargeClaim → Verdict → List ℕ
+abbrev pub large_line : LargeClaim → Verdict Rule → List ℕ
 large_line k verdict.Accepted = large_accepted_text k
-large_line k (verdict.Rejected rule at) = large_rejected_text rule at
+large_line k (verdict.Rejected rule at) = rejected_text (rule_number rule) at
 
 abbrev pub large_verdict_text : LargeJudgement → List ℕ
 large_verdict_text (Small judged) = verdict_text judged.claim judged.verdict
 large_verdict_text (Large k v) = large_line k v
 
--- how a run ends that gave a verdict on a claim of version 3
-abbrev pub judge_status : Verdict → Status
-judge_status verdict.Accepted = Success
-judge_status (verdict.Rejected rule at) = Rejected
-
+-- how a run ends that gave a verdict
 abbrev pub large_status : LargeJudgement → Status
 large_status (Small judged) = verdict_status judged.verdict
-large_status (Large k v) = judge_status v
+large_status (Large k v) = verdict_status v
 
 -- what a run of check --large prints, and how it ends
 abbrev pub large_check_text : Result LargeJudgement Halt → List ℕ

@@ -7,10 +7,10 @@ ghost use Rattle.tcc_large_check.specs.LargeChecks.{IsLargeShown, large_check};
 ghost use Rattle.tcc_large_check.specs.private.Stages.{IsSizedHistory};
 
 use crate::LargeJudgement;
-use crate::judging::judged;
 use crate::laws::accepted;
 use crate::printing::print_large_check;
 use crate::sized::{SizedGraph, sized_graph_of};
+use crate::versions::judged;
 use std::alloc::Global;
 use std::io::{Read, Write};
 use tcc_check::laws::certified;

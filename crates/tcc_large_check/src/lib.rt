@@ -4,10 +4,10 @@
 
 mod check;
 mod judgement;
-mod judging;
 pub mod laws;
 mod printing;
 mod sized;
+mod versions;
 
 pub use check::run_check_large;
 pub use judgement::{LargeClaim, LargeJudgement};

@@ -1,42 +1,28 @@
 //! What is printed of a certificate of any version that was judged.
 ghost use Rattle.std.specs.Prelude.{◌≡◌, IfOk, false, string_bytes};
 ghost use Rattle.tcc_print.specs.Printed.{PrintsOrMemory};
-ghost use Rattle.tcc_print.specs.Texts.{accepted_text};
-ghost use Rattle.tcc_large_check.specs.LargeTexts.{large_accepted_text, large_check_status, large_check_text, large_rejected_text, large_status, large_verdict_text};
+ghost use Rattle.tcc_large_check.specs.LargeTexts.{large_accepted_text, large_check_status, large_check_text, large_status, large_verdict_text};
 
 use crate::{LargeClaim, LargeJudgement};
 use std::alloc::Global;
 use std::io::Write;
-use tcc_check::{Claim, Judgement};
-use tcc_judge::{Rule, Verdict};
+use tcc_check::Claim;
+use tcc_judge::Verdict;
 use tcc_print::printing::{print_halt, print_memory, print_text};
 use tcc_print::status::verdict_status;
-use tcc_print::{Halt, Status, verdict_text};
+use tcc_print::{Halt, Status, accepted_text, rejected_text, verdict_text};
 use tcc_txn::NoMemory;
-
-/// The line of a claim of version 1 or 2 that was accepted.
-fn small_accepted(alloc: Global, claim: Claim) -> Result<Vec<u8>, NoMemory>
-    ensures { IfOk result (λ text. text.items ≡ accepted_text claim) }
-{
-    verdict_text(
-        alloc,
-        &Judgement {
-            claim,
-            verdict: tcc_check::Verdict::Accepted,
-        },
-    )
-}
 
 /// The line of a claim of version 3 that was accepted.
 fn accepted(alloc: Global, claim: LargeClaim) -> Result<Vec<u8>, NoMemory>
     ensures { IfOk result (λ text. text.items ≡ large_accepted_text claim) }
 {
     match claim {
-        LargeClaim::Order => small_accepted(alloc, Claim::Order),
+        LargeClaim::Order => accepted_text(alloc, Claim::Order),
         LargeClaim::Cycle {
             cost,
             is_least: true,
-        } => small_accepted(alloc, Claim::Cycle { least: cost }),
+        } => accepted_text(alloc, Claim::Cycle { least: cost }),
         LargeClaim::Cycle {
             cost,
             is_least: false,
@@ -45,15 +31,6 @@ fn accepted(alloc: Global, claim: LargeClaim) -> Result<Vec<u8>, NoMemory>
             Ok(text.into_bytes())
         }
     }
-}
-
-/// The line of a claim of version 3 that was rejected.
-fn rejected(alloc: Global, rule: Rule, at: (u32, u32)) -> Result<Vec<u8>, NoMemory>
-    ensures { IfOk result (λ text. text.items ≡ large_rejected_text rule at) }
-{
-    let (number, first, second) = (rule.number(), at.0, at.1);
-    let text = format!(in alloc; "rejected: rule {number} at {first} {second}\n")?;
-    Ok(text.into_bytes())
 }
 
 /// The line of a judgement.
@@ -65,7 +42,7 @@ fn judgement_text(alloc: Global, judgement: &LargeJudgement) -> Result<Vec<u8>, 
         LargeJudgement::Large { claim, verdict } => {
             match *verdict {
                 Verdict::Accepted => accepted(alloc, *claim),
-                Verdict::Rejected { rule, at } => rejected(alloc, rule, at),
+                Verdict::Rejected { rule, at } => rejected_text(alloc, rule.number(), at),
             }
         }
     }
@@ -77,14 +54,7 @@ fn status_of(judgement: &LargeJudgement) -> Status
 {
     match judgement {
         LargeJudgement::Small(judgement) => verdict_status(judgement.verdict),
-        LargeJudgement::Large {
-            verdict: Verdict::Accepted,
-            ..
-        } => Status::Success,
-        LargeJudgement::Large {
-            verdict: Verdict::Rejected { .. },
-            ..
-        } => Status::Rejected,
+        LargeJudgement::Large { verdict, .. } => verdict_status(*verdict),
     }
 }
 

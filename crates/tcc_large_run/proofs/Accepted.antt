@@ -27,10 +27,12 @@ use Rattle.tcc_cert.specs.declared.fault.CertFault.{CertFault}
 use Rattle.tcc_cert.specs.declared.fault.CertFaultKind.{CertFaultKind}
 use Rattle.tcc_cert.specs.declared.fault.CertFaultKind.TheVariants as text_kind
 use Rattle.tcc_cert.specs.declared.large.LargeCertificate.{LargeCertificate}
+use Rattle.tcc_check.specs.Asked.{AllHold, IsVerdictOf}
 use Rattle.tcc_check.specs.Streams as small
 use Rattle.tcc_check.specs.Verdicts.{IsTrueClaim}
-use Rattle.tcc_check.specs.declared.verdict.Verdict.{Verdict as SmallVerdict}
-use Rattle.tcc_check.specs.declared.verdict.Verdict.TheVariants as small_verdict
+use Rattle.tcc_check.specs.declared.verdict.Rule.{Rule as SmallRule}
+use Rattle.tcc_check.specs.declared.verdict.Verdict.{Verdict}
+use Rattle.tcc_check.specs.declared.verdict.Verdict.TheVariants as verdict
 use Rattle.tcc_check.proofs.Claims.{rejected_false}
 use Rattle.tcc_answer.specs.Claims.{certificate_of}
 use Rattle.tcc_answer.specs.declared.answer.Answer.{Answer}
@@ -40,9 +42,8 @@ use Rattle.tcc_explain.proofs.CertifiedAnswer.{certified}
 use Rattle.tcc_explain.proofs.RecordedKeys.{recorded_within}
 use Rattle.tcc_explain.proofs.WrittenAnswer.{read_back}
 use Rattle.tcc_judge.specs.Claims.{cycle_claim_of, short_claim_of}
-use Rattle.tcc_judge.specs.Verdicts.{AllHold, IsVerdictOf, cycle_rules, rules_of}
-use Rattle.tcc_judge.specs.declared.verdict.Verdict.{Verdict}
-use Rattle.tcc_judge.specs.declared.verdict.Verdict.TheVariants as verdict
+use Rattle.tcc_judge.specs.Verdicts.{cycle_rules, rules_of}
+use Rattle.tcc_judge.specs.declared.verdict.Rule.{Rule}
 use Rattle.tcc_judge.proofs.Followed.{own_order}
 use Rattle.tcc_large.specs.Decisions.{IsDecision}
 use Rattle.tcc_large.specs.declared.decision.Decision.{Decision}
@@ -135,7 +136,7 @@ module _ (s : Sessions) (limits : KeepsLimits s) (named : HasNames s) (level : L
   c = certificate_of a
 
   abbrev small_accepted : LargeJudgement
-  small_accepted = Small (record { claim = small.claim_of c; verdict = small_verdict.Accepted })
+  small_accepted = Small (record { claim = small.claim_of c; verdict = verdict.Accepted })
 
   small_back : certificate_read (certificate_text c) ≡ Ok c
   small_back = read_back s limits named level a is
@@ -146,10 +147,10 @@ module _ (s : Sessions) (limits : KeepsLimits s) (named : HasNames s) (level : L
   small_own : IsLargeTextCheck s (certificate_text c) (Ok small_accepted)
   small_own = (answer_version a, c, small_back, refl, inl (limits, keeps))
 
-  by_verdict : (read : Certificate) (v : SmallVerdict) → c ≡ read → IsVerdictFor s read v → v ≡ small_verdict.Accepted
+  by_verdict : (read : Certificate) (v : Verdict SmallRule) → c ≡ read → IsVerdictFor s read v → v ≡ verdict.Accepted
   by_verdict read v same (inr past) = absurd (past.0 limits)
-  by_verdict read small_verdict.Accepted same (inl says) = refl
-  by_verdict read (small_verdict.Rejected rule at) same (inl says) =
+  by_verdict read verdict.Accepted same (inl says) = refl
+  by_verdict read (verdict.Rejected rule at) same (inl says) =
       absurd (rejected_false (history s) read rule at says.1 (subst (Certifies (history s)) same keeps))
 
   small_failed : (fault : CertFault) → IsReading (certificate_text c) (Err fault) → fault.kind ≢ text_kind.NoMemory → fault.kind ≡ text_kind.Read
@@ -170,7 +171,7 @@ module _ (s : Sessions) (limits : KeepsLimits s) (named : HasNames s) (level : L
 
 -- ---- past them
 
-module _ (kept : (h : History) (k : LargeCertificate) → AllHold (rules_of h k) → (said : Verdict) → IsVerdictOf (rules_of h k) said → said ≡ verdict.Accepted)
+module _ (kept : (h : History) (k : LargeCertificate) → AllHold (rules_of h k) → (said : Verdict Rule) → IsVerdictOf (rules_of h k) said → said ≡ verdict.Accepted)
     (s : Sessions) (k : LargeCertificate) (room : HasLargeText k) (back : large_certificate_read (large_certificate_text k) ≡ Ok k)
     (keeps : AllHold (rules_of (history s) k)) where
   abbrev large_accepted : LargeJudgement
@@ -189,7 +190,7 @@ module _ (kept : (h : History) (k : LargeCertificate) → AllHold (rules_of h k)
   large_others (Ok (Large said v)) (version, read, reads, claims, says) =
       let same : k ≡ read = (let both : Ok k ≡ Ok read = sym back ∙ reads in cc both) in
       ap (λ (c : LargeClaim). Large c v) (claims ∙ ap large_claim_of (sym same))
-      ∙ ap (λ (w : Verdict). Large (large_claim_of k) w)
+      ∙ ap (λ (w : Verdict Rule). Large (large_claim_of k) w)
       (kept (history s) read (subst (λ (one : LargeCertificate). AllHold (rules_of (history s) one)) same keeps) v says)
   large_others (Err (Text fault)) (inl reading, kind) = absurd (apart (sym (claim_version k) ∙ reading.0))
   large_others (Err (Text fault)) (inr reading, kind) = large_failed fault reading.1 kind
@@ -204,7 +205,7 @@ pub record Laws : Type 1 where
   pub true_small : (h : History) (k : Certificate) → Certifies h k → IsTrueClaim h k
   pub true_large : (s : Sessions) (k : LargeCertificate) → AllHold (rules_of (history s) k) → IsTrueLargeClaim (history s) k
   pub back : (k : LargeCertificate) → HasLargeText k → large_certificate_read (large_certificate_text k) ≡ Ok k
-  pub kept : (h : History) (k : LargeCertificate) → AllHold (rules_of h k) → (said : Verdict) → IsVerdictOf (rules_of h k) said → said ≡ verdict.Accepted
+  pub kept : (h : History) (k : LargeCertificate) → AllHold (rules_of h k) → (said : Verdict Rule) → IsVerdictOf (rules_of h k) said → said ≡ verdict.Accepted
   pub cycle : (h : History) (level : Level) (s : ℕ) (links : List Link) → IsCycle (judged h level) s links
       → AllHold (cycle_rules h (cycle_claim_of level h links))
   pub short : (h : History) (level : Level) (s : ℕ) (links : List Link) → IsLeastCycle (judged h level) s links → cost links ≤ 4

@@ -19,13 +19,14 @@ use Rattle.tcc_answer.specs.declared.answer.Answer.TheVariants as answer
 use Rattle.tcc_least.specs.Shapes.{AreLeast}
 use Rattle.tcc_explain.proofs.CertifiedOrder.{numbering_long}
 use Rattle.tcc_judge.specs.Claims.{links_claim_of}
-use Rattle.tcc_judge.specs.Verdicts.{AllHold, cycle_rules}
+use Rattle.tcc_judge.specs.Verdicts.{cycle_rules}
 use Rattle.tcc_large.specs.Decisions.{HasNone, IsDecision}
 use Rattle.tcc_large.specs.declared.decision.Decision.{Decision}
 use Rattle.tcc_large.specs.declared.decision.Decision.TheVariants as decision
 use Rattle.tcc_large_run.specs.LargeRuns.{bare_cycle, claim_of}
 use Rattle.tcc_large_run.specs.private.Stages.{IsFoundOf}
 use Rattle.tcc_large_run.specs.declared.outcome.Outcome.TheVariants as outcome
+use Rattle.tcc_check.specs.Asked.{AllHold}
 
 -- a commit order begins with `init`
 begins : (h : History) (level : Level) (order : List ℕ) → 0 < count h → IsCommitOrder (judged h level) order → (rest : List ℕ) × (0 ∷ rest ≡ order)

@@ -1,25 +1,19 @@
 -- What a run of explain --large puts into the file for the certificate is accepted by the check of the same records.
-use Rattle.std.proofs.Common.{ℕ, ◌≡◌, ◌≢◌, List, [], ◌∷◌, ◌++◌, Option, None, Some, refl, sym, ap, subst, ◌∙◌, inl, inr, ◌⊎◌}
+use Rattle.std.proofs.Common.{ℕ, ◌≡◌, ◌≢◌, List, [], Option, None, Some, refl, sym, ap, subst, ◌∙◌, inl, inr, ◌⊎◌}
 use Rattle.std.specs.Prelude.{unwrap_or}
 use Rattle.std.specs.Io.KnownBytes.{Appends}
 use Rattle.std.specs.List.{last_or}
 use Rattle.tcc_txn.specs.declared.limits.Limits.TheVariants.{Large}
 use Rattle.tcc_reads.specs.Faults.{read_faults}
-use Rattle.tcc_print.specs.Courses.{Contents, Gains, IsEnded, IsWhole, MayEnd, Said, halt_said, texts}
+use Rattle.tcc_print.specs.Courses.{Contents, Gains, IsEnded, IsWhole, Said, texts}
 use Rattle.tcc_print.specs.Printed.{Prints, device_line, memory_line}
-use Rattle.tcc_print.specs.Statuses.{code_of, halt_status, row_status}
-use Rattle.tcc_print.specs.declared.halt.Halt.{Halt}
-use Rattle.tcc_print.specs.declared.halt.Halt.TheVariants as halt
+use Rattle.tcc_print.specs.Statuses.{code_of}
 use Rattle.tcc_print.specs.declared.options.Options.{Options}
 use Rattle.tcc_print.specs.declared.status.Status.TheVariants.{Device, Memory}
-use Rattle.tcc_print.proofs.LastSaid.{device_code, last_said, texts_end}
-use Rattle.tcc_print.proofs.Moments.{last-push}
+use Rattle.tcc_print.proofs.LastSaid.{certified_last, device_code, last_of_all, texts_end}
 use Rattle.tcc_large_run.specs.LargeClosing.{IsAcceptedWith, PrintsDecided}
 use Rattle.tcc_large_run.specs.LargeRuns.{AllGoesOut, CertificateStops, FileFails, Files, IsLargeRun, IsSaidOfSnapshot, SliceStops, Stops, answers_of, finished}
 use Rattle.tcc_large_run.proofs.Accepted.{Laws, said_accepted, said_certified}
-
-inside : {X : Type 0} (x y : X) → Some x ≡ Some y → x ≡ y
-inside x y e = cc e
 
 nothing : {X : Type 0} (x : X) → None ≡ Some x → ⊥
 nothing x e = cc e
@@ -28,14 +22,6 @@ nothing x e = cc e
 memory_code : (before after : Option (List ℕ)) (text : List ℕ) (code : ℕ) → Prints before after text Memory code → (code ≡ code_of Memory) ⊎ (code ≡ code_of Device)
 memory_code before after text code (inl whole) = inl whole.1
 memory_code before after text code (inr part) = inr part.1
-
--- what ended a run has no certificate
-ended_without : (options : Options) (why : Halt) (answers said : List Said) (last : Said) (text : List ℕ) → said ≡ answers ++ halt_said options why ∷ []
-    → last_or None said ≡ Some last → last.certificate ≡ Some text → ⊥
-ended_without options why answers said last text same end has =
-    let pushed : last_or None said ≡ Some (halt_said options why) = ap (last_or None) same ∙ last-push None answers (halt_said options why) in
-    let halted : halt_said options why ≡ last = inside _ _ (sym pushed ∙ end) in
-    nothing text (ap (λ (s : Said). s.certificate) halted ∙ has)
 
 module _ (laws : Laws) (options : Options) (records : List ℕ) where
   -- ---- what is left in a file
@@ -48,10 +34,8 @@ module _ (laws : Laws) (options : Options) (records : List ℕ) where
   closes : (said : List Said) (last : Said) (text : List ℕ) → last_or None said ≡ Some last → last.certificate ≡ Some text
       → IsWhole (IsSaidOfSnapshot options) (answers_of records) said ⊎ IsEnded Large (IsSaidOfSnapshot options) options records said
       → IsAcceptedWith options records text
-  closes said last text end has (inl (unfaulted, answered)) =
-      of_said last text has unfaulted (last_said (IsSaidOfSnapshot options) (answers_of records).items said last answered end)
-  closes said last text end has (inr (answers, (n, why, may, are, same))) =
-      absurd (ended_without options why answers said last text same end has)
+  closes said last text end has ends =
+      let all = certified_last Large (IsSaidOfSnapshot options) options records said last end ends text has in of_said last text has all.0 all.1
 
   module _ (text : List ℕ) (some : text ≢ []) (said : List Said) (last : Said) (end : last_or None said ≡ Some last)
       (ends : IsWhole (IsSaidOfSnapshot options) (answers_of records) said ⊎ IsEnded Large (IsSaidOfSnapshot options) options records said) where
@@ -113,23 +97,12 @@ module _ (laws : Laws) (options : Options) (records : List ℕ) where
         }
     of_resolved said last end goes (inr (faulty, same)) = absurd (faulty resolved)
 
-    -- what ends a run early ends it by a device or by memory, since the records have no fault
-    ended : (n : ℕ) (why : Halt) → MayEnd Large records n why → code ≡ code_of (halt_status why) → ⊥
-    ended n (halt.Row fault) (inl (found, at)) ends = nothing fault (sym unfaulted ∙ found)
-    ended n (halt.Row fault) (inr (read, at, count)) ends = fine (ends ∙ ap (λ kind. code_of (row_status kind)) read)
-    ended n halt.NoMemory may ends = space ends
-    ended n (halt.Reads faults) may ends = may
-    ended n (halt.Text fault) may ends = may
-
     of_ends : (said : List Said) (last : Said) → last_or None said ≡ Some last
         → AllGoesOut options (finished records) before after files files' (texts said) last code
         → IsWhole (IsSaidOfSnapshot options) (answers_of records) said ⊎ IsEnded Large (IsSaidOfSnapshot options) options records said → Printed
-    of_ends said last end goes (inl (none, answered)) =
-        of_resolved said last end goes (last_said (IsSaidOfSnapshot options) (answers_of records).items said last answered end)
-    of_ends said last end goes (inr (answers, (n, why, may, are, same))) =
-        let pushed : last_or None said ≡ Some (halt_said options why) = ap (last_or None) same ∙ last-push None answers (halt_said options why) in
-        let halted : last ≡ halt_said options why = inside last (halt_said options why) (sym end ∙ pushed) in
-        absurd (ended n why may (goes.3 ∙ ap (λ (s : Said). code_of s.status) halted))
+    of_ends said last end goes ends =
+        of_resolved said last end goes
+        (last_of_all Large (IsSaidOfSnapshot options) options records said last end ends unfaulted code fine space goes.3)
 
     out_of_memory : (between : Option (List ℕ)) → Prints between after (memory_line options.json) Memory code → ⊥
     out_of_memory between prints = elim (memory_code between after (memory_line options.json) code prints) [

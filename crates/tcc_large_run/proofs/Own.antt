@@ -13,13 +13,14 @@ use Rattle.tcc_cert.specs.LargeTexts.{large_certificate_text}
 use Rattle.tcc_cert.specs.RunsTold.{order_claim_of}
 use Rattle.tcc_cert.specs.declared.large.LargeCertificate.{LargeCertificate}
 use Rattle.tcc_judge.specs.Claims.{cycle_claim_of, links_claim_of, short_claim_of}
-use Rattle.tcc_judge.specs.Verdicts.{AllHold, cycle_rules, order_rules, rules_of}
+use Rattle.tcc_judge.specs.Verdicts.{cycle_rules, order_rules, rules_of}
 use Rattle.tcc_large.specs.Decisions.{IsDecision}
 use Rattle.tcc_large.specs.declared.decision.Decision.{Decision}
 use Rattle.tcc_large.specs.declared.decision.Decision.TheVariants as decision
 use Rattle.tcc_print.specs.Courses.{Said}
 use Rattle.tcc_print.specs.declared.options.Options.{Options}
 use Rattle.tcc_large_run.specs.LargeRuns.{IsClaimedOf, claim_of, decision_said}
+use Rattle.tcc_check.specs.Asked.{AllHold}
 
 below : (n : ℕ) → nat_le n 4 ≡ true → n ≤ 4
 below n e = grind (arith, nat_tests, e)

@@ -11,11 +11,10 @@ use Rattle.tcc_cert.specs.Texts.{certificate_text}
 use Rattle.tcc_cert.specs.declared.fault.CertFaultKind.TheVariants as text_kind
 use Rattle.tcc_cert.specs.declared.large.LargeCertificate.{LargeCertificate}
 use Rattle.tcc_check.specs.Streams as small
-use Rattle.tcc_check.specs.declared.verdict.Verdict.TheVariants as small_verdict
+use Rattle.tcc_check.specs.declared.verdict.Verdict.TheVariants as verdict
 use Rattle.tcc_answer.specs.Claims.{certificate_of}
 use Rattle.tcc_answer.specs.declared.answer.Answer.{Answer}
 use Rattle.tcc_explain.specs.Explained.{IsAnswerOfHistory}
-use Rattle.tcc_judge.specs.declared.verdict.Verdict.TheVariants as verdict
 use Rattle.tcc_large_check.specs.LargeChecks.{IsLargeShown, large_check, large_claim_of}
 use Rattle.tcc_large_check.specs.LargeTexts.{large_verdict_text}
 use Rattle.tcc_large_check.specs.declared.judgement.LargeJudgement.{LargeJudgement}
@@ -34,7 +33,7 @@ use Rattle.tcc_large_run.specs.LargeRuns.{Files, IsClaimedOf, IsResolvedAs, IsSl
 abbrev pub IsAcceptedClaim : Options → Sessions → List ℕ → LargeJudgement → Type 0
 IsAcceptedClaim options s text (Small j) =
     KeepsLimits s × (a : Answer) × IsAnswerOfHistory (judged (history s) options.level) a × (text ≡ certificate_text (certificate_of a))
-    × (j ≡ record { claim = small.claim_of (certificate_of a); verdict = small_verdict.Accepted })
+    × (j ≡ record { claim = small.claim_of (certificate_of a); verdict = verdict.Accepted })
 IsAcceptedClaim options s text (Large said v) =
     (KeepsLimits s → ⊥) × (claim : LargeCertificate) × (one : Said) × IsClaimedOf options (history s) claim one
     × (text ≡ large_certificate_text claim) × (said ≡ large_claim_of claim) × (v ≡ verdict.Accepted)

@@ -25,21 +25,23 @@ use Rattle.tcc_answer.specs.declared.answer.Answer.TheVariants as answer
 use Rattle.tcc_explain.specs.Explained.{IsAnswerOfHistory}
 use Rattle.tcc_least.specs.Shapes.{AreLeast}
 use Rattle.tcc_large.specs.Decisions.{HasLinks, IsDecision}
-use Rattle.tcc_large.specs.Cuts.{IsCutOf}
-use Rattle.tcc_large.specs.Slices.{IsSliceOf}
-use Rattle.tcc_large.specs.Texts.{records_text}
+use Rattle.tcc_slices.specs.Cuts.{IsCutOf}
+use Rattle.tcc_slices.specs.Slices.{IsSliceOf}
+use Rattle.tcc_slices.specs.Texts.{records_text}
 use Rattle.tcc_large.specs.declared.decision.Decision.{Decision}
 use Rattle.tcc_large.specs.declared.decision.Decision.TheVariants as decision
 use Rattle.tcc_judge.specs.Claims.{links_claim_of}
-use Rattle.tcc_judge.specs.Verdicts.{AllHold, IsVerdictOf, rules_of}
-use Rattle.tcc_judge.specs.declared.verdict.Verdict.{Verdict}
-use Rattle.tcc_judge.specs.declared.verdict.Verdict.TheVariants as verdict
+use Rattle.tcc_judge.specs.Verdicts.{rules_of}
+use Rattle.tcc_judge.specs.declared.verdict.Rule.{Rule}
+use Rattle.tcc_check.specs.declared.verdict.Verdict.{Verdict}
+use Rattle.tcc_check.specs.declared.verdict.Verdict.TheVariants as verdict
 use Rattle.tcc_print.specs.Courses.{Contents, Gains, IsCourse, Said, TextFails, answer_said, faults_said}
 use Rattle.tcc_print.specs.Large.{unproved}
 use Rattle.tcc_print.specs.Printed.{Prints, answered, device_line, memory_line}
 use Rattle.tcc_print.specs.Statuses.{answer_status, code_of}
 use Rattle.tcc_print.specs.declared.options.Options.{Options}
 use Rattle.tcc_print.specs.declared.status.Status.TheVariants.{Anomaly, Device, Memory}
+use Rattle.tcc_check.specs.Asked.{AllHold, IsVerdictOf}
 
 -- ---- one answer past the small limits
 
@@ -221,4 +223,4 @@ IsLargeRun options bytes before after files files' code =
 abbrev pub IsAcceptedOf : History → Said → Type 0
 IsAcceptedOf h said =
     (claim : LargeCertificate) × (said.certificate ≡ Some (large_certificate_text claim))
-    × ((v : Verdict) → IsVerdictOf (rules_of h claim) v → v ≡ verdict.Accepted)
+    × ((v : Verdict Rule) → IsVerdictOf (rules_of h claim) v → v ≡ verdict.Accepted)

@@ -1,8 +1,6 @@
 //! What an answer past the small limits claims: an order by its runs, a cycle by its links.
-ghost use Rattle.std.specs.Prelude.{◌≡◌, ◌≤◌, IfOk};
-ghost use Rattle.tcc_graph.specs.Links.{cost};
+ghost use Rattle.std.specs.Prelude.{◌≡◌, IfOk};
 ghost use Rattle.tcc_cert.specs.declared.large.LargeCertificate.TheVariants as claims;
-ghost use Rattle.tcc_cert.specs.declared.version_3.TheConstants.{V3_MAX_COST};
 ghost use Rattle.tcc_judge.specs.Claims.{links_claim_of};
 ghost use Rattle.tcc_large_run.specs.LargeRuns.{short_runs};
 ghost use Rattle.tcc_large_run.specs.private.Stages.{answer_claim};
@@ -11,37 +9,8 @@ use std::alloc::Global;
 use tcc_answer::Answer;
 use tcc_cert::{LargeCertificate, Links, LinksClaim, Runs, order_claim};
 use tcc_graph::{LargeGraph, Level, Link};
+use tcc_proving::{copied, steps_of};
 use tcc_txn::NoMemory;
-
-/// How many steps the links have together.
-pub(crate) fn steps_of(links: &[Link]) -> Result<u32, NoMemory>
-    ensures steps { IfOk result (λ steps. steps ≡ cost links.now) }
-    ensures room { IfOk result (λ _. cost links.now ≤ V3_MAX_COST) }
-{
-    let mut steps: usize = 0;
-    for link in links {
-        let Some(more) = steps.checked_add(link.cost()) else {
-            return Err(NoMemory);
-        };
-        steps = more;
-    }
-    // More steps are held by no memory.
-    let Ok(steps) = u32::try_from(steps) else {
-        return Err(NoMemory);
-    };
-    Ok(steps)
-}
-
-/// Equal links.
-pub(crate) fn copied(alloc: Global, links: &[Link]) -> Result<Vec<Link>, NoMemory>
-    ensures { IfOk result (λ copy. copy.items ≡ links.now) }
-{
-    let mut copy = Vec::new(alloc);
-    for link in links {
-        copy.push(link.copy(alloc)?)?;
-    }
-    Ok(copy)
-}
 
 /// The claim that links are a cycle of a history at a level; and that it is a least one, where there are runs, which may be none.
 pub(crate) fn cycle_claim(

@@ -6,7 +6,6 @@ mod certifying;
 mod claims;
 pub mod laws;
 mod outcome;
-mod proving;
 mod room;
 mod running;
 mod slicing;

@@ -8,11 +8,10 @@ ghost use Rattle.tcc_answer.specs.declared.answer.Answer.TheVariants as answer;
 ghost use Rattle.tcc_large.specs.Decisions.{IsDecision};
 ghost use Rattle.tcc_large.specs.declared.decision.Decision.TheVariants as decision;
 ghost use Rattle.tcc_print.specs.Printed.{EndsIn};
+ghost use Rattle.tcc_print.specs.private.Courses.{IsTold};
 ghost use Rattle.tcc_large_run.specs.LargeRuns.{bare_cycle, bare_order, claim_of};
-ghost use Rattle.tcc_large_run.specs.private.Stages.{IsFoundOf, IsOutcome, outcome_links, outcome_status, outcome_text};
+ghost use Rattle.tcc_large_run.specs.private.Stages.{IsFoundOf, IsOutcome, course, outcome_links, outcome_status, outcome_text};
 
-use crate::claims::steps_of;
-use crate::proving::proved_claim;
 use crate::room::check_room;
 use std::alloc::Global;
 use std::io::Write;
@@ -28,6 +27,7 @@ use tcc_print::notes::note_reads;
 use tcc_print::printing::{send_answer, send_unresolved};
 use tcc_print::status::answer_status;
 use tcc_print::{Run, Status};
+use tcc_proving::{proved_claim, steps_of};
 use tcc_reads::{ReadFault, ResolveFault};
 use tcc_txn::{LargeSnapshot, NoMemory, Snapshot};
 
@@ -173,8 +173,18 @@ impl Outcome {
         }
     }
 
-    /// What is to be said of a snapshot at the level; a small one is searched by so many workers.
+    /// What is to be said of a snapshot.
     pub(crate) fn of<T: Threads + Sync, G: Gate>(
+        run: &Run<T, G>,
+        snapshot: &LargeSnapshot,
+    ) -> Result<Outcome, NoMemory>
+        ensures { IfOk result (IsTold (course run.now.options.now) snapshot.now) }
+    {
+        Outcome::of_snapshot(run, snapshot)
+    }
+
+    /// What is to be said of a snapshot at the level; a small one is searched by so many workers.
+    fn of_snapshot<T: Threads + Sync, G: Gate>(
         run: &Run<T, G>,
         snapshot: &LargeSnapshot,
     ) -> Result<Outcome, NoMemory>

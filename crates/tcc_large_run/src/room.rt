@@ -2,18 +2,17 @@
 ghost use Rattle.std.specs.Prelude.{All, IfOk, IsTrue, length};
 ghost use Rattle.tcc_graph.specs.Levels.{judged};
 ghost use Rattle.tcc_graph.specs.declared.level.Level.{Level};
-ghost use Rattle.tcc_cert.specs.LargeTexts.{HasLargeText, HasRunText, HaveRunsText};
+ghost use Rattle.tcc_cert.specs.LargeTexts.{HasLargeText};
 ghost use Rattle.tcc_cert.specs.Texts.{HasLinkText, HasStepText, IsCount};
 ghost use Rattle.tcc_cert.specs.declared.ranges.Scale.TheVariants.{Large};
 ghost use Rattle.tcc_large.specs.Decisions.{IsDecision};
 ghost use Rattle.tcc_large_run.specs.LargeRuns.{claim_of};
 
-use crate::claims::steps_of;
-use tcc_cert::Run;
 use tcc_cert::laws::order_has_text;
-use tcc_cert::version_3::{V3_MAX_COUNT, V3_MAX_NUMBER, V3_MAX_RUNS, V3_MAX_SESSION};
+use tcc_cert::version_3::{V3_MAX_COUNT, V3_MAX_NUMBER};
 use tcc_graph::{LargeGraph, Link, Step};
 use tcc_large::Decision;
+use tcc_proving::steps_of;
 use tcc_txn::NoMemory;
 
 /// Whether there is room for a step.
@@ -72,20 +71,6 @@ fn have_links_text(links: &[Link]) -> bool
     !links.is_empty()
         && links.len() <= V3_MAX_COUNT as usize
         && links.iter().all(|link| has_link_text(link))
-}
-
-/// Whether there is room for a run.
-fn has_run_text(run: &Run) -> bool
-    ensures { IsTrue result → HasRunText run.now }
-{
-    run.session <= V3_MAX_SESSION && run.count >= 1 && run.count <= V3_MAX_NUMBER
-}
-
-/// Whether there is room for the runs of an order.
-pub(crate) fn have_runs_text(runs: &[Run]) -> bool
-    ensures { IsTrue result → HaveRunsText runs.now }
-{
-    runs.len() <= V3_MAX_RUNS as usize && runs.iter().all(|run| has_run_text(run))
 }
 
 /// What is claimed by what is decided has a text. There always is room for an order; links for which there is none are more than

@@ -1,5 +1,5 @@
 //! From the bytes of records to their answers: at each seal, and at the end.
-ghost use Rattle.std.specs.Prelude.{◌≡◌, ◌≢◌, ℕ, List, [], true, false, None, Ok, IfErr, IfOk, IfSome, MatchResult, OnOk, option_map};
+ghost use Rattle.std.specs.Prelude.{◌≡◌, ◌≢◌, ℕ, List, [], true, false, None, Ok, IfErr, IfSome, MatchResult, OnOk, option_map};
 ghost use Rattle.tcc_rows.specs.Ahead.{fault_met};
 ghost use Rattle.tcc_rows.specs.Answers.{Answers, answers_after_within};
 ghost use Rattle.tcc_txn.specs.Finished.{transaction_count};
@@ -9,7 +9,7 @@ ghost use Rattle.tcc_rows.specs.Recordings.{FailsBehind, IsRecording, TakesMomen
 ghost use Rattle.tcc_rows.specs.declared.rows.Item.{Item};
 ghost use Rattle.tcc_txn.specs.declared.limits.Limits.TheVariants.{Large};
 ghost use Rattle.tcc_large_run.specs.LargeRuns.{IsLargeRun, answers_of, finished, records_of};
-ghost use Rattle.tcc_print.specs.private.Courses.{AllAnswered, EndsAnswering, EndsEarly, IsStill, SaysLast};
+ghost use Rattle.tcc_print.specs.private.Courses.{AllAnswered, EndsAgain, EndsAnswering, EndsEarly, IsStill, SaysAgain, SaysLast};
 ghost use Rattle.tcc_large_run.specs.private.Stages.{Concludes, IsOutcome, SendsSlice, WritesFiles, WritesSlice, course, outcome_said};
 
 use crate::certifying::write_certificate;
@@ -63,8 +63,8 @@ fn say_again<T: Threads + Sync, W: Write, N: Write, G: Watcher>(
     notes: &mut N,
 ) -> Result<Last<Outcome>, u8>
     ensures { IsStill (course run.now.options.now) snapshot.now last
-        → MatchResult result (SaysLast (course run.now.options.now) snapshot.now (W.contents out.old) (W.contents out.new))
-        (EndsAnswering (course run.now.options.now) snapshot.now (W.contents out.old) (W.contents out.new)) }
+        → MatchResult result (SaysAgain (course run.now.options.now) snapshot.now last (W.contents out.old) (W.contents out.new))
+        (EndsAgain (course run.now.options.now) snapshot.now last (W.contents out.old) (W.contents out.new)) }
 {
     match again(last, snapshot.transactions()) {
         Ok(last) => {
@@ -138,7 +138,7 @@ fn answer_all<R: Read + Drop, T: Threads + Sync, W: Write, N: Write, G: Watcher>
         → MatchResult result (AllAnswered (course run.now.options.now) bytes (W.contents out.old) (W.contents out.new))
         (EndsEarly (course run.now.options.now) bytes (W.contents out.old) (W.contents out.new)) }
     ensures finished { (bytes : List ℕ) → IsRecording Large R.remaining recording.old [] (answers_of bytes)
-        → IfOk result (λ last. (recording.new.snapshot ≡ finished bytes) × IsOutcome run.now.options.now.level (finished bytes) last.outcome) }
+        → OnOk result (recording.new.snapshot ≡ finished bytes) }
 {
     let mut last: Option<Last<Outcome>> = None;
     'moments: for _turn in 0..u64::MAX {

@@ -7,9 +7,9 @@ ghost use Rattle.tcc_large_run.specs.private.Stages.{IsOutcome};
 use crate::outcome::Outcome;
 use std::alloc::Global;
 use tcc_graph::{LargeGraph, Level, Link};
-use tcc_large::{records, slice};
 use tcc_reads::{ResolveFault, resolve_large};
 use tcc_rows::{RowFaultKind, snapshot_of};
+use tcc_slices::{records, slice};
 use tcc_txn::{LargeSnapshot, NoMemory, Snapshot};
 
 /// Whether these records have no fault, and finish what the snapshot has.

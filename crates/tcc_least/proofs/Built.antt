@@ -6,14 +6,14 @@ use Rattle.tcc_graph.specs.Relations.{IsReadsPair, IsCausalPair}
 use Rattle.tcc_graph.specs.Readings.{AreReadings}
 use Rattle.tcc_graph.specs.Walks.{IsStep, step_from, step_to}
 use Rattle.tcc_graph.specs.Levels.{IsAllowed, judged}
-use Rattle.tcc_graph.specs.Links.{cost}
+use Rattle.tcc_graph.specs.Links.{MayContradict, cost}
 use Rattle.tcc_graph.specs.declared.level.Level.{Level}
 use Rattle.tcc_graph.specs.declared.level.Level.TheVariants as level
 use Rattle.tcc_graph.specs.declared.step.Step.{Step}
 use Rattle.tcc_graph.specs.declared.link.Link.{Link}
 use Rattle.tcc_graph.specs.declared.link.Link.TheVariants as link
 use Rattle.tcc_graph.proofs.Linking.{derived_cost, cost_cons, one_cost, some_links}
-use Rattle.tcc_least.specs.Shapes.{NoneBelow, IsRead, IsRound, IsReturn, AreLeast}
+use Rattle.tcc_least.specs.Shapes.{NoneBelow, IsRead, IsRound, AreLeast}
 use Rattle.tcc_least.specs.private.Building.{IsPairLink, Overwrites, IsShortCycle}
 use Rattle.tcc_least.proofs.Listed.{pair_at, at_pair}
 
@@ -66,9 +66,9 @@ module _ (h : History) where
   abbrev pub NoneOverwritten : ℕ → List ℕ → List (List ℕ) → ℕ → Type 0
   NoneOverwritten b readers names n = (k : ℕ) → k < n → Overwrites h b (slice_index readers k) (slice_index_or names k []) → ⊥
 
-  pub some_overwritten : (b a : ℕ) (readers : List ℕ) (names : List (List ℕ)) (n : ℕ) → AreReadings h a readers names → IsReturn h b a
-      → length readers ≤ n → NoneOverwritten b readers names n → ⊥
-  some_overwritten b a readers names n are ((x, c, against, pair), back) all none =
+  pub some_overwritten : (b a : ℕ) (readers : List ℕ) (names : List (List ℕ)) (n : ℕ) → AreReadings h a readers names
+      → ((x : List ℕ) × (c : ℕ) × MayContradict h b a x c × IsCausalPair h b c) → length readers ≤ n → NoneOverwritten b readers names n → ⊥
+  some_overwritten b a readers names n are (x, c, against, pair) all none =
       let w = at_pair readers names [] are.long c x ((are.each c x).1 against.1) in
       none w.0 (omega (arith, w.1)) (rw (w.2, w.3) (against.2, pair))
 

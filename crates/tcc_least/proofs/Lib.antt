@@ -2,9 +2,9 @@ pub mod Built
 pub mod GroupRange
 pub mod LeadingBack
 pub mod Listed
-pub mod Overwritten
 pub mod PlaceLemmas
 pub mod ReadLemmas
+pub mod ReturnLemmas
 pub mod RoundLemmas
 pub mod SessionRanges
 pub mod Sessions

@@ -1,5 +1,5 @@
 //! A least cycle, with its links, where one costs three steps at most.
-ghost use Rattle.std.specs.Prelude.{◌≡◌, ◌≤◌, ◌<◌, ◌↔◌, ℕ, min, length, IsTrue, IfOk, MatchOption};
+ghost use Rattle.std.specs.Prelude.{◌≡◌, ◌≤◌, ◌<◌, ◌↔◌, ℕ, List, min, length, IsTrue, IfOk, MatchOption};
 ghost use Rattle.tcc_reads.specs.History.{count};
 ghost use Rattle.tcc_graph.specs.Relations.{IsReadsPair, IsCausalPair};
 ghost use Rattle.tcc_graph.specs.Keys.{IsWriter};
@@ -76,14 +76,18 @@ fn overwrites(graph: &LargeGraph, from: u32, reader: u32, key: &Name) -> bool
 
 /// A reader of a transaction, and a key that it reads there, which another transaction overwrites, from which a pair leads to the
 /// reader.
-fn overwritten(graph: &LargeGraph, from: u32, to: u32) -> (u32, Name)
-    requires { IsReturn graph.now from to }
-    ensures { IsReadsPair graph.now to result.0 result.1 × Overwrites graph.now from result.0 result.1 }
+pub fn overwritten(graph: &LargeGraph, from: u32, to: u32) -> (u32, Name)
+    requires { (x : List ℕ) × (c : ℕ) × MayContradict graph.now from to x c × IsCausalPair graph.now from c }
+    ensures read { IsReadsPair graph.now to result.0 result.1 }
+    ensures writer { IsWriter graph.now from result.1 }
+    ensures pair { IsCausalPair graph.now from result.0 }
 {
-    let (readers, keys) = graph.readings(to);
+    let keys = graph.keys();
+    let (readers, key_indices) = graph.readings_at(to);
     for index in 0..readers.len() {
-        if overwrites(graph, from, readers[index], &keys[index]) {
-            return (readers[index], keys[index]);
+        let key = keys[key_indices[index] as usize];
+        if overwrites(graph, from, readers[index], &key) {
+            return (readers[index], key);
         }
     }
     unreachable!()

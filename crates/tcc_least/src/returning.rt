@@ -274,7 +274,7 @@ fn is_source(graph: &LargeGraph, source: u32) -> bool
     if source == 0 {
         return false;
     }
-    for reader in graph.readings(source).0 {
+    for reader in graph.readings_at(source).0 {
         if *reader > 0 {
             return true;
         }

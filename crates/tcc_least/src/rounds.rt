@@ -49,7 +49,7 @@ fn first_reader(graph: &LargeGraph, below: u64, source: u32) -> Option<u32>
     ensures { MatchOption result ((c : ℕ) → IsRound graph.now below source c → ⊥)
         (λ c. IsRound graph.now below source c × ((d : ℕ) → IsRound graph.now below source d → c ≤ d)) }
 {
-    for reader in graph.readings(source).0 {
+    for reader in graph.readings_at(source).0 {
         if is_back(graph, below, source, *reader) {
             return Some(*reader);
         }

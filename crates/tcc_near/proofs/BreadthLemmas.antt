@@ -12,11 +12,11 @@ use Rattle.tcc_graph.specs.Relations.{causal_pair}
 use Rattle.tcc_graph.specs.Levels.{causally, atomically, judged}
 use Rattle.tcc_graph.specs.Walks.{IsReached}
 use Rattle.tcc_graph.specs.declared.level.Level.{Level}
-use Rattle.tcc_near.specs.Distances.{IsShortest, IsWalkLength, IsNearOf, least_in}
+use Rattle.tcc_near.specs.WalkLengths.{IsShortest, IsWalkLength, IsNearOf, least_in}
 use Rattle.tcc_bits.specs.Bits.{is_marked}
 use Rattle.tcc_near.specs.private.Breadth.{IsWithin, IsMarked, IsBoundFrom, IsLengthWithin, IsSearched, HasLengths, HaveLengths, IsLedTo, numbered, one_step, unnumbered}
 use Rattle.tcc_near.proofs.Walks.{within_more, within_one, within_one_from, within_pair, IsStepAfter, last_step, within_closed, within_below, shortest_at}
-use Rattle.tcc_near.specs.declared.distances.TheConstants.{NONE}
+use Rattle.tcc_near.specs.declared.walk_lengths.TheConstants.{NONE}
 
 -- what stands in a row: none, or a number
 abbrev pub Read : List ℕ → ℕ → Type 0

@@ -9,9 +9,9 @@ use Rattle.tcc_graph.specs.Tables.{row_of}
 use Rattle.tcc_graph.specs.declared.step.Step.{Step}
 use Rattle.tcc_graph.specs.Clocks.{IsBehind, IsClocksOf}
 use Rattle.tcc_near.specs.private.ClockRows.{IsLastBelow, AreLastsBelow, AreLasts, HaveLasts, raised}
-use Rattle.tcc_near.specs.Distances.{NearTable, IsNearOf, IsShortest, IsWalkLength}
+use Rattle.tcc_near.specs.WalkLengths.{NearTable, IsNearOf, IsShortest, IsWalkLength}
 use Rattle.tcc_near.proofs.BreadthLemmas.{Read, read}
-use Rattle.tcc_near.specs.declared.distances.TheConstants.{NONE}
+use Rattle.tcc_near.specs.declared.walk_lengths.TheConstants.{NONE}
 
 -- at the start every place is 0
 pub none_below : (h : History) (t session last : ℕ) → last ≡ 0 → IsLastBelow h t session 1 last

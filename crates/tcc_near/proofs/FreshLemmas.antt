@@ -12,7 +12,7 @@ use Rattle.tcc_graph.specs.Relations.{causal_pair}
 use Rattle.tcc_graph.proofs.Pairs.{pair_kinds, pair_below}
 use Rattle.tcc_reads.specs.History.{History, count}
 use Rattle.tcc_near.proofs.BreadthLemmas.{known, marked_more, numbered_kept, numbered_unmarked, numbered_new}
-use Rattle.tcc_near.specs.declared.distances.TheConstants.{NONE}
+use Rattle.tcc_near.specs.declared.walk_lengths.TheConstants.{NONE}
 use Rattle.tcc_bits.proofs.Lists.{nothing_in, one_of_taken, still_taken, last_taken}
 
 -- ---- spreading

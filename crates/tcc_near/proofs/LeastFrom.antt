@@ -14,10 +14,10 @@ use Rattle.tcc_graph.specs.declared.step.Step.{Step}
 use Rattle.tcc_graph.proofs.Pairs.{step_from_pair, pair_from_step}
 use Rattle.tcc_graph.proofs.Walking.{leads_append}
 use Rattle.tcc_near.proofs.Walks.{within_below}
-use Rattle.tcc_near.specs.Distances.{IsShortest, IsWalkLength, least_in}
+use Rattle.tcc_near.specs.WalkLengths.{IsShortest, IsWalkLength, least_in}
 use Rattle.tcc_near.specs.private.Breadth.{IsSessionEnd, IsBoundFrom, AreEnds, IsPairsFrom, HasLengths}
 use Rattle.tcc_near.specs.private.Backwards.{IsLedFrom, IsLeastFrom, IsLowered, IsNextOrOne, IsFromOn, AreOthers, AreKnown, AreHeads}
-use Rattle.tcc_near.specs.declared.distances.TheConstants.{NONE}
+use Rattle.tcc_near.specs.declared.walk_lengths.TheConstants.{NONE}
 use Rattle.tcc_near.proofs.BreadthLemmas.{Read, read}
 use Rattle.tcc_bits.proofs.Lists.{one_of_taken, still_taken, last_taken, nothing_in}
 use Rattle.tcc_near.proofs.ShortWalks.{few_steps}
@@ -50,7 +50,7 @@ module _ (h : History) (few : count h < NONE) (a : ℕ) (row : List ℕ) (is : H
           subst (λ (d : Option ℕ). IsWalkLength (causally h) a c d) r.1 (is.exact c to) in
           inr (is.short c (slice_index row c) to r.1, some.attained.0, some.attained.1.0, some.attained.2)
 
--- the same ones, said otherwise
+-- least numbers of steps from transactions that are told otherwise
 pub least_same : (h : History) (IsOne IsOther : ℕ → Type 0) (row : List ℕ) → ((b : ℕ) → IsOne b ↔ IsOther b) → IsLeastFrom h IsOne row
     → IsLeastFrom h IsOther row
 least_same h IsOne IsOther row same is = record {

@@ -6,7 +6,7 @@ use Rattle.tcc_graph.specs.Relations.{causal_pair}
 use Rattle.tcc_graph.specs.Levels.{causally}
 use Rattle.tcc_graph.specs.Walks.{step_to, Leads, IsWalk}
 use Rattle.tcc_graph.specs.declared.step.Step.{Step}
-use Rattle.tcc_near.specs.Distances.{IsShortest}
+use Rattle.tcc_near.specs.WalkLengths.{IsShortest}
 use Rattle.tcc_near.specs.private.Breadth.{IsWithin}
 use Rattle.tcc_graph.proofs.Pairs.{pair_kinds, step_from_pair, pair_from_step, pair_below}
 use Rattle.tcc_graph.proofs.Walking.{leads_append}

@@ -9,7 +9,7 @@ use Rattle.tcc_graph.specs.Walks.{step_to, IsWalk, IsReached}
 use Rattle.tcc_graph.specs.declared.step.Step.{Step}
 use Rattle.tcc_graph.specs.declared.step.Step.TheVariants as step
 use Rattle.std.specs.Prelude.{None}
-use Rattle.tcc_near.specs.Distances.{IsShortest, IsWalkLength}
+use Rattle.tcc_near.specs.WalkLengths.{IsShortest, IsWalkLength}
 use Rattle.tcc_graph.proofs.Pairs.{first_pair, pair_kinds, pair_below}
 use Rattle.tcc_graph.proofs.Worked.{x, y, entry, stale_read}
 

@@ -1,2 +1,2 @@
-pub mod Distances
+pub mod WalkLengths
 pub mod private

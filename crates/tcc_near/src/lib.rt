@@ -1,15 +1,15 @@
-//! Distances: the least number of steps from each transaction to each by the walks that a level allows; and by them how much of
-//! each session stands behind each transaction.
+//! Walk lengths: the least number of steps from each transaction to each by the walks that a level allows; and by them vector
+//! clocks, which say how much of each session stands behind each transaction.
 #![tactic(auto)]
 
-mod backwards;
-mod behind;
+mod adjacency;
+mod breadth_first;
 mod clock;
-mod distances;
-mod pairs;
-mod search;
+mod topological;
+mod vector_clocks;
+mod walk_lengths;
 
-pub use behind::{clocks, clocks_of};
+pub use breadth_first::near;
 pub use clock::Clocks;
-pub use distances::{NONE, Near};
-pub use search::near;
+pub use vector_clocks::{clocks, clocks_of};
+pub use walk_lengths::{NONE, Near};

@@ -16,7 +16,7 @@ use Rattle.tcc_graph.proofs.WriterLemmas.{writers_below}
 use Rattle.tcc_bits.proofs.Lists.{nothing_in, zip_at, zip_has, zip-long}
 use Rattle.tcc_clocks.specs.Clocks.{IsOneOf, IsBefore, AreOwners, AreLatestOf, AreClocks}
 use Rattle.tcc_clocks.specs.declared.latest.TheConstants.{WIDE}
-use Rattle.tcc_order.specs.private.Keeping.{IsLatestPast, AreLatestPast, IsOverwritten, IsLiftable, IsLifted, IsClock, IsCovered, AreEnough, Overwrites, TellsNothing}
+use Rattle.tcc_order.specs.private.CausalLinks.{IsLatestPast, AreLatestPast, IsOverwritten, IsLiftable, IsLifted, IsClock, IsCovered, AreEnough, Overwrites, TellsNothing}
 use Rattle.tcc_order.specs.private.ByKey.{AreReadingsFrom, AreReadingRows, IsBeside, AddsReadings, IsTop, AreAlike, IsLikeBefore, reader_in, key_index_in}
 use Rattle.tcc_order.proofs.Readings.{key_place}
 use Rattle.tcc_order.proofs.Needing.{IsUpTo, same_session, clock_reaches, passed_enough}

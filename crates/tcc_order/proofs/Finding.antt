@@ -22,7 +22,7 @@ use Rattle.tcc_graph.proofs.Linking.{link_route}
 use Rattle.tcc_graph.proofs.WriterLemmas.{writer_in, read_is_key}
 use Rattle.tcc_clocks.specs.Parents.{parents, previous, previous_one, sources}
 use Rattle.tcc_order.specs.private.Held.{holds}
-use Rattle.tcc_order.specs.private.Keeping.{IsCovered, IsKeptUpTo, AreDerived, AreEnough, AreLinks, Derives, Overwrites, HasNone}
+use Rattle.tcc_order.specs.private.CausalLinks.{IsCovered, IsKeptUpTo, AreDerived, AreEnough, AreLinks, Derives, Overwrites, HasNone}
 use Rattle.tcc_clocks.specs.Clocks.{LeadsOnward}
 use Rattle.tcc_order.specs.private.Numbering.{IsOrderOf, IsFirstOf, Joins, HasCircle}
 use Rattle.tcc_order.proofs.Fronts.{holds_there, holds_parts}

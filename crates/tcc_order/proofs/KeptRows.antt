@@ -4,7 +4,7 @@ use Rattle.std.specs.List.{Contains}
 use Rattle.std.proofs.lemmas.Bool.{cases_eq}
 use Rattle.std.proofs.lemmas.List.{get_or-set_same, get_or-set_other}
 use Rattle.tcc_graph.specs.Tables.{row_of}
-use Rattle.tcc_order.specs.private.Keeping.{AreDerived}
+use Rattle.tcc_order.specs.private.CausalLinks.{AreDerived}
 
 module _ (kept : List (List ℕ)) (a : ℕ) (new : List ℕ) (inside : a < length kept) where
   pub row_here : row_of (set kept a new) a ≡ new

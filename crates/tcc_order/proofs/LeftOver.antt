@@ -16,7 +16,7 @@ use Rattle.tcc_clocks.specs.Parents.{parents, previous_one, sources}
 use Rattle.tcc_clocks.proofs.Reaching.{parent_before, parent_one, source_reads}
 use Rattle.tcc_order.specs.Placements.{IsDerivedPair, IsLeft, HoldsBack, IsStuck, ArePairsStuck}
 use Rattle.tcc_order.specs.private.Held.{befores, holds, IsFreeBy}
-use Rattle.tcc_order.specs.private.Keeping.{AreDerived, Derives, HasNone}
+use Rattle.tcc_order.specs.private.CausalLinks.{AreDerived, Derives, HasNone}
 use Rattle.tcc_order.specs.private.Numbering.{Joins, HasCircle}
 use Rattle.tcc_order.specs.private.Placed.{IsLeftOut, IsStuckBy}
 use Rattle.tcc_order.proofs.Circle.{HasBefore, prior_of, some_left, left_circle}

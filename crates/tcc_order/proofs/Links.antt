@@ -13,7 +13,7 @@ use Rattle.tcc_graph.specs.Routes.{HasCycle}
 use Rattle.tcc_graph.specs.declared.link.Link.{Link}
 use Rattle.tcc_graph.specs.declared.link.Link.TheVariants as link
 use Rattle.tcc_order.proofs.Kept.{IsLinked, has_link}
-use Rattle.tcc_order.specs.private.Keeping.{IsAllowedFrom}
+use Rattle.tcc_order.specs.private.CausalLinks.{IsAllowedFrom}
 
 -- what stands before a by a pair, or by a reason over a reader of a
 abbrev pub IsLinkedBy : Judged → ℕ → ℕ → Type 0

@@ -15,8 +15,8 @@ use Rattle.tcc_graph.proofs.Pairs.{lower_first}
 use Rattle.tcc_graph.proofs.Walking.{pair_walk, reached_append}
 use Rattle.tcc_bits.proofs.Lists.{one_of_taken, still_taken, last_taken, nothing_in}
 use Rattle.tcc_clocks.specs.Clocks.{IsOneOf, IsBefore, AreOwners, IsLatestOf, AreLatestOf, AreClocks}
-use Rattle.tcc_order.specs.private.Keeping.{AreLatestPast, TellsNothing, IsOverwritten, IsLiftable, IsLifted, lifted_by}
-use Rattle.tcc_order.specs.private.Keeping.{IsCovered, IsKeptEarlier, AreRuns, KeepsNews, IsBegun, AreDerived, AreEnough, Overwrites}
+use Rattle.tcc_order.specs.private.CausalLinks.{AreLatestPast, TellsNothing, IsOverwritten, IsLiftable, IsLifted, lifted_by}
+use Rattle.tcc_order.specs.private.CausalLinks.{IsCovered, IsKeptEarlier, AreRuns, KeepsNews, IsBegun, AreDerived, AreEnough, Overwrites}
 use Rattle.tcc_clocks.specs.declared.latest.TheConstants.{WIDE}
 use Rattle.tcc_order.proofs.KeptRows.{row_here, rows_wider, rows_derived}
 

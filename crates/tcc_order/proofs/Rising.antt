@@ -7,7 +7,7 @@ use Rattle.std.proofs.lemmas.Bool.{cases_lt, cases_eq, leb-true, leb-false}
 use Rattle.std.proofs.lemmas.List.{get_or_default, get_or-set_same, get_or-set_other}
 use Rattle.tcc_reads.specs.History.{History, IsBySession}
 use Rattle.tcc_clocks.specs.Clocks.{IsBefore, IsOneOf, AreOwners, AreLatestOf}
-use Rattle.tcc_order.specs.private.Keeping.{IsLiftable, IsLifted, IsLastUpTo, IsLastBut, AreOrdered, IsClock}
+use Rattle.tcc_order.specs.private.CausalLinks.{IsLiftable, IsLifted, IsLastUpTo, IsLastBut, AreOrdered, IsClock}
 
 pub owners_ordered : (h : History) → IsBySession h.entries → (owners : List ℕ) → AreOwners h owners → AreOrdered owners
 owners_ordered h numbered owners known m n some less below =

@@ -5,7 +5,7 @@ use Rattle.std.proofs.lemmas.List.Elements.{All-contains}
 use Rattle.tcc_clocks.specs.Spans.{AreBounds}
 use Rattle.tcc_clocks.specs.private.Between.{IsBetween}
 use Rattle.tcc_clocks.specs.declared.latest.TheConstants.{WIDE}
-use Rattle.tcc_order.specs.private.Keeping.{IsLiftable, IsLifted}
+use Rattle.tcc_order.specs.private.CausalLinks.{IsLiftable, IsLifted}
 
 -- what is lifted by the writers of the block is lifted by all writers
 pub lifted_between : (owners : List ℕ) (from low high : ℕ) (clock xs part : List ℕ) (a k old new : ℕ) → k < WIDE → AreBounds owners from low high

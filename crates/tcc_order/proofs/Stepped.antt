@@ -18,8 +18,8 @@ use Rattle.tcc_graph.proofs.WriterLemmas.{writers_below}
 use Rattle.tcc_bits.proofs.Lists.{one_of_taken, still_taken, last_taken, nothing_in, zip_at, zip_has, zip-long}
 use Rattle.tcc_clocks.specs.Parents.{HasSourcesAt, parents, previous_one, sources}
 use Rattle.tcc_clocks.specs.Clocks.{AreOwners}
-use Rattle.tcc_order.specs.private.Keeping.{IsLiftable, IsLifted, IsCovered, AreLinks, Derives}
-use Rattle.tcc_order.specs.private.Stepping.{IsOther, StepsOver, HasParents, HaveParents, KeepsRead, KeepsSome, KeepsInto}
+use Rattle.tcc_order.specs.private.CausalLinks.{IsLiftable, IsLifted, IsCovered, AreLinks, Derives}
+use Rattle.tcc_order.specs.private.AtomicLinks.{IsOther, StepsOver, HasParents, HaveParents, KeepsRead, KeepsSome, KeepsInto}
 use Rattle.tcc_order.proofs.Readings.{IsTaken, named_long, named_each, named_at}
 use Rattle.std.specs.Prelude.{zip}
 use Rattle.tcc_order.proofs.Needing.{same_session}

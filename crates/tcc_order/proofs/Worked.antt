@@ -11,7 +11,7 @@ use Rattle.tcc_graph.specs.declared.step.Step.TheVariants as step
 use Rattle.tcc_order.specs.private.Numbering.{Joins, HasCircle}
 use Rattle.tcc_clocks.specs.Parents.{previous, parents}
 use Rattle.tcc_order.specs.private.Held.{holds}
-use Rattle.tcc_order.specs.private.Stepping.{StepsOver}
+use Rattle.tcc_order.specs.private.AtomicLinks.{StepsOver}
 use Rattle.tcc_order.proofs.Reached.{walks}
 use Rattle.tcc_order.proofs.Linked.{linked, linked_precedence}
 use Rattle.tcc_order.proofs.OrderOrCycle.{no_cycle}

@@ -4,7 +4,7 @@ pub mod Lasts
 pub mod Held
 pub mod Placed
 pub mod Queued
-pub mod Keeping
+pub mod CausalLinks
 pub mod ByKey
 pub mod Found
-pub mod Stepping
+pub mod AtomicLinks

@@ -2,16 +2,16 @@
 //! table of two transactions each; and the law that there is one exactly where there is no cycle.
 #![tactic(auto)]
 
+mod atomic_links;
 mod by_key;
-mod clocking;
-mod keeping;
+mod causal_links;
+mod clocks_along;
+mod commit_order;
+mod kahn;
 pub mod laws;
-mod ordering;
 mod placement;
-mod placing;
 mod ready;
-mod stepping;
 
-pub use clocking::clocks;
-pub use ordering::{order, order_of_pairs, place, place_pairs};
+pub use clocks_along::clocks;
+pub use commit_order::{order, order_of_pairs, place, place_pairs};
 pub use placement::{PairPlacement, Placement, Stuck};

@@ -1,4 +1,4 @@
-//! Numbers of which the least is taken out next.
+//! Numbers of which the least is taken out next: a binary heap, log N steps for each that is put in or taken out of N.
 ghost use Rattle.std.specs.Prelude.{◌≡◌, ◌⊎◌, ◌↔◌, ℕ, Contains, IfOk, OnOk, MatchOption};
 ghost use Rattle.tcc_order.specs.private.Queued.{IsPopped};
 

@@ -34,8 +34,10 @@ use Rattle.tcc_print.specs.declared.halt.Halt.{Halt}
 use Rattle.tcc_print.specs.declared.halt.Halt.TheVariants as halt
 use Rattle.tcc_print.specs.declared.last.Last.{Last}
 use Rattle.tcc_print.specs.declared.status.Status.TheVariants.{Memory}
-use Rattle.tcc_print.specs.private.Courses.{AllAnswered, AnswersKept, Course, EndsAnswering, EndsEarly, IsFor, IsStill, SaysLast}
-use Rattle.tcc_print.proofs.Moments.{AllZip-append, all-fault, all-items, at_end-due, at_end-none, due-passed, due-seal}
+use Rattle.tcc_print.specs.private.Courses.{AllAnswered, Course, EndsAgain, EndsAnswering, EndsEarly, EndsSaying, IsFor, IsStill, IsTold}
+use Rattle.tcc_print.specs.private.Courses.{Repeats, SaysAgain, SaysLast}
+use Rattle.tcc_print.proofs.LastSaid.{last_snapshot}
+use Rattle.tcc_print.proofs.Moments.{AreSaid-push, all-fault, all-items, at_end-due, at_end-none, due-passed, due-seal}
 use Rattle.tcc_print.proofs.Moments.{finished-seal, first-taken, last-push, part-of, same-passed, sealed-passed, sealed-seal, still_due}
 
 texts-push : (said : List Said) (one : Said) → texts (said ++ one ∷ []) ≡ texts said ++ one.text
@@ -45,7 +47,7 @@ texts-push said one = flat_map-append (λ (one : Said). one.text) said (one ∷ 
 Appends-part : (a b c : Option (List ℕ)) (x y : List ℕ) (n : ℕ) → Appends a b x → Appends b c (take n y) → Appends a c (take (length x + n) (x ++ y))
 Appends-part a b c x y n out part = subst (λ t. Appends a c t) (sym (take-append-add x y n)) (Appends-trans a b c x (take n y) out part)
 
-module _ {O K : Type 0} (course : Course O K) (text : List ℕ) (before : Option (List ℕ)) where
+module _ {O : Type 0} (course : Course O) (text : List ℕ) (before : Option (List ℕ)) where
   -- the run is ended after some answers
   ended : (n : ℕ) (why : Halt) (said : List Said) (now after : Option (List ℕ)) (code : ℕ) → MayEnd course.limits text n why
       → AreSaid course.is_said (sealed_in (take n (answers_within course.limits text).items)) said → Appends before now (texts said)
@@ -104,13 +106,32 @@ module _ {O K : Type 0} (course : Course O K) (text : List ℕ) (before : Option
         ),
       )
 
--- what is known of what was said last: nothing was, and an answer is due; or nothing is due, and it is that of all that was
+-- what is known of what was said last: nothing was said, and an answer is due; or nothing is due, and it is that of all that was
 -- finished
-abbrev pub IsLast : {O K : Type 0} → Course O K → Option (Last O) → List Item → List Said → Type 0
-IsLast course None taken said = is_due_after true taken ≡ true
+abbrev pub IsLast : {O : Type 0} → Course O → Option (Last O) → List Item → List Said → Type 0
+IsLast course None taken said = (is_due_after true taken ≡ true) × (said ≡ [])
 IsLast course (Some last) taken said =
     (is_due_after true taken ≡ false) × IsFor course (finished_in taken) last
     × (last_or None said ≡ Some (course.say last.outcome))
+
+inside : {X : Type 0} (x y : X) → Some x ≡ Some y → x ≡ y
+inside x y e = cc e
+
+nothing : {X : Type 0} (x : X) → None ≡ Some x → ⊥
+nothing x e = cc e
+
+-- where nothing is due, the last seal was behind all that was finished
+last-sealed : (taken : List Item) → is_due_after true taken ≡ false → last_or None (sealed_in taken) ≡ Some (finished_in taken)
+last-sealed taken none =
+    let (front, is) = last_snapshot taken in
+    ap (last_or None) (sym (append-nil (sealed_in taken)) ∙ sym (ap (λ end. sealed_in taken ++ end) (at_end-none taken none)) ∙ is)
+    ∙ last-push None front (finished_in taken)
+
+-- what was said for another number of transactions is not to be said again
+pub nothing_again : {O : Type 0} (course : Course O) (s : Sessions) (last : Option (Last O)) (said : Said)
+    → IfSome last (λ last. last.transactions ≢ transaction_count s) → Repeats course s last said
+nothing_again course s None said other = tt
+nothing_again course s (Some last) said other = λ same. absurd (other same)
 
 -- a run that ends by a number ends by that of the call that ended it
 pub ended_by : {A : Type 0} (P : A → Type 0) (Q : ℕ → Type 0) (r : Result A ℕ) (why : ℕ) → IsErrAnd r (λ code. code ≡ why) → Q why → MatchResult r P Q
@@ -135,7 +156,7 @@ said_or_due {O = O} (Some last) n = by_test (nat_eq last.transactions n) refl
     by_test false e = inr (differ _ _ e)
 
 -- some items of all were taken, and the snapshots at the seals among them were answered
-pub record HasAnswered {R B O K : Type 0} (remaining : R → Option (List ℕ)) (course : Course O K) (text : List ℕ) (recording : RecordingWithin R B)
+pub record HasAnswered {R B O : Type 0} (remaining : R → Option (List ℕ)) (course : Course O) (text : List ℕ) (recording : RecordingWithin R B)
     (before now : Option (List ℕ)) (answered : Option (Last O)) : Type 0 where
   pub taken : List Item
   pub ahead : Answers
@@ -151,7 +172,7 @@ Appends-none None = tt
 Appends-none (Some bytes) = sym (append-nil bytes)
 
 -- nothing is taken yet
-pub none-answered : {R B O K : Type 0} (remaining : R → Option (List ℕ)) (course : Course O K) (text : List ℕ) (recording : RecordingWithin R B)
+pub none-answered : {R B O : Type 0} (remaining : R → Option (List ℕ)) (course : Course O) (text : List ℕ) (recording : RecordingWithin R B)
     (before : Option (List ℕ)) → IsRecording course.limits remaining recording [] (answers_within course.limits text)
     → HasAnswered remaining course text recording before before None
 none-answered remaining course text recording before is = record {
@@ -160,13 +181,12 @@ none-answered remaining course text recording before is = record {
   said = [];
   whole = refl;
   recorded = is;
-  answers = tt;
+  answers = (tt, tt);
   out = Appends-none before;
-  last = refl;
+  last = (refl, refl);
 }
 
-module _ {R B O K : Type 0} (remaining : R → Option (List ℕ)) (course : Course O K)
-    (said_of : (s : Sessions) (o : O) → course.is_outcome s o → course.is_said s (course.say o)) (text : List ℕ)
+module _ {R B O : Type 0} (remaining : R → Option (List ℕ)) (course : Course O) (text : List ℕ)
     (old new : RecordingWithin R B) (before now : Option (List ℕ)) (answered : Option (Last O)) (way : HasAnswered remaining course text old before now answered) where
   first-kept : take (length way.taken) (answers_within course.limits text).items ≡ way.taken
   first-kept = first-taken (answers_within course.limits text) way.taken way.ahead way.whole
@@ -182,6 +202,19 @@ module _ {R B O K : Type 0} (remaining : R → Option (List ℕ)) (course : Cour
   one-more one after out =
       subst (λ t. Appends before after t) (sym (texts-push way.said one)) (Appends-trans before now after (texts way.said) one.text way.out out)
 
+  -- the answers with one more, that of a snapshot
+  pushed : (s : Sessions) (one : Said) → course.is_said s one → Repeats course s answered one
+      → AreSaid course.is_said (sealed_in way.taken ++ s ∷ []) (way.said ++ one ∷ [])
+  pushed s one answer repeats = AreSaid-push (course.is_said) (sealed_in way.taken) way.said s one way.answers answer (same answered way.last repeats)
+    where
+      same : (o : Option (Last O)) → IsLast course o way.taken way.said → Repeats course s o one
+          → (t : Sessions) (other : Said) → last_or None (sealed_in way.taken) ≡ Some t → last_or None way.said ≡ Some other → t ≡ s → other ≡ one
+      same None known repeats t other sealed said is = absurd (nothing other (sym (ap (last_or None) known.1) ∙ said))
+      same (Some last) known repeats t other sealed said is =
+          let at : t ≡ finished_in way.taken = inside _ _ (sym sealed ∙ last-sealed way.taken known.0) in
+          let one_said : other ≡ course.say last.outcome = inside _ _ (sym said ∙ known.2) in
+          one_said ∙ sym (repeats (known.1.0 ∙ ap transaction_count (sym at ∙ is)))
+
   -- ---- at a seal
 
   module _ (at : TakesMoment course.limits remaining way.taken way.ahead (Ok moment.Seal) new) where
@@ -196,12 +229,12 @@ module _ {R B O K : Type 0} (remaining : R → Option (List ℕ)) (course : Cour
         (sym (append_assoc way.taken (at.0 ++ item.Seal ∷ []) at.1.items ∙ ap (λ items. way.taken ++ items) (append_assoc at.0 (item.Seal ∷ []) at.1.items)))
 
     -- the snapshots to answer, with the one at the seal
-    past-answered : (s : Sessions) (one : Said) → s ≡ finished_in sealed_past → course.is_said s one
+    past-answered : (s : Sessions) (one : Said) → s ≡ finished_in sealed_past → course.is_said s one → Repeats course s answered one
         → AreSaid course.is_said (sealed_in sealed_past) (way.said ++ one ∷ [])
-    past-answered s one same answer =
+    past-answered s one same answer repeats =
+        let now : s ≡ finished_in (way.taken ++ at.0) = same ∙ finished-seal way.taken at.0 in
         subst (λ snapshots. AreSaid course.is_said snapshots (way.said ++ one ∷ [])) (sym (sealed-seal way.taken at.0 at.2.0))
-        (AllZip-append (course.is_said) (sealed_in way.taken) (finished_in (way.taken ++ at.0) ∷ []) way.said (one ∷ []) way.answers
-        (subst (λ s. course.is_said s one) (same ∙ finished-seal way.taken at.0) answer, tt))
+        (subst (λ s. AreSaid course.is_said (sealed_in way.taken ++ s ∷ []) (way.said ++ one ∷ [])) now (pushed s one answer repeats))
 
     -- where nothing was finished since, what was said last is said of this snapshot, too
     still-seal : (s : Sessions) → s ≡ finished_in sealed_past → IsStill course s answered
@@ -212,12 +245,12 @@ module _ {R B O K : Type 0} (remaining : R → Option (List ℕ)) (course : Cour
         by (Some last) known = λ counted.
             let now : s ≡ finished_in (way.taken ++ at.0) = same ∙ finished-seal way.taken at.0 in
             let still = same-passed way.taken at.0 at.2.0 (sym (ap transaction_count now) ∙ sym counted ∙ known.1.0) in
-            subst (λ s. course.is_outcome s last.outcome) (sym (now ∙ still)) known.1.1
+            subst (λ s. IsTold course s last.outcome) (sym (now ∙ still)) known.1.1
 
     -- it is said, and is what was said last
     answered-seal : (s : Sessions) (last : Last O) (after : Option (List ℕ)) → s ≡ finished_in sealed_past
-        → SaysLast course s now after last → HasAnswered remaining course text new before after (Some last)
-    answered-seal s last after same (is, out) =
+        → SaysAgain course s answered now after last → HasAnswered remaining course text new before after (Some last)
+    answered-seal s last after same ((is, out), repeats) =
         let one = course.say last.outcome in
         record {
           taken = sealed_past;
@@ -225,19 +258,19 @@ module _ {R B O K : Type 0} (remaining : R → Option (List ℕ)) (course : Cour
           said = way.said ++ one ∷ [];
           whole = past-whole;
           recorded = at.3;
-          answers = past-answered s one same (said_of s last.outcome is.1);
+          answers = past-answered s one same is.1.0 repeats;
           out = one-more one after out;
           last = (due-seal way.taken at.0, subst (λ s. IsFor course s last) same is, last-push None way.said one);
         }
 
     -- or the run ends in it
-    ended-seal : (s : Sessions) (after : Option (List ℕ)) (code : ℕ) → s ≡ finished_in sealed_past → EndsAnswering course s now after code
+    ended-seal : (s : Sessions) (after : Option (List ℕ)) (code : ℕ) → s ≡ finished_in sealed_past → EndsAgain course s answered now after code
         → EndsEarly course text before after code
     ended-seal s after code same (inr memory) = wants_memory after code memory
-    ended-seal s after code same (inl (one, answer, cuts)) =
+    ended-seal s after code same (inl (one, answer, repeats, cuts)) =
         cut course text before (length sealed_past) way.said one now after code
         (subst (λ items. AreSaid course.is_said (sealed_in items) (way.said ++ one ∷ []))
-        (sym (first-taken (answers_within course.limits text) sealed_past at.1 past-whole)) (past-answered s one same answer)) way.out cuts
+        (sym (first-taken (answers_within course.limits text) sealed_past at.1 past-whole)) (past-answered s one same answer repeats)) way.out cuts
 
   -- ---- at the end
 
@@ -260,9 +293,8 @@ module _ {R B O K : Type 0} (remaining : R → Option (List ℕ)) (course : Cour
     )
 
     -- what the records have finished is the snapshot of the recording
-    all-finished : {A : Type 0} (r : Result A ℕ) → IfOk r (λ _. new.snapshot ≡ finished_in (answers_within course.limits text).items)
-    all-finished (Ok done) = at.2.snapshot ∙ ap finished_in (sym all_taken)
-    all-finished (Err code) = tt
+    all-finished : new.snapshot ≡ finished_in (answers_within course.limits text).items
+    all-finished = at.2.snapshot ∙ ap finished_in (sym all_taken)
 
     -- an answer is due where the last one was for fewer
     is_due : IfSome answered (λ last. last.transactions ≢ transaction_count (finished_in all_past)) → is_due_after true all_past ≡ true
@@ -270,29 +302,37 @@ module _ {R B O K : Type 0} (remaining : R → Option (List ℕ)) (course : Cour
       where
         by : (o : Option (Last O)) → IfSome o (λ last. last.transactions ≢ transaction_count (finished_in all_past)) → IsLast course o way.taken way.said
             → is_due_after true all_past ≡ true
-        by None other known = still_due way.taken at.0 at.1.0 known
+        by None other known = still_due way.taken at.0 at.1.0 known.0
         by (Some last) other known = elim (due-passed way.taken at.0 at.1.0) [
           | inl rise ↦ rise.0
           | inr same ↦ absurd (other (known.1.0 ∙ sym (ap transaction_count same.1)))
         ]
 
-    module _ (s : Sessions) (same : s ≡ finished_in all_past) (due : is_due_after true all_past ≡ true) where
+    module _ (s : Sessions) (same : s ≡ finished_in all_past) (other : IfSome answered (λ last. last.transactions ≢ transaction_count s)) where
+      due : is_due_after true all_past ≡ true
+      due = is_due (subst (λ (s : Sessions). IfSome answered (λ last. last.transactions ≢ transaction_count s)) same other)
+
       end-answered : (one : Said) → course.is_said s one → IsWhole course.is_said (answers_within course.limits text) (way.said ++ one ∷ [])
       end-answered one answer =
           whole-by (way.said ++ one ∷ [])
           (subst (λ end. AreSaid course.is_said (sealed_in way.taken ++ end) (way.said ++ one ∷ [])) (sym (at_end-due all_past due))
-          (AllZip-append (course.is_said) (sealed_in way.taken) (finished_in all_past ∷ []) way.said (one ∷ []) way.answers
-          (subst (λ s. course.is_said s one) same answer, tt)))
+          (subst (λ s. AreSaid course.is_said (sealed_in way.taken ++ s ∷ []) (way.said ++ one ∷ [])) same
+          (pushed s one answer (nothing_again course s answered one other))))
 
       -- the answer is the last text
-      end-kept : (after : Option (List ℕ)) (kept : K) → AnswersKept course s now after kept → AllAnswered course text before after kept
-      end-kept after kept (one, answer, keeps, out) =
-          (way.said ++ one ∷ [], one, end-answered one answer, last-push None way.said one, keeps, one-more one after out)
+      end-kept : (after : Option (List ℕ)) (last : Last O) → SaysLast course s now after last → AllAnswered course text before after last
+      end-kept after last (is, out) = (
+        way.said ++ course.say last.outcome ∷ [],
+        end-answered (course.say last.outcome) is.1.0,
+        last-push None way.said (course.say last.outcome),
+        subst (λ s. course.is_outcome s last.outcome) (same ∙ ap finished_in (sym all_taken)) is.1.1,
+        one-more (course.say last.outcome) after out,
+      )
 
       -- or the run ends in it
       end-cut : (after : Option (List ℕ)) (code : ℕ) → EndsAnswering course s now after code → EndsEarly course text before after code
       end-cut after code (inr memory) = wants_memory after code memory
-      end-cut after code (inl (one, answer, cuts)) = (
+      end-cut after code (inl (one, answer, holds, cuts)) = (
         way.said ++ one ∷ [],
         one,
         inl (end-answered one answer),
@@ -307,53 +347,48 @@ module _ {R B O K : Type 0} (remaining : R → Option (List ℕ)) (course : Cour
         ),
       )
 
-    module _ (keep : Last O → K) (keeps_of : (last : Last O) → course.keeps (keep last) (course.say last.outcome)) where
-      -- nothing was finished since the last answer, which has said all
-      said_all : (last : Last O) → answered ≡ Some last → last.transactions ≡ transaction_count (finished_in all_past)
-          → AllAnswered course text before now (keep last)
-      said_all last is counted =
-          let known = subst (λ o. IsLast course o way.taken way.said) is way.last in
-          let none : is_due_after true all_past ≡ false = elim (due-passed way.taken at.0 at.1.0) [
-            | inl rise ↦ absurd (omega (arith, rise.1, known.1.0, counted))
-            | inr same ↦ same.0 ∙ known.0
-          ] in (
-            way.said,
-            course.say last.outcome,
-            whole-by way.said (subst (λ end. AreSaid course.is_said (sealed_in way.taken ++ end) way.said) (sym (at_end-none all_past none))
-                (subst (λ snapshots. AreSaid course.is_said snapshots way.said) (sym (append-nil (sealed_in way.taken))) way.answers)),
-            known.2,
-            keeps_of last,
-            way.out,
-          )
+    -- nothing was finished since the last answer, which has said all
+    said_all : (last : Last O) → answered ≡ Some last → last.transactions ≡ transaction_count (finished_in all_past)
+        → AllAnswered course text before now last
+    said_all last is counted =
+        let known = subst (λ o. IsLast course o way.taken way.said) is way.last in
+        let still : (is_due_after true all_past ≡ false) × (finished_in all_past ≡ finished_in way.taken) = elim (due-passed way.taken at.0 at.1.0) [
+          | inl rise ↦ absurd (omega (arith, rise.1, known.1.0, counted))
+          | inr same ↦ (same.0 ∙ known.0, same.1)
+        ] in (
+          way.said,
+          whole-by way.said (subst (λ end. AreSaid course.is_said (sealed_in way.taken ++ end) way.said) (sym (at_end-none all_past still.0))
+              (subst (λ snapshots. AreSaid course.is_said snapshots way.said) (sym (append-nil (sealed_in way.taken))) way.answers)),
+          known.2,
+          subst (λ s. course.is_outcome s last.outcome) (sym (ap finished_in all_taken ∙ still.1)) known.1.1.1,
+          way.out,
+        )
 
-      -- what the answer at the end says of the run
-      ended-end : (s : Sessions) (after : Option (List ℕ)) (r : Result K ℕ) → s ≡ finished_in all_past
-          → IfSome answered (λ last. last.transactions ≡ transaction_count s → (after ≡ now) × (r ≡ Ok (keep last)))
-          → (IfSome answered (λ last. last.transactions ≢ transaction_count s)
-          → MatchResult r (AnswersKept course s now after) (EndsAnswering course s now after))
-          → MatchResult r (AllAnswered course text before after) (EndsEarly course text before after)
-      ended-end s after r same said due = elim (said_or_due answered (transaction_count s)) [
-        | inl known ↦
-            again known.0 known.1 known.2
-            (subst (λ (o : Option (Last O)). IfSome o (λ last. last.transactions ≡ transaction_count s → (after ≡ now) × (r ≡ Ok (keep last)))) known.1 said
-            known.2)
-        | inr other ↦ fresh other r (due other)
-      ]
-        where
-          again : (last : Last O) → answered ≡ Some last → last.transactions ≡ transaction_count s → (after ≡ now) × (r ≡ Ok (keep last))
-              → MatchResult r (AllAnswered course text before after) (EndsEarly course text before after)
-          again last is counted sent =
-              subst (λ r. MatchResult r (AllAnswered course text before after) (EndsEarly course text before after)) (sym sent.1)
-              (subst (λ o. AllAnswered course text before o (keep last)) (sym sent.0) (said_all last is (counted ∙ ap transaction_count same)))
+    -- what the answer at the end says of the run
+    ended-end : (s : Sessions) (after : Option (List ℕ)) (r : Result (Last O) ℕ) → s ≡ finished_in all_past
+        → IfSome answered (λ last. last.transactions ≡ transaction_count s → (after ≡ now) × (r ≡ Ok last))
+        → (IfSome answered (λ last. last.transactions ≢ transaction_count s)
+        → MatchResult r (SaysLast course s now after) (EndsAnswering course s now after))
+        → MatchResult r (AllAnswered course text before after) (EndsEarly course text before after)
+    ended-end s after r same said due = elim (said_or_due answered (transaction_count s)) [
+      | inl known ↦
+          again known.0 known.1 known.2
+          (subst (λ (o : Option (Last O)). IfSome o (λ last. last.transactions ≡ transaction_count s → (after ≡ now) × (r ≡ Ok last))) known.1 said
+          known.2)
+      | inr other ↦ fresh other r (due other)
+    ]
+      where
+        again : (last : Last O) → answered ≡ Some last → last.transactions ≡ transaction_count s → (after ≡ now) × (r ≡ Ok last)
+            → MatchResult r (AllAnswered course text before after) (EndsEarly course text before after)
+        again last is counted sent =
+            subst (λ r. MatchResult r (AllAnswered course text before after) (EndsEarly course text before after)) (sym sent.1)
+            (subst (λ o. AllAnswered course text before o last) (sym sent.0) (said_all last is (counted ∙ ap transaction_count same)))
 
-          late : IfSome answered (λ last. last.transactions ≢ transaction_count s) → is_due_after true all_past ≡ true
-          late other = is_due (subst (λ (s : Sessions). IfSome answered (λ last. last.transactions ≢ transaction_count s)) same other)
-
-          fresh : IfSome answered (λ last. last.transactions ≢ transaction_count s) → (r : Result K ℕ)
-              → MatchResult r (AnswersKept course s now after) (EndsAnswering course s now after)
-              → MatchResult r (AllAnswered course text before after) (EndsEarly course text before after)
-          fresh other (Ok kept) is = end-kept s same (late other) after kept is
-          fresh other (Err code) is = end-cut s same (late other) after code is
+        fresh : IfSome answered (λ last. last.transactions ≢ transaction_count s) → (r : Result (Last O) ℕ)
+            → MatchResult r (SaysLast course s now after) (EndsAnswering course s now after)
+            → MatchResult r (AllAnswered course text before after) (EndsEarly course text before after)
+        fresh other (Ok last) is = end-kept s same other after last is
+        fresh other (Err code) is = end-cut s same other after code is
 
   -- ---- at a fault
 
@@ -407,7 +442,7 @@ module _ {R B O K : Type 0} (remaining : R → Option (List ℕ)) (course : Cour
     comes n is = subst (λ m. TakesMoment course.limits remaining way.taken way.ahead (Ok m) new) is (takes way.taken way.ahead way.recorded)
 
     -- at a seal what is to be said of the snapshot is what was said last from then on
-    pub says-seal : m ≡ moment.Seal → (last : Last O) (after : Option (List ℕ)) → (IsStill course s answered → SaysLast course s now after last)
+    pub says-seal : m ≡ moment.Seal → (last : Last O) (after : Option (List ℕ)) → (IsStill course s answered → SaysAgain course s answered now after last)
         → HasAnswered remaining course text new before after (Some last)
     says-seal is last after says =
         let at = comes moment.Seal is in
@@ -415,8 +450,8 @@ module _ {R B O K : Type 0} (remaining : R → Option (List ℕ)) (course : Cour
         answered-seal at s last after same (says (still-seal at s same))
 
     -- or the run ends in it
-    pub ends-seal : m ≡ moment.Seal → (r : Result K ℕ) (why : ℕ) (after : Option (List ℕ)) → IsErrAnd r (λ code. code ≡ why)
-        → (IsStill course s answered → EndsAnswering course s now after why)
+    pub ends-seal : m ≡ moment.Seal → (r : Result (Last O) ℕ) (why : ℕ) (after : Option (List ℕ)) → IsErrAnd r (λ code. code ≡ why)
+        → (IsStill course s answered → EndsAgain course s answered now after why)
         → MatchResult r (AllAnswered course text before after) (EndsEarly course text before after)
     ends-seal is r why after gives ends =
         let at = comes moment.Seal is in
@@ -425,18 +460,17 @@ module _ {R B O K : Type 0} (remaining : R → Option (List ℕ)) (course : Cour
         (ended-seal at s after why same (ends (still-seal at s same)))
 
     -- what the answer at the end says of the run
-    pub says-end : m ≡ moment.End → (keep : Last O → K) → ((last : Last O) → course.keeps (keep last) (course.say last.outcome))
-        → (after : Option (List ℕ)) (r : Result K ℕ)
-        → IfSome answered (λ last. last.transactions ≡ transaction_count s → (after ≡ now) × (r ≡ Ok (keep last)))
+    pub says-end : m ≡ moment.End → (after : Option (List ℕ)) (r : Result (Last O) ℕ)
+        → IfSome answered (λ last. last.transactions ≡ transaction_count s → (after ≡ now) × (r ≡ Ok last))
         → (IfSome answered (λ last. last.transactions ≢ transaction_count s)
-        → MatchResult r (AnswersKept course s now after) (EndsAnswering course s now after))
+        → MatchResult r (SaysLast course s now after) (EndsAnswering course s now after))
         → MatchResult r (AllAnswered course text before after) (EndsEarly course text before after)
-    says-end is keep keeps_of after r said due =
+    says-end is after r said due =
         let at = comes moment.End is in
-        ended-end at keep keeps_of s after r (finished (all_past at) (ending None) at.2) said due
+        ended-end at s after r (finished (all_past at) (ending None) at.2) said due
 
-    pub finished-end : m ≡ moment.End → {A : Type 0} (r : Result A ℕ) → IfOk r (λ _. new.snapshot ≡ finished_in (answers_within course.limits text).items)
-    finished-end is r = all-finished (comes moment.End is) r
+    pub finished-end : m ≡ moment.End → new.snapshot ≡ finished_in (answers_within course.limits text).items
+    finished-end is = all-finished (comes moment.End is)
 
   -- the run ends by a fault
   pub ends-fault : (fault : RowFault) (after : Option (List ℕ)) (code : ℕ)
@@ -460,18 +494,19 @@ Gains-none None = refl
 Gains-none (Some bytes) = Appends-none bytes
 
 -- memory is out before anything is read
-pub nothing_read : {O K : Type 0} (course : Course O K) (text : List ℕ) (before after : Option (List ℕ)) (code : ℕ)
+pub nothing_read : {O : Type 0} (course : Course O) (text : List ℕ) (before after : Option (List ℕ)) (code : ℕ)
     → Prints before after (memory_line course.options.json) Memory code → EndsEarly course text before after code
-nothing_read course text before after code prints = ended course text before 0 halt.NoMemory [] before after code tt tt (Appends-none before) prints
+nothing_read course text before after code prints =
+    ended course text before 0 halt.NoMemory [] before after code tt (tt, tt) (Appends-none before) prints
 
 -- ---- one answer
 
 -- the run ended in what is to be said of a snapshot
-pub ended_saying : {O K : Type 0} (course : Course O K) (said_of : (s : Sessions) (o : O) → course.is_outcome s o → course.is_said s (course.say o))
-    (s : Sessions) (o : O) (before now after : Option (List ℕ)) (why : ℕ) → course.is_outcome s o → now ≡ before
-    → EndsIn course.options.json now after (course.say o).text why → EndsAnswering course s before after why
-ended_saying course said_of s o before now after why is same ends = by (subst (λ b. EndsIn course.options.json b after (course.say o).text why) same ends)
+pub ended_saying : {O : Type 0} (course : Course O) (s : Sessions) (holds : Said → Type 0) (o : O) (before now after : Option (List ℕ)) (why : ℕ)
+    → course.is_said s (course.say o) → holds (course.say o) → now ≡ before → EndsIn course.options.json now after (course.say o).text why
+    → EndsSaying course s holds before after why
+ended_saying course s holds o before now after why is held same ends = by (subst (λ b. EndsIn course.options.json b after (course.say o).text why) same ends)
   where
-    by : EndsIn course.options.json before after (course.say o).text why → EndsAnswering course s before after why
-    by (inl cuts) = inl (course.say o, said_of s o is, cuts)
+    by : EndsIn course.options.json before after (course.say o).text why → EndsSaying course s holds before after why
+    by (inl cuts) = inl (course.say o, is, held, cuts)
     by (inr memory) = inr memory

@@ -1,18 +1,24 @@
 -- The last of the snapshots that a run answers is that of all that was finished, and what was said last is the end of all texts.
 use Rattle.std.proofs.Common.{◌≡◌, ℕ, Bool, true, false, cond, List, [], ◌∷◌, ◌++◌, Option, None, Some}
-use Rattle.std.proofs.Common.{refl, sym, ap, subst, ◌∙◌, inl, inr, ◌⊎◌, append_assoc, append-nil}
+use Rattle.std.proofs.Common.{refl, sym, ap, subst, ◌∙◌, inl, inr, ◌⊎◌, ◌≢◌, append_assoc, append-nil}
 use Rattle.std.specs.List.{AllZip, last_or}
 use Rattle.std.specs.FinMap as finite
 use Rattle.std.proofs.lemmas.List.Sums.{fold-append}
+use Rattle.tcc_rows.specs.Answers.{answers_within}
 use Rattle.tcc_rows.specs.Items.{finished_in, with_item}
 use Rattle.tcc_txn.specs.Snapshots.{Sessions}
 use Rattle.tcc_rows.specs.declared.rows.Item.{Item}
 use Rattle.tcc_rows.specs.declared.rows.Item.TheVariants as item
-use Rattle.tcc_print.specs.Courses.{Said, texts}
+use Rattle.tcc_txn.specs.declared.limits.Limits.{Limits}
+use Rattle.tcc_print.specs.Courses.{AreSaid, IsEnded, IsWhole, MayEnd, Said, halt_said, texts}
 use Rattle.tcc_print.specs.Moments.{at_end, is_due_after, sealed_after, sealed_in}
 use Rattle.tcc_print.specs.Printed.{Prints}
-use Rattle.tcc_print.specs.Statuses.{code_of}
-use Rattle.tcc_print.specs.declared.status.Status.TheVariants.{Device}
+use Rattle.tcc_print.specs.Statuses.{code_of, halt_status, row_status}
+use Rattle.tcc_print.specs.declared.halt.Halt.{Halt}
+use Rattle.tcc_print.specs.declared.halt.Halt.TheVariants as halt
+use Rattle.tcc_print.specs.declared.options.Options.{Options}
+use Rattle.tcc_print.specs.declared.status.Status.TheVariants.{Device, Memory}
+use Rattle.tcc_print.proofs.Moments.{last-push}
 
 -- some snapshots, and this one behind them
 abbrev EndsWith : List Sessions → Sessions → Type 0
@@ -74,11 +80,11 @@ last_paired R [] x (y ∷ z ∷ said) before last all e = absurd all.1
 last_paired R (w ∷ front) x [] before last all e = absurd all
 last_paired R (w ∷ front) x (y ∷ said) before last all e = last_paired R front x said (Some y) last all.1 e
 
-pub last_said : {T : Type 0} (R : Sessions → T → Type 0) (items : List Item) (said : List T) (last : T) → AllZip R (sealed_in items ++ at_end items) said
+pub last_said : (R : Sessions → Said → Type 0) (items : List Item) (said : List Said) (last : Said) → AreSaid R (sealed_in items ++ at_end items) said
     → last_or None said ≡ Some last → R (finished_in items) last
 last_said R items said last all e =
     let (front, is) = last_snapshot items in
-    last_paired R front (finished_in items) said None last (subst (λ snapshots. AllZip R snapshots said) is all) e
+    last_paired R front (finished_in items) said None last (subst (λ snapshots. AllZip R snapshots said) is all.0) e
 
 -- ---- the texts
 
@@ -104,3 +110,46 @@ texts_end (one ∷ said) last e = texts_from one said last e
 pub device_code : (before after : Option (List ℕ)) (text : List ℕ) (code : ℕ) → Prints before after text Device code → code ≡ code_of Device
 device_code before after text code (inl whole) = whole.1
 device_code before after text code (inr part) = part.1
+
+-- ---- how a run ended, by what was said last
+
+module _ (limits : Limits) (is_said : Sessions → Said → Type 0) (options : Options) (bytes : List ℕ) (said : List Said) (last : Said)
+    (end : last_or None said ≡ Some last) (ends : IsWhole is_said (answers_within limits bytes) said ⊎ IsEnded limits is_said options bytes said) where
+  -- it was said of all that was finished, or ended the run
+  abbrev OfAll : Type 0
+  OfAll = ((answers_within limits bytes).fault ≡ None) × is_said (finished_in (answers_within limits bytes).items) last
+
+  abbrev Halts : Type 0
+  Halts = (n : ℕ) × (why : Halt) × MayEnd limits bytes n why × (last ≡ halt_said options why)
+
+  of_all_or_halt : OfAll ⊎ Halts
+  of_all_or_halt = by ends
+    where
+      by : IsWhole is_said (answers_within limits bytes) said ⊎ IsEnded limits is_said options bytes said → OfAll ⊎ Halts
+      by (inl (unfaulted, are)) = inl (unfaulted, last_said is_said (answers_within limits bytes).items said last are end)
+      by (inr (answers, (n, why, may, are, same))) =
+          inr (n, why, may, inside last (halt_said options why) (sym end ∙ ap (last_or None) same ∙ last-push None answers (halt_said options why)))
+
+  -- what has a certificate was said of all that was finished
+  pub certified_last : (text : List ℕ) → last.certificate ≡ Some text
+      → ((answers_within limits bytes).fault ≡ None) × is_said (finished_in (answers_within limits bytes).items) last
+  certified_last text has = elim of_all_or_halt [
+    | inl all ↦ all
+    | inr halts ↦ absurd (nothing text (sym (ap (λ (s : Said). s.certificate) halts.3) ∙ has))
+  ]
+
+  -- so was what a run said last that neither a device nor refused memory ended, where the records have no fault
+  module _ (unfaulted : (answers_within limits bytes).fault ≡ None) (code : ℕ) (fine : code ≢ code_of Device) (space : code ≢ code_of Memory)
+      (is : code ≡ code_of last.status) where
+    halted : (n : ℕ) (why : Halt) → MayEnd limits bytes n why → code ≡ code_of (halt_status why) → ⊥
+    halted n (halt.Row fault) (inl (found, at)) ends = nothing fault (sym unfaulted ∙ found)
+    halted n (halt.Row fault) (inr (read, at, count)) ends = fine (ends ∙ ap (λ kind. code_of (row_status kind)) read)
+    halted n halt.NoMemory may ends = space ends
+    halted n (halt.Reads faults) may ends = may
+    halted n (halt.Text fault) may ends = may
+
+    pub last_of_all : is_said (finished_in (answers_within limits bytes).items) last
+    last_of_all = elim of_all_or_halt [
+      | inl all ↦ all.1
+      | inr halts ↦ absurd (halted halts.0 halts.1 halts.2 (is ∙ ap (λ (s : Said). code_of s.status) halts.3))
+    ]

@@ -5,5 +5,6 @@ pub mod Counted
 pub mod Moments
 pub mod Courses
 pub mod LastSaid
+pub mod Saying
 pub mod Noted
 pub mod LargeJson

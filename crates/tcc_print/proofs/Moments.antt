@@ -1,6 +1,6 @@
 -- What is answered for items that come in parts.
 use Rattle.std.proofs.Common.{◌≡◌, ℕ, zero, suc, ◌<◌, Bool, true, false, List, [], ◌∷◌, ◌++◌, length, take}
-use Rattle.std.proofs.Common.{Option, Some, refl, ap, sym, subst, ◌∙◌, arith, inl, inr, ◌⊎◌, append_assoc}
+use Rattle.std.proofs.Common.{Option, None, Some, refl, ap, sym, subst, ◌∙◌, arith, inl, inr, ◌⊎◌, append_assoc}
 use Rattle.std.proofs.Common.{append-nil}
 use Rattle.std.specs.Prelude.{fold}
 use Rattle.std.specs.List.{AllZip, last_or}
@@ -14,6 +14,7 @@ use Rattle.tcc_rows.specs.Recordings.{Passes, after_items, has_seal}
 use Rattle.tcc_txn.specs.Snapshots.{Sessions}
 use Rattle.tcc_rows.specs.declared.rows.Item.{Item}
 use Rattle.tcc_rows.specs.declared.rows.Item.TheVariants as item
+use Rattle.tcc_print.specs.Courses.{AreRepeated, AreSaid, Said}
 use Rattle.tcc_print.specs.Moments.{at_end, is_due_after, sealed_after, sealed_in}
 use Rattle.tcc_print.proofs.Counted.{grows}
 
@@ -137,6 +138,25 @@ AllZip-append R [] xs' [] ys' p q = q
 AllZip-append R [] xs' (y ∷ ys) ys' p q = absurd p
 AllZip-append R (x ∷ xs) xs' [] ys' p q = absurd p
 AllZip-append R (x ∷ xs) xs' (y ∷ ys) ys' p q = (p.0, AllZip-append R xs xs' ys ys' p.1 q)
+
+-- each is said, and one more, which is what was said of the last of them, where that was the same
+pub AreSaid-push : (R : Sessions → Said → Type 0) (snapshots : List Sessions) (said : List Said) (s : Sessions) (one : Said)
+    → AreSaid R snapshots said → R s one
+    → ((before : Sessions) (other : Said) → last_or None snapshots ≡ Some before → last_or None said ≡ Some other → before ≡ s → other ≡ one)
+    → AreSaid R (snapshots ++ s ∷ []) (said ++ one ∷ [])
+AreSaid-push R snapshots said s one are is same =
+    (AllZip-append R snapshots (s ∷ []) said (one ∷ []) are.0 (is, tt), again snapshots said are.0 are.1 same)
+  where
+    again : (snapshots : List Sessions) (said : List Said) → AllZip R snapshots said → AreRepeated snapshots said
+        → ((before : Sessions) (other : Said) → last_or None snapshots ≡ Some before → last_or None said ≡ Some other → before ≡ s → other ≡ one)
+        → AreRepeated (snapshots ++ s ∷ []) (said ++ one ∷ [])
+    again [] [] all are same = (tt, tt)
+    again [] (x ∷ xs) all are same = absurd all
+    again (t ∷ ts) [] all are same = absurd all
+    again (t ∷ []) (x ∷ []) all are same = (same t x refl refl, (tt, tt))
+    again (t ∷ []) (x ∷ (y ∷ xs)) all are same = absurd all.1
+    again (t ∷ (u ∷ ts)) (x ∷ []) all are same = absurd all.1
+    again (t ∷ (u ∷ ts)) (x ∷ (y ∷ xs)) all are same = (are.0, again (u ∷ ts) (y ∷ xs) all.1 are.1 same)
 
 pub last-push : {A : Type 0} (o : Option A) (xs : List A) (x : A) → last_or o (xs ++ x ∷ []) ≡ Some x
 last-push o [] x = refl

@@ -49,9 +49,18 @@ texts said = flat_map (λ (one : Said). one.text) said
 
 -- ---- a run within limits, by what it may say of a snapshot
 
--- each of the snapshots is answered, in turn
+-- where the next snapshot is the same, since nothing was finished between them, the same is said of it again
+abbrev pub IsRepeated : Sessions → Said → List Sessions → List Said → Type 0
+IsRepeated s one (next ∷ snapshots) (other ∷ said) = s ≡ next → one ≡ other
+IsRepeated s one snapshots said = Unit {0}
+
+abbrev pub AreRepeated : List Sessions → List Said → Type 0
+AreRepeated (s ∷ snapshots) (one ∷ said) = IsRepeated s one snapshots said × AreRepeated snapshots said
+AreRepeated snapshots said = Unit {0}
+
+-- each of the snapshots is answered, in turn, and one that is that before it as that was
 abbrev pub AreSaid : (Sessions → Said → Type 0) → List Sessions → List Said → Type 0
-AreSaid is_said snapshots said = AllZip is_said snapshots said
+AreSaid is_said snapshots said = AllZip is_said snapshots said × AreRepeated snapshots said
 
 -- the records have no fault, and there is an answer at each seal, and one at the end where it is due
 abbrev pub IsWhole : (Sessions → Said → Type 0) → Answers → List Said → Type 0

@@ -46,8 +46,8 @@ abbrev pub last_status : ℕ → Option Answer → Status
 last_status required None = status.ReadFaults
 last_status required (Some a) = answer_status required a
 
--- how a run ends that gave this verdict
-abbrev pub verdict_status : Verdict → Status
+-- how a run ends that gave this verdict, whatever the rules are
+abbrev pub verdict_status : {R : Type 0} → Verdict R → Status
 verdict_status verdict.Accepted = status.Success
 verdict_status (verdict.Rejected rule at) = status.Rejected
 

@@ -76,13 +76,13 @@ accepted_text claim.Order = codes "accepted: order\n"
 accepted_text (claim.Cycle least) = codes "accepted: cycle, " ++ (decimal least ++ codes " steps\n")
 
 -- rejected: rule K at I J
-abbrev pub rejected_text : Rule → ℕ × ℕ → List ℕ
-rejected_text rule at =
-    codes "rejected: rule " ++ (decimal (rule_number rule) ++ (codes " at " ++ (decimal at.0 ++ (codes " " ++ (decimal at.1 ++ codes "\n")))))
+abbrev pub rejected_text : ℕ → ℕ × ℕ → List ℕ
+rejected_text number at =
+    codes "rejected: rule " ++ (decimal number ++ (codes " at " ++ (decimal at.0 ++ (codes " " ++ (decimal at.1 ++ codes "\n")))))
 
-abbrev pub verdict_text : Claim → Verdict → List ℕ
+abbrev pub verdict_text : Claim → Verdict Rule → List ℕ
 verdict_text k verdict.Accepted = accepted_text k
-verdict_text k (verdict.Rejected rule at) = rejected_text rule at
+verdict_text k (verdict.Rejected rule at) = rejected_text (rule_number rule) at
 
 -- what stands in the place of an answer or a verdict
 abbrev pub halt_text : Halt → List ℕ

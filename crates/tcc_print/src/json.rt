@@ -1,15 +1,16 @@
 //! Faults as JSON, each line made as a whole before a byte of it goes out.
 ghost use Rattle.std.specs.Prelude.{◌≡◌, ◌++◌, IfOk, OnOk, false, flat_map, map};
 ghost use Rattle.serde_json.specs.View.{view, items_of};
-ghost use Rattle.serde_json.specs.Written.{compact_text, has_float, items_text};
+ghost use Rattle.serde_json.specs.Written.{compact_text, items_text};
 ghost use Rattle.tcc_answer.specs.Json.{json_line};
 ghost use Rattle.tcc_print.specs.Json.{halt_line, read_fault_json, row_fault_json, unresolved_json};
 ghost use Rattle.tcc_print.specs.private.Pieces.{later_fault};
 
 use crate::halt::Halt;
-use crate::texts::{halt_text, joined, read_word, row_word};
+use crate::texts::{halt_text, read_word, row_word};
 use serde_json::{Value, json};
 use std::alloc::{AllocError, Global};
+use tcc_answer::object_line;
 use tcc_answer::pieces::push;
 use tcc_reads::ReadFault;
 use tcc_rows::{RowFault, RowFaultKind};
@@ -70,7 +71,8 @@ fn push_read_faults(alloc: Global, line: &mut Vec<u8>, faults: &[ReadFault]) -> 
     push(line, &[b"]"])
 }
 
-fn row_fault_json(alloc: Global, fault: &RowFault) -> Result<Value, AllocError>
+/// The object of a row fault.
+pub fn row_fault_json(alloc: Global, fault: &RowFault) -> Result<Value, AllocError>
     ensures { IfOk result (λ v. view v ≡ row_fault_json fault.now) }
 {
     let kind = row_word(&fault.kind);
@@ -91,20 +93,11 @@ fn row_fault_json(alloc: Global, fault: &RowFault) -> Result<Value, AllocError>
     })
 }
 
-/// The text of an object, and a line feed.
-fn line(alloc: Global, object: &Value) -> Result<Vec<u8>, NoMemory>
-    requires { has_float (view object.now) ≡ false }
-    ensures { IfOk result (λ line. line.items ≡ json_line (view object.now)) }
-{
-    let text = object.to_string(alloc)?;
-    joined(alloc, &[text.as_bytes(), b"\n"])
-}
-
 /// The line of a row fault.
 pub fn row_fault(alloc: Global, fault: &RowFault) -> Result<Vec<u8>, NoMemory>
     ensures { IfOk result (λ line. line.items ≡ json_line (row_fault_json fault.now)) }
 {
-    line(alloc, &row_fault_json(alloc, fault)?)
+    object_line(alloc, &row_fault_json(alloc, fault)?)
 }
 
 /// The line of a snapshot with read faults.

@@ -16,7 +16,7 @@ use tcc_graph::Link;
 use tcc_txn::NoMemory;
 
 /// How many steps the links have together.
-fn steps_of(links: &[Link]) -> Result<usize, NoMemory>
+pub fn steps_of(links: &[Link]) -> Result<usize, NoMemory>
     ensures { IfOk result (λ steps. steps ≡ cost links.now) }
 {
     let mut steps: usize = 0;

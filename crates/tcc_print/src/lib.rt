@@ -17,4 +17,4 @@ pub use halt::Halt;
 pub use last::{Last, again};
 pub use options::{Options, Run};
 pub use status::Status;
-pub use verdicts::verdict_text;
+pub use verdicts::{accepted_text, rejected_text, verdict_text};

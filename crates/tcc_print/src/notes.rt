@@ -18,7 +18,7 @@ use tcc_answer::pieces::push;
 use tcc_reads::ReadFault;
 use tcc_rows::{RowFault, RowFaultKind};
 use tcc_sending::send;
-use tcc_txn::{Bounds, Limits, Name, NoMemory, SnapshotWithin, Txn};
+use tcc_txn::{Bounds, Limits, NoMemory, SnapshotWithin};
 use writers::push_writer;
 
 /// How many read faults have a note.
@@ -172,16 +172,16 @@ pub fn note_row<N: Write>(
     }
 }
 
-/// The note of a read fault in these sessions.
-fn read(
+/// The note of a read fault of the snapshot.
+fn read<B: Bounds>(
     alloc: Global,
-    sessions: &[(Name, Vec<Txn>)],
+    snapshot: &SnapshotWithin<B>,
     fault: &ReadFault,
 ) -> Result<Vec<u8>, NoMemory> {
     let mut text = Vec::new(alloc);
     push_told(alloc, &mut text, fault)?;
     push(&mut text, &[b": "])?;
-    push_writer(alloc, &mut text, sessions, fault)?;
+    push_writer(alloc, &mut text, snapshot, fault)?;
     push(&mut text, &[b"\n"])?;
     Ok(text)
 }
@@ -196,7 +196,7 @@ pub fn note_reads<B: Bounds, N: Write>(
     ensures { AddsNotes (N.contents notes.old) (N.contents notes.new) }
 {
     for fault in faults.iter().take(MOST_NOTED) {
-        send_note(read(alloc, snapshot.parts(), fault), notes);
+        send_note(read(alloc, snapshot, fault), notes);
     }
 }
 

@@ -88,7 +88,7 @@ pub fn print_device<W: Write>(out: &mut W, json: bool) -> u8
 
 /// Writes the text that was made; else a writer that failed, or no memory for the text, ends the run, with this
 /// number.
-pub(crate) fn send_made<W: Write>(
+pub fn send_made<W: Write>(
     made: Result<Vec<u8>, NoMemory>,
     json: bool,
     out: &mut W,

@@ -57,7 +57,7 @@ impl Status {
 }
 
 /// How a run ends that gave this order: without `init` it has to have the transactions that are required.
-fn order_status(order: &[u32], required: u32) -> Status
+pub fn order_status(order: &[u32], required: u32) -> Status
     ensures { result ≡ order_status required (length order.now) }
 {
     if order.len().saturating_sub(1) < required as usize {
@@ -88,7 +88,7 @@ pub fn last_status(answer: &Option<Answer>, required: u32) -> Status
 }
 
 /// How a run ends that gave this verdict.
-pub fn verdict_status(verdict: Verdict) -> Status
+pub fn verdict_status<R: Drop>(verdict: Verdict<R>) -> Status
     ensures { result ≡ verdict_status verdict }
 {
     match verdict {

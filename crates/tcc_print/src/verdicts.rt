@@ -4,11 +4,11 @@ ghost use Rattle.tcc_print.specs.Texts.{accepted_text, rejected_text, verdict_te
 
 use crate::texts::joined;
 use std::alloc::Global;
-use tcc_check::{Claim, Judgement, Rule, Verdict};
+use tcc_check::{Claim, Judgement, Verdict};
 use tcc_txn::NoMemory;
 
 /// The line of a certificate that was accepted.
-fn accepted(alloc: Global, claim: Claim) -> Result<Vec<u8>, NoMemory>
+pub fn accepted_text(alloc: Global, claim: Claim) -> Result<Vec<u8>, NoMemory>
     ensures { IfOk result (λ text. text.items ≡ accepted_text claim) }
 {
     match claim {
@@ -23,11 +23,11 @@ fn accepted(alloc: Global, claim: Claim) -> Result<Vec<u8>, NoMemory>
     }
 }
 
-/// The line of a certificate that was rejected.
-fn rejected(alloc: Global, rule: Rule, at: (u32, u32)) -> Result<Vec<u8>, NoMemory>
-    ensures { IfOk result (λ text. text.items ≡ rejected_text rule at) }
+/// The line of a certificate that was rejected, by the rule of this number.
+pub fn rejected_text(alloc: Global, number: u32, at: (u32, u32)) -> Result<Vec<u8>, NoMemory>
+    ensures { IfOk result (λ text. text.items ≡ rejected_text number at) }
 {
-    let number = rule.number().to_string(alloc)?;
+    let number = number.to_string(alloc)?;
     let first = at.0.to_string(alloc)?;
     let second = at.1.to_string(alloc)?;
     joined(
@@ -49,7 +49,7 @@ pub fn verdict_text(alloc: Global, judged: &Judgement) -> Result<Vec<u8>, NoMemo
     ensures { IfOk result (λ text. text.items ≡ verdict_text judged.now.claim judged.now.verdict) }
 {
     match judged.verdict {
-        Verdict::Accepted => accepted(alloc, judged.claim),
-        Verdict::Rejected { rule, at } => rejected(alloc, rule, at),
+        Verdict::Accepted => accepted_text(alloc, judged.claim),
+        Verdict::Rejected { rule, at } => rejected_text(alloc, rule.number(), at),
     }
 }

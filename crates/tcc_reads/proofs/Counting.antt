@@ -1,24 +1,34 @@
 -- How many transactions a snapshot has, and which sessions they are of.
-use Rattle.std.proofs.Common.{◌≡◌, ℕ, zero, suc, ◌+◌, ◌<◌, ◌≤◌, List, [], ◌∷◌, length, drop, All, sum_by}
-use Rattle.std.proofs.Common.{refl, ap, sym, ◌∙◌, arith, length-append, get_or}
+use Rattle.std.proofs.Common.{◌≡◌, ℕ, suc, ◌+◌, ◌<◌, ◌≤◌, List, [], ◌∷◌, length, drop, All, sum_by}
+use Rattle.std.proofs.Common.{refl, ap, sym, ◌∙◌, arith, length-append, get_or, slice_get, Option, Some, option_map}
 use Rattle.std.proofs.Math.ListN.{drop_of_length-le}
 use Rattle.std.proofs.lemmas.List.Sums.{sum_by-cons}
 use Rattle.std.proofs.lemmas.List.Elements.{All-nil, All-cons, All-append}
 use Rattle.std.specs.FinMap as finite
-use Rattle.std.specs.Global.{Vec as VecOf}
-use Rattle.tcc_txn.specs.Snapshots.{Sessions, parts_of}
+use Rattle.std.specs.Option.{option_map_or}
+use Rattle.std.proofs.lemmas.List.{drop_more}
+use Rattle.std.proofs.lemmas.Option.{get_or_from_slice_get, slice_get-get_or}
+use Rattle.tcc_txn.specs.Snapshots.{Sessions, finished_at}
 use Rattle.tcc_txn.specs.Transactions.{Transaction}
 use Rattle.tcc_reads.specs.Sites.{Stand, stands_in, stands_from}
 use Rattle.tcc_reads.specs.private.Numbers.{next_number, numbered_from}
 
--- some parts from an index on
-pub drop_part : (parts : List (List ℕ × VecOf Transaction)) (i : ℕ) (part : List ℕ × VecOf Transaction) → i < length parts → part ≡ get_or parts i part
-    → drop i (parts_of parts) ≡ (part.0, part.1.items) ∷ drop (i + 1) (parts_of parts)
-drop_part [] i part within is = absurd (omega arith)
-drop_part (first ∷ parts) zero part within is =
-    ap (λ (p : List ℕ × VecOf Transaction). (p.0, p.1.items) ∷ parts_of parts) (sym is)
-drop_part (first ∷ parts) (suc i) part within is =
-    let next : suc i + 1 ≡ suc (i + 1) = omega arith in rw next (drop_part parts i part (omega arith) is)
+-- a list from an item on
+pub item_at : {X : Type 0} (xs : List X) (i : ℕ) (x : X) → i < length xs → slice_get xs i ≡ Some x → drop i xs ≡ x ∷ drop (i + 1) xs
+item_at xs i x within is = drop_more xs i x within ∙ ap (λ y. y ∷ drop (i + 1) xs) (get_or_from_slice_get xs i x x is)
+
+-- the sessions from one of this name on
+pub named_at : (s : Sessions) (i : ℕ) (name : List ℕ) → i < length (finite.entries s)
+    → Some name ≡ option_map (λ named. named.0) (slice_get (finite.entries s) i)
+    → drop i (finite.entries s) ≡ (name, finished_at s i) ∷ drop (i + 1) (finite.entries s)
+named_at s i name within is =
+    let es : List (List ℕ × List Transaction) = finite.entries s in
+    let e : List ℕ × List Transaction = get_or es i ([], []) in
+    let there : slice_get es i ≡ Some e = slice_get-get_or es i ([], []) within in
+    let named : Some name ≡ Some e.0 = is ∙ ap (option_map (λ (p : List ℕ × List Transaction). p.0)) there in
+    let same : name ≡ e.0 = cc in
+    let txns : finished_at s i ≡ e.1 = ap (λ (o : Option (List ℕ × List Transaction)). option_map_or (λ p. p.1) o []) there in
+    drop_more es i ([], []) within ∙ (λ j. (sym same j, sym txns j) ∷ drop (i + 1) es)
 
 -- past the last session no session is left
 pub none_past : (s : Sessions) (i : ℕ) → finite.len s ≤ i → drop i (finite.entries s) ≡ []

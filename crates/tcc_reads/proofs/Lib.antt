@@ -1,8 +1,11 @@
 pub mod WorkedRows
 pub mod Ties
+pub mod Indices
 pub mod Tables
 pub mod Listed
+pub mod Groups
 pub mod Counting
+pub mod Places
 pub mod Agreement
 pub mod Sourcing
 pub mod Findings

@@ -19,6 +19,7 @@ use Rattle.tcc_reads.specs.Faults.{puts, writer, is_same_transaction, is_same_si
 use Rattle.tcc_reads.specs.Faults.{write_kind, external_kind, read_kind, kind_at, fault_at}
 use Rattle.tcc_reads.specs.Faults.{read_faults}
 use Rattle.tcc_reads.specs.OneSource.{IsNumber, ReadsFromOthers, Gives, HasOneSource}
+use Rattle.tcc_reads.proofs.Indices.{only_position}
 use Rattle.tcc_reads.proofs.Ties.{same_name}
 use Rattle.tcc_reads.proofs.Sourcing.{has, has-kept, never_shown, last_shown, no_pair}
 use Rattle.tcc_reads.proofs.Rising.{IsLater, rises_filter, rises_at, from_order}
@@ -52,21 +53,6 @@ found_there {X} p (y ∷ xs) x found = go (p y) refl found (λ rest. found_there
         let is : y ≡ x = cc in
         ((0, omega arith, is), subst (λ (z : X). p z ≡ true) is passes)
     go false fails there rest = let w = rest there in ((suc w.0.0, omega (arith, w.0.1), w.0.2), w.1)
-
-only_position : {X : Type 0} (p : X → Bool) (from : ℕ) (xs : List X) (i : ℕ) (d : X) → i < length xs → p (get_or xs i d) ≡ true
-    → ((j : ℕ) → j < length xs → p (get_or xs j d) ≡ true → j ≡ i) → position_from p from xs ≡ Some (from + i)
-only_position p from [] i d l here only = absurd (omega arith)
-only_position p from (x ∷ xs) zero d l here only = let e : from ≡ from + 0 =
-    omega arith in ap (λ b. cond b (Some from) (position_from p (from + 1) xs)) here ∙ ap Some e
-only_position p from (x ∷ xs) (suc i) d l here only =
-    go (p x) refl (only_position p (from + 1) xs i d (omega arith) here (λ j m t. let same : suc j ≡ suc i = only (suc j) (omega arith) t in omega arith))
-  where
-    go : (b : Bool) → p x ≡ b → position_from p (from + 1) xs ≡ Some (from + 1 + i)
-        → cond (p x) (Some from) (position_from p (from + 1) xs) ≡ Some (from + suc i)
-    go true first rest = let same : 0 ≡ suc i = only 0 (omega arith) first in absurd (omega arith)
-    go false other rest =
-        let next : from + 1 + i ≡ from + suc i = omega arith in
-        ap (λ b. cond b (Some from) (position_from p (from + 1) xs)) other ∙ rest ∙ ap Some next
 
 -- ---- sites
 

@@ -3,7 +3,7 @@ ghost use Rattle.std.specs.Prelude.{◌≡◌};
 ghost use Rattle.tcc_reads.specs.declared.fault.ResolveFault.TheVariants.{NoMemory};
 
 use std::alloc::{AllocError, AllocFailed};
-use tcc_txn::Name;
+use tcc_txn::{Name, NoMemory};
 use thiserror::Error;
 
 /// What is wrong with an operation. The kinds but the first are of reads of committed transactions.
@@ -61,6 +61,14 @@ impl From<AllocError> for ResolveFault {
     ghost from_gives = { λ _ e. e ≡ NoMemory };
 
     fn from(_error: AllocError) -> ResolveFault {
+        ResolveFault::NoMemory
+    }
+}
+
+impl From<NoMemory> for ResolveFault {
+    ghost from_gives = { λ _ e. e ≡ NoMemory };
+
+    fn from(_error: NoMemory) -> ResolveFault {
         ResolveFault::NoMemory
     }
 }

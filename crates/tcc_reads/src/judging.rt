@@ -1,8 +1,9 @@
 //! What each operation of a transaction is: a fault, an external read with its source, or neither.
-ghost use Rattle.std.specs.Prelude.{◌≡◌, true, ◌∷◌, [], ◌++◌, List, IfOk, OnOk, option_to_list, if◌then◌else◌, None};
+ghost use Rattle.std.specs.Prelude.{◌≡◌, ◌≤◌, length, true, ◌∷◌, [], ◌++◌, List, IfOk, OnOk, option_to_list, if◌then◌else◌, None};
 ghost use Rattle.std.specs.BTreeMap as tree;
 ghost use Rattle.std.specs.Option.{option_copied};
 ghost use Rattle.tcc_txn.specs.declared.op.Op.{Op};
+ghost use Rattle.tcc_txn.specs.declared.limits.TheConstants.{MAX_OPERATIONS};
 ghost use Rattle.tcc_txn.specs.Transactions.{op_key, op_value};
 ghost use Rattle.tcc_reads.specs.Sources.{name_cmp};
 ghost use Rattle.tcc_reads.specs.private.Verdicts.{writers_in, is_in, write_judgement, read_judgement, op_judgement};
@@ -131,7 +132,7 @@ fn note(
     match judgement {
         OpJudgement::Faulty(kind) => {
             let fault = ReadFault {
-                session: standing.name,
+                session: *standing.name,
                 place: standing.place,
                 op: u32::from(position),
                 key: op.key(),
@@ -180,21 +181,23 @@ fn put_own(own: &mut BTreeMap<Name, u64>, op: Op) -> Result<(), AllocError>
     }
 }
 
-/// Judges the operations of a transaction: adds its faults, and gives its external reads with their sources. What `own`
+/// Judges these operations of a transaction: adds its faults, and gives its external reads with their sources. What `own`
 /// held is forgotten.
 pub(crate) fn judge(
     alloc: Global,
     writers: &Writers,
     distinct: bool,
     standing: &Standing<'_>,
+    ops: &[Op],
     own: &mut BTreeMap<Name, u64>,
     faults: &mut Vec<ReadFault>,
 ) -> Result<Vec<(Name, u32)>, AllocError>
-    requires { distinct ≡ true → AreOwnIn (writers_in writers.now) standing.now [] standing.now.stand.txn.ops }
+    requires ops { ops.now ≡ standing.now.stand.txn.ops }
+    requires few { length ops.now ≤ MAX_OPERATIONS }
+    requires own { distinct ≡ true → AreOwnIn (writers_in writers.now) standing.now [] ops.now }
     ensures faults { IfOk result (λ _. faults.new.items ≡ faults.old.items ++ faults_found (writers_in writers.now) standing.now) }
     ensures sources { IfOk result (λ reads. reads.items ≡ sources_found (writers_in writers.now) standing.now) }
 {
-    let ops = standing.txn.ops();
     own.clear();
     let mut reads = Vec::new(alloc);
     for (before, op) in ops.iter().enumerate() {
@@ -206,18 +209,20 @@ pub(crate) fn judge(
     Ok(reads)
 }
 
-/// Traces the external reads of a transaction: gives those without a fault, with their sources, but none of these keys and values.
+/// Traces the external reads of a transaction of these operations: gives those without a fault, with their sources, but none of these keys and values.
 /// What `own` held is forgotten.
 pub(crate) fn trace(
     alloc: Global,
     writers: &Writers,
     rewrites: &BTreeSet<(Name, u64)>,
     standing: &Standing<'_>,
+    ops: &[Op],
     own: &mut BTreeMap<Name, u64>,
 ) -> Result<Vec<(Name, u32)>, AllocError>
+    requires ops { ops.now ≡ standing.now.stand.txn.ops }
+    requires few { length ops.now ≤ MAX_OPERATIONS }
     ensures { IfOk result (λ reads. reads.items ≡ sources_traced (writers_in writers.now) (is_outside rewrites.now) standing.now) }
 {
-    let ops = standing.txn.ops();
     own.clear();
     let mut reads = Vec::new(alloc);
     for (before, op) in ops.iter().enumerate() {

@@ -3,6 +3,7 @@
 
 mod fault;
 mod judging;
+mod keys;
 pub mod laws;
 mod numbering;
 mod resolved;

@@ -1,67 +1,115 @@
-//! The transactions of a snapshot in one list, with the numbers of the committed ones.
-ghost use Rattle.std.specs.Prelude.{◌≡◌, ◌≤◌, ◌+◌, ◌++◌, List, length, map, sum_by, IfOk};
-ghost use Rattle.tcc_txn.specs.Snapshots.{parts_of};
-ghost use Rattle.tcc_txn.specs.declared.limits.TheConstants.{LARGE_COUNT, LARGE_SESSIONS, LARGE_TRANSACTIONS};
-ghost use Rattle.tcc_reads.specs.Sites.{Stand, stands_in, stands_from};
-ghost use Rattle.tcc_reads.specs.private.Numbers.{numbered_from};
+//! Where the transactions of a snapshot stand, in one list, with the numbers of the committed ones.
+ghost use Rattle.std.specs.Prelude.{◌≡◌, ◌<◌, ◌≤◌, ◌+◌, ◌∷◌, ◌++◌, true, All, List, length, drop, map, if◌then◌else◌, IfOk};
+ghost use Rattle.std.specs.FinMap.{entries};
+ghost use Rattle.tcc_txn.specs.Finished.{transaction_count};
+ghost use Rattle.tcc_txn.specs.Limits.{most_sessions, most_transactions};
+ghost use Rattle.tcc_txn.specs.Snapshots.{finished_at};
+ghost use Rattle.tcc_txn.specs.declared.limits.TheConstants.{LARGE_COUNT};
+ghost use Rattle.tcc_reads.specs.Sites.{Stand, stands_in, stands};
+ghost use Rattle.tcc_reads.specs.private.Numbers.{IsPlace, name_in, numbered, numbered_at, numbered_from};
 
-use crate::standing::Standing;
+use crate::standing::{Place, Standing};
 use std::alloc::{AllocError, Global};
-use tcc_txn::{Name, Txn};
+use tcc_txn::{Bounds, Name, Recorded, SnapshotWithin};
 
-/// Adds the transactions of one session, of which the first has the number `first`, and says which number comes after
-/// them.
-fn push_session<'a>(
-    list: &mut Vec<Standing<'a>>,
+/// The name of a session that is there.
+fn name_at<B: Bounds>(snapshot: &SnapshotWithin<B>, session: u32) -> &Name
+    requires { session < length (entries snapshot.now) }
+    ensures { drop session (entries snapshot.now)
+        ≡ (result.now, finished_at snapshot.now session) ∷ drop (session + 1) (entries snapshot.now) }
+{
+    snapshot.name(session).unwrap()
+}
+
+/// A transaction that is there.
+fn recorded_at<B: Bounds>(snapshot: &SnapshotWithin<B>, session: u32, before: usize) -> Recorded<'_>
+    requires { before < length (finished_at snapshot.now session) }
+    ensures { drop before (finished_at snapshot.now session) ≡ result ∷ drop (before + 1) (finished_at snapshot.now session) }
+{
+    snapshot.recorded(session, before).unwrap()
+}
+
+/// The transaction at a place.
+pub(crate) fn standing_at<'a, B: Bounds>(
+    snapshot: &'a SnapshotWithin<B>,
+    place: &Place,
+) -> Standing<'a>
+    requires { IsPlace snapshot.now place.now }
+    ensures { result ≡ numbered_at snapshot.now place.now }
+{
+    Standing {
+        session: place.session,
+        name: name_at(snapshot, place.session),
+        place: place.before + 1,
+        number: place.number,
+        txn: recorded_at(snapshot, place.session, place.before as usize),
+    }
+}
+
+/// The number that comes after a transaction.
+fn next_number(number: u32, committed: bool) -> u32
+    requires { number < LARGE_COUNT }
+    ensures { result ≡ if committed then number + 1 else number }
+{
+    if committed { number + 1 } else { number }
+}
+
+/// Adds the places of the transactions of one session, of which the first has the number `first`, and says which number comes
+/// after them.
+fn push_session<B: Bounds>(
+    list: &mut Vec<Place>,
+    snapshot: &SnapshotWithin<B>,
     session: u32,
-    name: Name,
-    txns: &'a [Txn],
     first: u32,
 ) -> Result<u32, AllocError>
-    requires { first + length txns.now ≤ LARGE_COUNT }
-    ensures list { IfOk result (λ after. (rest : List Stand) →
-        list.new.items ++ numbered_from after rest ≡ list.old.items ++ numbered_from first (stands_in session name 1 txns.now ++ rest)) }
-    ensures few { IfOk result (λ after. after ≤ first + length txns.now) }
+    requires some { session < length (entries snapshot.now) }
+    requires few { first + length (finished_at snapshot.now session) ≤ LARGE_COUNT }
+    ensures list { IfOk result (λ after. (rest : List Stand) → numbered snapshot.now list.new.items ++ numbered_from after rest
+        ≡ numbered snapshot.now list.old.items ++ numbered_from first (stands_in session (name_in snapshot.now session) 1 (finished_at snapshot.now session) ++ rest)) }
+    ensures few { IfOk result (λ after. after ≤ first + length (finished_at snapshot.now session)) }
+    ensures places { All (IsPlace snapshot.now) list.old.items → IfOk result (λ _. All (IsPlace snapshot.now) list.new.items) }
 {
     let mut number = first;
-    for (before, txn) in txns.iter().enumerate() {
-        list.push(Standing {
+    for before in 0..snapshot.finished(session) {
+        list.push(Place {
             session,
-            name,
-            place: before as u32 + 1,
+            before: before as u32,
             number,
-            txn,
         })?;
-        if txn.committed() {
-            number += 1;
-        }
+        let committed = recorded_at(snapshot, session, before).committed();
+        number = next_number(number, committed);
     }
     Ok(number)
 }
 
-/// All transactions, by session in the order of the parts and by place.
-pub(crate) fn standings(
+/// The places of all transactions, by session in byte order of the names.
+pub(crate) fn places<B: Bounds>(
     alloc: Global,
-    parts: &[(Name, Vec<Txn>)],
-) -> Result<Vec<Standing<'_>>, AllocError>
-    requires few_sessions { length parts.now ≤ LARGE_SESSIONS }
-    requires few_transactions { sum_by (λ named. length named.1) (parts_of parts.now) ≤ LARGE_TRANSACTIONS }
-    ensures { IfOk result (λ list. list.items ≡ numbered_from 1 (stands_from 0 (parts_of parts.now))) }
+    snapshot: &SnapshotWithin<B>,
+) -> Result<Vec<Place>, AllocError>
+    ensures list { IfOk result (λ list. numbered snapshot.now list.items ≡ numbered_from 1 (stands snapshot.now)) }
+    ensures places { IfOk result (λ list. All (IsPlace snapshot.now) list.items) }
+    ensures few_sessions { IfOk result (λ _. length (entries snapshot.now) ≤ most_sessions B.limits) }
+    ensures few_transactions { IfOk result (λ _. transaction_count snapshot.now ≤ most_transactions B.limits) }
 {
     let mut list = Vec::new(alloc);
     let mut number = 1;
-    for (session, part) in parts.iter().enumerate() {
-        number = push_session(&mut list, session as u32, part.0, &part.1, number)?;
+    for session in 0..snapshot.sessions() {
+        number = push_session(&mut list, snapshot, session, number)?;
     }
     Ok(list)
 }
 
-/// The names of all sessions, in the order of the parts.
-pub(crate) fn session_names(
+/// The names of all sessions, in byte order.
+pub(crate) fn session_names<B: Bounds>(
     alloc: Global,
-    parts: &[(Name, Vec<Txn>)],
+    snapshot: &SnapshotWithin<B>,
 ) -> Result<Vec<Name>, AllocError>
-    ensures { IfOk result (λ names. names.items ≡ map (λ part. part.0) parts.now) }
+    ensures { IfOk result (λ names. names.items ≡ map (λ named. named.0) (entries snapshot.now)) }
 {
-    parts.iter().map(|part| part.0).collect(alloc)
+    let mut names = Vec::new(alloc);
+    for session in 0..snapshot.sessions() {
+        names.push(*name_at(snapshot, session))?;
+    }
+    Ok(names)
 }

@@ -1,24 +1,24 @@
 //! The resolver.
-ghost use Rattle.std.specs.Prelude.{◌≡◌, ◌≤◌, ◌+◌, true, [], ◌∷◌, ◌++◌, length, sum_by, filter_map, flat_map, IfOk, OnOk, MatchResult};
-ghost use Rattle.std.specs.FinMap.{entries};
-ghost use Rattle.tcc_txn.specs.Snapshots.{Sessions, parts_of};
-ghost use Rattle.tcc_txn.specs.declared.limits.TheConstants.{LARGE_SESSIONS, LARGE_TRANSACTIONS};
+ghost use Rattle.std.specs.Prelude.{All, ◌≡◌, ◌≤◌, ◌+◌, true, [], ◌∷◌, ◌++◌, length, sum_by, filter_map, flat_map, IfOk, OnOk, MatchResult};
+ghost use Rattle.tcc_txn.specs.Limits.{most_sessions, most_transactions};
+ghost use Rattle.tcc_txn.specs.declared.limits.TheConstants.{MAX_OPERATIONS};
 ghost use Rattle.tcc_reads.specs.History.{initial, count};
 ghost use Rattle.tcc_reads.specs.Sources.{name_cmp, pair_cmp, key_put, sorted_once, writes_of, history};
 ghost use Rattle.tcc_reads.specs.Faults.{read_faults};
 ghost use Rattle.tcc_reads.specs.Refusals.{IsRefusal};
 ghost use Rattle.tcc_reads.specs.History.{places_of};
+ghost use Rattle.tcc_reads.specs.private.Numbers.{IsPlace, numbered};
 ghost use Rattle.tcc_reads.specs.private.Verdicts.{writers_in, AreOwn, AreOwnIn, faults_found, entries_found};
 
 use crate::judging::judge;
-use crate::numbering::{session_names, standings};
+use crate::numbering::{self, session_names, standing_at};
 use crate::sorting::sorted_once;
-use crate::standing::Standing;
+use crate::standing::{Place, Standing};
 use crate::writers::{FirstWrites, first_writes};
 use crate::{LargeResolved, ReadFault, ResolveFault, Resolved, Transaction};
 use std::alloc::{AllocError, Global};
 use std::collections::BTreeMap;
-use tcc_txn::{LargeSnapshot, Name, Op, Snapshot, Txn};
+use tcc_txn::{Bounds, LargeSnapshot, Name, NoMemory, Op, Snapshot, SnapshotWithin};
 
 /// The keys that some operations write, in order, each once.
 fn written_keys(alloc: Global, ops: &[Op]) -> Result<Vec<Name>, AllocError>
@@ -33,12 +33,14 @@ fn written_keys(alloc: Global, ops: &[Op]) -> Result<Vec<Name>, AllocError>
     Ok(sorted_once(keys))
 }
 
-/// A committed transaction with its external reads.
+/// A committed transaction of these operations with its external reads.
 pub(crate) fn transaction(
     alloc: Global,
     standing: &Standing<'_>,
+    ops: &[Op],
     reads: Vec<(Name, u32)>,
 ) -> Result<Transaction, AllocError>
+    requires { ops.now ≡ standing.now.stand.txn.ops }
     ensures { IfOk result (λ transaction. transaction ≡ record {
       owner = standing.now.stand.session;
       place = standing.now.stand.place;
@@ -49,27 +51,38 @@ pub(crate) fn transaction(
     Ok(Transaction {
         owner: standing.session,
         place: standing.place,
-        writes: written_keys(alloc, standing.txn.ops())?,
+        writes: written_keys(alloc, ops)?,
         reads: sorted_once(reads),
     })
 }
 
-/// Adds a transaction, if it was committed, and its faults. What `own` held is forgotten.
+/// Adds a transaction of these operations, if it was committed, and its faults. What `own` held is forgotten.
 fn examine_one(
     alloc: Global,
     first: &FirstWrites,
     standing: &Standing<'_>,
+    ops: &[Op],
     own: &mut BTreeMap<Name, u64>,
     transactions: &mut Vec<Transaction>,
     faults: &mut Vec<ReadFault>,
 ) -> Result<(), AllocError>
-    requires { first.now.distinct ≡ true → AreOwnIn (writers_in first.now.writers) standing.now [] standing.now.stand.txn.ops }
+    requires ops { ops.now ≡ standing.now.stand.txn.ops }
+    requires few { length ops.now ≤ MAX_OPERATIONS }
+    requires own { first.now.distinct ≡ true → AreOwnIn (writers_in first.now.writers) standing.now [] ops.now }
     ensures transactions { OnOk result (transactions.new.items ≡ transactions.old.items ++ entries_found (writers_in first.now.writers) (standing.now ∷ [])) }
     ensures faults { OnOk result (faults.new.items ≡ faults.old.items ++ faults_found (writers_in first.now.writers) standing.now) }
 {
-    let reads = judge(alloc, &first.writers, first.distinct, standing, own, faults)?;
+    let reads = judge(
+        alloc,
+        &first.writers,
+        first.distinct,
+        standing,
+        ops,
+        own,
+        faults,
+    )?;
     if standing.txn.committed() {
-        transactions.push(transaction(alloc, standing, reads)?)?;
+        transactions.push(transaction(alloc, standing, ops, reads)?)?;
     }
     Ok(())
 }
@@ -93,24 +106,31 @@ pub(crate) fn initial_transaction(alloc: Global) -> Transaction
     }
 }
 
-pub(crate) fn examine(
+pub(crate) fn examine<B: Bounds>(
     alloc: Global,
     first: &FirstWrites,
-    standings: &[Standing<'_>],
-) -> Result<Findings, AllocError>
-    requires { first.now.distinct ≡ true → AreOwn (writers_in first.now.writers) standings.now }
-    ensures transactions { IfOk result (λ found. found.transactions.items ≡ initial ∷ entries_found (writers_in first.now.writers) standings.now) }
-    ensures faults { IfOk result (λ found. found.faults.items ≡ flat_map (faults_found (writers_in first.now.writers)) standings.now) }
+    snapshot: &SnapshotWithin<B>,
+    places: &[Place],
+) -> Result<Findings, NoMemory>
+    requires places { All (IsPlace snapshot.now) places.now }
+    requires own { first.now.distinct ≡ true → AreOwn (writers_in first.now.writers) (numbered snapshot.now places.now) }
+    ensures transactions { IfOk result (λ found. found.transactions.items
+        ≡ initial ∷ entries_found (writers_in first.now.writers) (numbered snapshot.now places.now)) }
+    ensures faults { IfOk result (λ found. found.faults.items ≡ flat_map (faults_found (writers_in first.now.writers)) (numbered snapshot.now places.now)) }
 {
     let mut transactions = Vec::new(alloc);
     let mut faults = Vec::new(alloc);
     let mut own = BTreeMap::new(alloc);
+    let mut ops = Vec::new(alloc);
     transactions.push(initial_transaction(alloc))?;
-    for standing in standings {
+    for place in places {
+        let standing = standing_at(snapshot, place);
+        standing.txn.fill(&mut ops)?;
         examine_one(
             alloc,
             first,
-            standing,
+            &standing,
+            &ops,
             &mut own,
             &mut transactions,
             &mut faults,
@@ -136,23 +156,24 @@ pub(crate) fn places(
         .collect(alloc)
 }
 
-/// Finds the source of each external read of the committed transactions of some sessions, or else all faults.
-fn resolve_parts(alloc: Global, parts: &[(Name, Vec<Txn>)]) -> Result<LargeResolved, ResolveFault>
-    requires few_sessions { length parts.now ≤ LARGE_SESSIONS }
-    requires few_transactions { sum_by (λ named. length named.1) (parts_of parts.now) ≤ LARGE_TRANSACTIONS }
-    ensures value { (s : Sessions) → entries s ≡ parts_of parts.now → MatchResult result
-        (λ resolved. (read_faults s ≡ []) × (resolved ≡ history s))
-        (IsRefusal s) }
-    ensures few { IfOk result (λ resolved. count resolved ≤ sum_by (λ named. length named.1) (parts_of parts.now) + 1) }
-    ensures sessions { IfOk result (λ resolved. length resolved.sessions ≡ length parts.now) }
+/// Finds the source of each external read of the committed transactions of a snapshot within any limits, or else all faults.
+fn resolve_within<B: Bounds>(
+    alloc: Global,
+    snapshot: &SnapshotWithin<B>,
+) -> Result<LargeResolved, ResolveFault>
+    ensures value { MatchResult result
+        (λ resolved. (read_faults snapshot.now ≡ []) × (resolved ≡ history snapshot.now))
+        (IsRefusal snapshot.now) }
+    ensures few { IfOk result (λ resolved. count resolved ≤ most_transactions B.limits + 1) }
+    ensures sessions { IfOk result (λ resolved. length resolved.sessions ≤ most_sessions B.limits) }
 {
-    let sessions = session_names(alloc, parts)?;
-    let standings = standings(alloc, parts)?;
-    let first = first_writes(alloc, &standings)?;
+    let sessions = session_names(alloc, snapshot)?;
+    let stands = numbering::places(alloc, snapshot)?;
+    let first = first_writes(alloc, snapshot, &stands)?;
     let Findings {
         transactions,
         faults,
-    } = examine(alloc, &first, &standings)?;
+    } = examine(alloc, &first, snapshot, &stands)?;
     if faults.is_empty() {
         let places = places(alloc, &transactions)?;
         Ok(LargeResolved {
@@ -179,7 +200,7 @@ pub fn resolve(alloc: Global, snapshot: &Snapshot) -> Result<Resolved, ResolveFa
         (λ resolved. (read_faults snapshot.now ≡ []) × (resolved ≡ history snapshot.now))
         (IsRefusal snapshot.now) }
 {
-    let large = resolve_parts(alloc, snapshot.parts())?;
+    let large = resolve_within(alloc, snapshot)?;
     Ok(Resolved { large })
 }
 
@@ -189,5 +210,5 @@ pub fn resolve_large(alloc: Global, snapshot: &LargeSnapshot) -> Result<LargeRes
         (λ resolved. (read_faults snapshot.now ≡ []) × (resolved ≡ history snapshot.now))
         (IsRefusal snapshot.now) }
 {
-    resolve_parts(alloc, snapshot.parts())
+    resolve_within(alloc, snapshot)
 }

@@ -1,6 +1,17 @@
 //! Transactions, where they stand in a snapshot.
 use std::marker::Model;
-use tcc_txn::{Name, Txn};
+use tcc_txn::{Name, Recorded};
+
+/// Where a transaction stands in a snapshot, and its number.
+#[derive(Clone, Copy)]
+pub(crate) struct Place {
+    /// The index of its session, in byte order of the names.
+    pub session: u32,
+    /// The transactions before it in the session, aborted ones counted.
+    pub before: u32,
+    /// One more than the committed transactions before it: its number, if it was committed.
+    pub number: u32,
+}
 
 /// A transaction, where it stands.
 #[derive(Drop)]
@@ -8,12 +19,12 @@ pub(crate) struct Standing<'a> {
     /// The index of its session, in byte order of the names.
     pub session: u32,
     /// The name of its session.
-    pub name: Name,
+    pub name: &'a Name,
     /// Its place in the session, from 1, aborted ones counted.
     pub place: u32,
     /// One more than the committed transactions before it: its number, if it was committed.
     pub number: u32,
-    pub txn: &'a Txn,
+    pub txn: Recorded<'a>,
 }
 
 impl<'a> Model for Standing<'a> {
@@ -23,5 +34,5 @@ impl<'a> Model for Standing<'a> {
 
     ghost coded = { numbered_code };
 
-    ghost view = { λ s. record { number = s.number; stand = record { session = s.session; name = s.name; place = s.place; txn = s.txn.now } } };
+    ghost view = { λ s. record { number = s.number; stand = record { session = s.session; name = s.name.now; place = s.place; txn = s.txn } } };
 }

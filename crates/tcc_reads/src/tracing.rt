@@ -1,23 +1,25 @@
 //! What can be traced of a snapshot some of whose operations are faulty.
-ghost use Rattle.std.specs.Prelude.{◌≡◌, ◌||◌, ◌∷◌, ◌++◌, [], List, ℕ, IfOk, OnOk};
+ghost use Rattle.std.specs.Prelude.{All, ◌≡◌, ◌≤◌, length, ◌||◌, ◌∷◌, ◌++◌, [], List, ℕ, IfOk, OnOk};
 ghost use Rattle.std.specs.BTreeSet.{contains};
 ghost use Rattle.std.specs.List.{list_any};
+ghost use Rattle.tcc_txn.specs.declared.limits.TheConstants.{MAX_OPERATIONS};
 ghost use Rattle.tcc_reads.specs.History.{initial};
 ghost use Rattle.tcc_reads.specs.Sources.{pair_cmp};
 ghost use Rattle.tcc_reads.specs.Faults.{read_faults};
 ghost use Rattle.tcc_reads.specs.Traced.{is_duplicate, is_rewrite, is_unique, traced_history};
+ghost use Rattle.tcc_reads.specs.private.Numbers.{IsPlace, numbered};
 ghost use Rattle.tcc_reads.specs.private.Verdicts.{writers_in, entries_found};
 ghost use Rattle.tcc_reads.specs.private.Tracings.{entries_traced, is_outside};
 
 use crate::judging::trace;
-use crate::numbering::{session_names, standings};
+use crate::numbering::{self, session_names, standing_at};
 use crate::resolver::{Findings, examine, initial_transaction, places, transaction};
-use crate::standing::Standing;
+use crate::standing::{Place, Standing};
 use crate::writers::{FirstWrites, first_writes};
 use crate::{LargeResolved, ReadFault, ReadFaultKind, Transaction};
 use std::alloc::{AllocError, Global};
 use std::collections::{BTreeMap, BTreeSet};
-use tcc_txn::{Bounds, Name, NoMemory, SnapshotWithin};
+use tcc_txn::{Bounds, Name, NoMemory, Op, SnapshotWithin};
 
 /// What can be traced of a snapshot, and what can't.
 #[derive(Drop)]
@@ -63,43 +65,53 @@ fn rewrites(alloc: Global, faults: &[ReadFault]) -> Result<BTreeSet<(Name, u64)>
     Ok(found)
 }
 
-/// Adds a transaction with the reads that can be traced, if it was committed. What `own` held is forgotten.
+/// Adds a transaction of these operations with the reads that can be traced, if it was committed. What `own` held is forgotten.
 fn trace_one(
     alloc: Global,
     first: &FirstWrites,
     rewrites: &BTreeSet<(Name, u64)>,
     standing: &Standing<'_>,
+    ops: &[Op],
     own: &mut BTreeMap<Name, u64>,
     transactions: &mut Vec<Transaction>,
 ) -> Result<(), AllocError>
+    requires ops { ops.now ≡ standing.now.stand.txn.ops }
+    requires few { length ops.now ≤ MAX_OPERATIONS }
     ensures { OnOk result (transactions.new.items ≡ transactions.old.items
         ++ entries_traced (writers_in first.now.writers) (is_outside rewrites.now) (standing.now ∷ [])) }
 {
     if standing.txn.committed() {
-        let reads = trace(alloc, &first.writers, rewrites, standing, own)?;
-        transactions.push(transaction(alloc, standing, reads)?)?;
+        let reads = trace(alloc, &first.writers, rewrites, standing, ops, own)?;
+        transactions.push(transaction(alloc, standing, ops, reads)?)?;
     }
     Ok(())
 }
 
 /// The initial and the committed transactions, with the reads that can be traced.
-fn trace_all(
+fn trace_all<B: Bounds>(
     alloc: Global,
     first: &FirstWrites,
     rewrites: &BTreeSet<(Name, u64)>,
-    standings: &[Standing<'_>],
-) -> Result<Vec<Transaction>, AllocError>
-    ensures { IfOk result (λ traced. traced.items ≡ initial ∷ entries_traced (writers_in first.now.writers) (is_outside rewrites.now) standings.now) }
+    snapshot: &SnapshotWithin<B>,
+    places: &[Place],
+) -> Result<Vec<Transaction>, NoMemory>
+    requires { All (IsPlace snapshot.now) places.now }
+    ensures { IfOk result (λ traced. traced.items
+        ≡ initial ∷ entries_traced (writers_in first.now.writers) (is_outside rewrites.now) (numbered snapshot.now places.now)) }
 {
     let mut transactions = Vec::new(alloc);
     let mut own = BTreeMap::new(alloc);
+    let mut ops = Vec::new(alloc);
     transactions.push(initial_transaction(alloc))?;
-    for standing in standings {
+    for place in places {
+        let standing = standing_at(snapshot, place);
+        standing.txn.fill(&mut ops)?;
         trace_one(
             alloc,
             first,
             rewrites,
-            standing,
+            &standing,
+            &ops,
             &mut own,
             &mut transactions,
         )?;
@@ -108,14 +120,17 @@ fn trace_all(
 }
 
 /// These transactions, of which only the reads that can be traced are kept.
-fn keep_traced(
+fn keep_traced<B: Bounds>(
     alloc: Global,
     first: &FirstWrites,
-    standings: &[Standing<'_>],
+    snapshot: &SnapshotWithin<B>,
+    places: &[Place],
     found: Findings,
-) -> Result<(Vec<Transaction>, Vec<ReadFault>), AllocError>
-    requires { found.transactions.items ≡ initial ∷ entries_found (writers_in first.now.writers) standings.now }
-    ensures transactions { IfOk result (λ traced. traced.0.items ≡ initial ∷ entries_traced (writers_in first.now.writers) (is_unique found.faults.items) standings.now) }
+) -> Result<(Vec<Transaction>, Vec<ReadFault>), NoMemory>
+    requires places { All (IsPlace snapshot.now) places.now }
+    requires found { found.transactions.items ≡ initial ∷ entries_found (writers_in first.now.writers) (numbered snapshot.now places.now) }
+    ensures transactions { IfOk result (λ traced. traced.0.items
+        ≡ initial ∷ entries_traced (writers_in first.now.writers) (is_unique found.faults.items) (numbered snapshot.now places.now)) }
     ensures faults { IfOk result (λ traced. traced.1.items ≡ found.faults.items) }
 {
     let Findings {
@@ -126,7 +141,7 @@ fn keep_traced(
     if rewrites.is_empty() {
         return Ok((transactions, faults));
     }
-    let transactions = trace_all(alloc, first, &rewrites, standings)?;
+    let transactions = trace_all(alloc, first, &rewrites, snapshot, places)?;
     Ok((transactions, faults))
 }
 
@@ -138,12 +153,11 @@ pub fn resolve_traced<B: Bounds>(
     ensures history { IfOk result (λ traced. traced.history ≡ traced_history snapshot.now) }
     ensures faults { IfOk result (λ traced. traced.faults.items ≡ read_faults snapshot.now) }
 {
-    let parts = snapshot.parts();
-    let sessions = session_names(alloc, parts)?;
-    let standings = standings(alloc, parts)?;
-    let first = first_writes(alloc, &standings)?;
-    let found = examine(alloc, &first, &standings)?;
-    let (transactions, faults) = keep_traced(alloc, &first, &standings, found)?;
+    let sessions = session_names(alloc, snapshot)?;
+    let stands = numbering::places(alloc, snapshot)?;
+    let first = first_writes(alloc, snapshot, &stands)?;
+    let found = examine(alloc, &first, snapshot, &stands)?;
+    let (transactions, faults) = keep_traced(alloc, &first, snapshot, &stands, found)?;
     let places = places(alloc, &transactions)?;
     let history = LargeResolved {
         sessions,

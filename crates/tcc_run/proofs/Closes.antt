@@ -4,6 +4,7 @@ use Rattle.std.specs.Prelude.{unwrap_or}
 use Rattle.std.specs.List.{last_or}
 use Rattle.tcc_rows.specs.Answers.{answers_of}
 use Rattle.tcc_txn.specs.Finished.{KeepsLimits}
+use Rattle.tcc_txn.specs.declared.limits.Limits.TheVariants.{Small}
 use Rattle.tcc_rows.specs.Items.{finished_in}
 use Rattle.tcc_cert.specs.Texts.{certificate_text}
 use Rattle.tcc_cert.specs.declared.certificate.Certificate.{Certificate}
@@ -16,11 +17,10 @@ use Rattle.tcc_run.specs.Closing.{IsAcceptance, acceptance}
 use Rattle.tcc_print.specs.Printed.{device_line}
 use Rattle.tcc_print.specs.Statuses.{code_of}
 use Rattle.tcc_print.specs.declared.status.Status.TheVariants.{Device}
-use Rattle.tcc_print.specs.Courses.{Said, halt_said}
+use Rattle.tcc_print.specs.Courses.{Said}
 use Rattle.tcc_run.specs.Runs.{IsSaidOfSnapshot, IsEnded, IsRun, IsWhole}
 use Rattle.tcc_run.proofs.Closing.{accepted, only}
-use Rattle.tcc_print.proofs.LastSaid.{device_code, last_said}
-use Rattle.tcc_print.proofs.Moments.{last-push}
+use Rattle.tcc_print.proofs.LastSaid.{certified_last, device_code}
 
 -- the check of these records accepts the text as that of the certificate, unless a reader fails or memory is refused
 abbrev Accepts : List ℕ → List ℕ → Type 0
@@ -44,11 +44,8 @@ module _ (options : Options) (records text : List ℕ) (limits : KeepsLimits (fi
   of_answer unfaulted (inr (faulty, same)) = absurd (nothing text (sym (ap (λ (s : Said). s.certificate) same) ∙ has))
 
   pub closes : IsWhole options (answers_of records) said ⊎ IsEnded options records said → Accepts records text
-  closes (inl (unfaulted, answered)) = of_answer unfaulted (last_said (IsSaidOfSnapshot options) (answers_of records).items said last answered end)
-  closes (inr (before, (n, why, may, are, same))) =
-      let pushed : last_or None said ≡ Some (halt_said options why) = ap (last_or None) same ∙ last-push None before (halt_said options why) in
-      let halted : halt_said options why ≡ last = inside _ _ (sym pushed ∙ end) in
-      absurd (nothing text (ap (λ (s : Said). s.certificate) halted ∙ has))
+  closes ends =
+      let all = certified_last Small (IsSaidOfSnapshot options) options records said last end ends text has in of_answer all.0 all.1
 
 -- what stands in a file that was empty is the certificate of the last, where no device failed
 pub left : (options : Options) (records text : List ℕ) → KeepsLimits (finished_in (answers_of records).items) → (before after : Option (List ℕ)) (code : ℕ)

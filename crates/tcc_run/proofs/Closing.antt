@@ -19,6 +19,7 @@ use Rattle.tcc_cert.specs.declared.fault.CertFault.{CertFault}
 use Rattle.tcc_cert.specs.declared.fault.CertFaultKind.TheVariants as text_kind
 use Rattle.tcc_check.specs.Streams.{claim_of}
 use Rattle.tcc_check.specs.Verdicts.{IsVerdict}
+use Rattle.tcc_check.specs.declared.verdict.Rule.{Rule}
 use Rattle.tcc_check.specs.declared.verdict.Verdict.{Verdict}
 use Rattle.tcc_check.specs.declared.verdict.Verdict.TheVariants as verdict
 use Rattle.tcc_check.proofs.Claims.{rejected_false}
@@ -69,7 +70,7 @@ module _ (records : List ℕ) (limits : KeepsLimits (all_of records)) (level : L
       subst (λ found. IsRecordsCheck (answers_of records).items found (certificate_text c) (acceptance c)) (sym unfaulted)
       (inr (resolved, (c, back, refl, keeps)))
 
-  by_verdict : (read : Certificate) (v : Verdict) → c ≡ read → IsVerdict (history (all_of records)) read v → v ≡ verdict.Accepted
+  by_verdict : (read : Certificate) (v : Verdict Rule) → c ≡ read → IsVerdict (history (all_of records)) read v → v ≡ verdict.Accepted
   by_verdict read verdict.Accepted same says = refl
   by_verdict read (verdict.Rejected rule at) same says =
       absurd (rejected_false (history (all_of records)) read rule at says (subst (Certifies (history (all_of records))) same keeps))
@@ -102,7 +103,7 @@ module _ (records : List ℕ) (limits : KeepsLimits (all_of records)) (level : L
   only o (inr (inr memory)) = subst (IsAcceptance c) (sym memory) tt
 
 -- what is no rejection is an acceptance
-pub own : (s : Sessions) (level : Level) (a : Answer) (checked : Result Verdict memory.NoMemory) → Certifies (history s) (certificate_of a)
+pub own : (s : Sessions) (level : Level) (a : Answer) (checked : Result (Verdict Rule) memory.NoMemory) → Certifies (history s) (certificate_of a)
     → IfOk checked (IsVerdict (history s) (certificate_of a)) → IfOk checked (λ v. v ≡ verdict.Accepted)
 own s level a (Ok verdict.Accepted) keeps says = refl
 own s level a (Ok (verdict.Rejected rule at)) keeps says = absurd (rejected_false (history s) (certificate_of a) rule at says keeps)

@@ -12,24 +12,15 @@ use Rattle.tcc_graph.specs.declared.level.Level.{Level}
 use Rattle.tcc_answer.specs.declared.answer.Answer.{Answer}
 use Rattle.tcc_explain.specs.Explained.{IsAnswerOfSnapshot}
 use Rattle.tcc_print.specs.Printed.{answered, device_line}
-use Rattle.tcc_print.specs.Statuses.{code_of, halt_status, row_status}
-use Rattle.tcc_print.specs.declared.halt.Halt.{Halt}
-use Rattle.tcc_print.specs.declared.halt.Halt.TheVariants as halt
+use Rattle.tcc_print.specs.Statuses.{code_of}
 use Rattle.tcc_print.specs.declared.options.Options.{Options}
 use Rattle.tcc_print.specs.declared.status.Status.TheVariants.{Device, Memory}
 use Rattle.tcc_run.specs.Headline.{IsExplained}
 use Rattle.tcc_run.specs.HeadlineRuns.{PrintsExplained, SaysExplained, finished_by}
-use Rattle.tcc_print.specs.Courses.{Contents, Gains, MayEnd, Said, halt_said, texts}
+use Rattle.tcc_print.specs.Courses.{Contents, Gains, Said, texts}
 use Rattle.tcc_run.specs.Runs.{AllGoesOut, IsSaidOfSnapshot, IsEnded, IsRun, IsWhole}
 use Rattle.tcc_run.proofs.Closing.{accepted, only}
-use Rattle.tcc_print.proofs.LastSaid.{device_code, last_said, texts_end}
-use Rattle.tcc_print.proofs.Moments.{last-push}
-
-inside : {X : Type 0} (x y : X) → Some x ≡ Some y → x ≡ y
-inside x y e = cc e
-
-nothing : {X : Type 0} (x : X) → None ≡ Some x → ⊥
-nothing x e = cc e
+use Rattle.tcc_print.proofs.LastSaid.{device_code, last_of_all, texts_end}
 
 module _ (law : (s : Sessions) (level : Level) (a : Answer) → IsAnswerOfSnapshot s level a → IsExplained s level a) (options : Options) where
   -- what is said of a snapshot is what the main theorem says
@@ -61,22 +52,11 @@ module _ (law : (s : Sessions) (level : Level) (a : Answer) → IsAnswerOfSnapsh
         }
     of_answer said last end goes (inr (faulty, same)) = absurd (faulty resolved)
 
-    -- what ends a run early ends it by a device or by memory, since the records have no fault
-    early : (n : ℕ) (why : Halt) → MayEnd Small records n why → code ≡ code_of (halt_status why) → ⊥
-    early n (halt.Row fault) (inl (found, at)) ends = nothing fault (sym unfaulted ∙ found)
-    early n (halt.Row fault) (inr (read, at, count)) ends = fine (ends ∙ ap (λ kind. code_of (row_status kind)) read)
-    early n halt.NoMemory may ends = space ends
-    early n (halt.Reads faults) may ends = may
-    early n (halt.Text fault) may ends = may
-
     of_ends : (said : List Said) (last : Said) → last_or None said ≡ Some last → AllGoesOut before after file file' (texts said) last code
         → IsWhole options (answers_of records) said ⊎ IsEnded options records said → Printed
-    of_ends said last end goes (inl (none, answers)) =
-        of_answer said last end goes (last_said (IsSaidOfSnapshot options) (answers_of records).items said last answers end)
-    of_ends said last end goes (inr (answers, (n, why, may, are, same))) =
-        let pushed : last_or None said ≡ Some (halt_said options why) = ap (last_or None) same ∙ last-push None answers (halt_said options why) in
-        let halted : last ≡ halt_said options why = inside last (halt_said options why) (sym end ∙ pushed) in
-        absurd (early n why may (goes.2 ∙ ap (λ (s : Said). code_of s.status) halted))
+    of_ends said last end goes ends =
+        of_answer said last end goes
+        (last_of_all Small (IsSaidOfSnapshot options) options records said last end ends unfaulted code fine space goes.2)
 
     pub prints : IsRun options records before after file file' code → Printed
     prints (said, last, ends, end, inl goes) = of_ends said last end goes ends

@@ -4,6 +4,5 @@ pub mod Closes
 pub mod HeadlineRuns
 pub mod OneRun
 pub mod Runs
-pub mod Sent
 pub mod Explains
 pub mod Earlier

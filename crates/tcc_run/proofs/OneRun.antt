@@ -1,6 +1,7 @@
 -- A whole run says the same by options that ask for the same.
 use Rattle.std.proofs.Common.{◌≡◌, ◌⊎◌, ℕ, suc, List, [], ◌∷◌, ◌++◌, Some, take, refl, sym, ap, subst, ◌∙◌, inl, inr, append_assoc}
 use Rattle.std.proofs.Common.{append-nil, zero}
+use Rattle.std.specs.List.{AllZip}
 use Rattle.tcc_rows.specs.Answers as rows
 use Rattle.tcc_rows.specs.Items.{finished_in}
 use Rattle.tcc_txn.specs.Snapshots.{Sessions}
@@ -13,7 +14,7 @@ use Rattle.tcc_answer.specs.declared.answer.Answer.{Answer}
 use Rattle.tcc_explain.specs.Explained.{IsAnswerOfHistory}
 use Rattle.tcc_print.specs.declared.options.Options.{Options}
 use Rattle.tcc_print.specs.declared.halt.Halt.TheVariants as halt
-use Rattle.tcc_print.specs.Courses.{AreSaid, Said, answer_said, halt_said}
+use Rattle.tcc_print.specs.Courses.{Said, answer_said, halt_said}
 use Rattle.tcc_run.specs.Runs.{AreAnswersOfRun, AreFront, AskAlike, IsSaidOfSnapshot, IsStopped, IsWhole}
 use Rattle.tcc_print.specs.Moments.{at_end}
 use Rattle.tcc_print.specs.Moments.{sealed_after, sealed_in}
@@ -48,7 +49,7 @@ module _ (one : (j : Judged) (some other : Answer) → IsAnswerOfHistory j some 
   said_again s x y (inr (faulty, e)) (inl (resolved, b, is, f)) = absurd (faulty resolved)
   said_again s x y (inr (faulty, e)) (inr (again, f)) = e ∙ rw alike.form refl ∙ sym f
 
-  all_again : (snapshots : List Sessions) (xs ys : List Said) → AreSaid (IsSaidOfSnapshot options) snapshots xs → AreSaid (IsSaidOfSnapshot others) snapshots ys → xs ≡ ys
+  all_again : (snapshots : List Sessions) (xs ys : List Said) → AllZip (IsSaidOfSnapshot options) snapshots xs → AllZip (IsSaidOfSnapshot others) snapshots ys → xs ≡ ys
   all_again [] [] [] are too = refl
   all_again [] [] (y ∷ ys) are too = absurd too
   all_again [] (x ∷ xs) ys are too = absurd are
@@ -60,7 +61,7 @@ module _ (one : (j : Judged) (some other : Answer) → IsAnswerOfHistory j some 
       ap (λ z. z ∷ xs) first ∙ ap (λ zs. y ∷ zs) rest
 
   -- of two beginnings of one list of snapshots the answers of the one are the first of the other's
-  fronts : (P Q r q : List Sessions) (xs ys : List Said) → P ++ r ≡ Q ++ q → AreSaid (IsSaidOfSnapshot options) P xs → AreSaid (IsSaidOfSnapshot others) Q ys
+  fronts : (P Q r q : List Sessions) (xs ys : List Said) → P ++ r ≡ Q ++ q → AllZip (IsSaidOfSnapshot options) P xs → AllZip (IsSaidOfSnapshot others) Q ys
       → AreFront xs ys ⊎ AreFront ys xs
   fronts [] Q r q [] ys same are too = inl (ys, refl)
   fronts [] Q r q (x ∷ xs) ys same are too = absurd are
@@ -81,7 +82,7 @@ module _ (one : (j : Judged) (some other : Answer) → IsAnswerOfHistory j some 
   record IsFront (asked : Options) (snapshots : List Sessions) (answers : List Said) : Type 0 where
     some : List Sessions
     rest : List Sessions
-    are : AreSaid (IsSaidOfSnapshot asked) some answers
+    are : AllZip (IsSaidOfSnapshot asked) some answers
     all : snapshots ≡ some ++ rest
 
   front_of : (asked : Options) (text : List ℕ) (said answers : List Said) → AreAnswersOfRun asked text said answers
@@ -89,14 +90,14 @@ module _ (one : (j : Judged) (some other : Answer) → IsAnswerOfHistory j some 
   front_of asked text said answers (inl (is, same)) = record {
     some = sealed_in (rows.answers_of text).items ++ at_end (rows.answers_of text).items;
     rest = [];
-    are = subst (AreSaid (IsSaidOfSnapshot asked) (sealed_in (rows.answers_of text).items ++ at_end (rows.answers_of text).items)) (sym same) is.1;
+    are = subst (AllZip (IsSaidOfSnapshot asked) (sealed_in (rows.answers_of text).items ++ at_end (rows.answers_of text).items)) (sym same) is.1.0;
     all = sym (append-nil (sealed_in (rows.answers_of text).items ++ at_end (rows.answers_of text).items));
   }
   front_of asked text said answers (inr (n, why, may, are, same)) =
       let cut = sealed-front [] (rows.answers_of text).items n in record {
         some = sealed_in (take n (rows.answers_of text).items);
         rest = cut.0 ++ at_end (rows.answers_of text).items;
-        are = are;
+        are = are.0;
         all = ap (λ sealed. sealed ++ at_end (rows.answers_of text).items) cut.1
             ∙ append_assoc (sealed_in (take n (rows.answers_of text).items)) cut.0 (at_end (rows.answers_of text).items);
       }
@@ -111,7 +112,7 @@ module _ (one : (j : Judged) (some other : Answer) → IsAnswerOfHistory j some 
   pub stopped_again : (all : rows.Answers) (said again : List Said) → IsStopped options all said → IsStopped others all again → said ≡ again
   stopped_again all said again (fault, xs, has, are, is) (other, ys, too, answered, same) =
       let alike_fault : fault ≡ other = inside fault other (sym has ∙ too) in
-      let answers : xs ≡ ys = all_again (sealed_in all.items) xs ys are answered in
+      let answers : xs ≡ ys = all_again (sealed_in all.items) xs ys are.0 answered.0 in
       is ∙ ap (λ zs. zs ++ halt_said options (halt.Row fault) ∷ []) answers
       ∙ ap (λ (u : RowFault). ys ++ halt_said options (halt.Row u) ∷ []) alike_fault
       ∙ rw alike.form refl ∙ sym same
@@ -119,4 +120,4 @@ module _ (one : (j : Judged) (some other : Answer) → IsAnswerOfHistory j some 
   pub whole_again : (all more : rows.Answers) (xs ys : List Said) → sealed_in all.items ++ at_end all.items ≡ sealed_in more.items ++ at_end more.items
       → IsWhole options all xs → IsWhole others more ys → xs ≡ ys
   whole_again all more xs ys same is too =
-      all_again (sealed_in all.items ++ at_end all.items) xs ys is.1 (subst (λ snapshots. AreSaid (IsSaidOfSnapshot others) snapshots ys) (sym same) too.1)
+      all_again (sealed_in all.items ++ at_end all.items) xs ys is.1.0 (subst (λ snapshots. AllZip (IsSaidOfSnapshot others) snapshots ys) (sym same) too.1.0)

@@ -10,9 +10,9 @@ ghost use Rattle.tcc_cert.specs.Texts.{certificate_text};
 ghost use Rattle.tcc_answer.specs.Claims.{certificate_of};
 ghost use Rattle.tcc_print.specs.Printed.{Prints, memory_line};
 ghost use Rattle.tcc_print.specs.Courses.{Gains};
-ghost use Rattle.tcc_print.specs.private.Courses.{AllAnswered, AnswersKept, EndsAnswering, EndsEarly, IsFor, IsStill, SaysLast};
+ghost use Rattle.tcc_print.specs.private.Courses.{AllAnswered, EndsAgain, EndsAnswering, EndsEarly, IsStill, SaysAgain, SaysLast};
 ghost use Rattle.tcc_run.specs.Runs.{GainsPart, IsRun};
-ghost use Rattle.tcc_run.specs.private.Stages.{Concludes, Follows, answer_in, course};
+ghost use Rattle.tcc_run.specs.private.Stages.{Concludes, Follows, course};
 
 use crate::outcome::Outcome;
 use std::alloc::Global;
@@ -71,8 +71,8 @@ fn say_again<T: Threads + Sync, W: Write, N: Write, G: Gate>(
     requires earlier { IfSome last (Follows run.now.options.now.level snapshot.now) }
     ensures earlier { IfOk result (Follows run.now.options.now.level snapshot.now) }
     ensures said { IsStill (course run.now.options.now) snapshot.now last
-        → MatchResult result (SaysLast (course run.now.options.now) snapshot.now (W.contents out.old) (W.contents out.new))
-        (EndsAnswering (course run.now.options.now) snapshot.now (W.contents out.old) (W.contents out.new)) }
+        → MatchResult result (SaysAgain (course run.now.options.now) snapshot.now last (W.contents out.old) (W.contents out.new))
+        (EndsAgain (course run.now.options.now) snapshot.now last (W.contents out.old) (W.contents out.new)) }
 {
     match again(last, snapshot.transactions()) {
         Ok(last) => {
@@ -84,7 +84,7 @@ fn say_again<T: Threads + Sync, W: Write, N: Write, G: Gate>(
     }
 }
 
-/// Says at the end what is to be said of the snapshot, unless it was said last, and keeps its answer; else the run ends with this
+/// Says at the end what is to be said of the snapshot, unless it was said last, and keeps it; else the run ends with this
 /// number.
 fn say_last<T: Threads + Sync, W: Write, N: Write, G: Gate>(
     run: &Run<T, G>,
@@ -92,31 +92,28 @@ fn say_last<T: Threads + Sync, W: Write, N: Write, G: Gate>(
     last: Option<Last<Outcome>>,
     out: &mut W,
     notes: &mut N,
-) -> Result<Option<Answer>, u8>
+) -> Result<Last<Outcome>, u8>
     requires earlier { IfSome last (Follows run.now.options.now.level snapshot.now) }
     ensures said { IfSome last (λ last. last.transactions ≡ transaction_count snapshot.now → (W.contents out.new ≡ W.contents out.old)
-        × (result ≡ Ok (answer_in last.outcome))) }
+        × (result ≡ Ok last)) }
     ensures due { IfSome last (λ last. last.transactions ≢ transaction_count snapshot.now)
-        → MatchResult result (AnswersKept (course run.now.options.now) snapshot.now (W.contents out.old) (W.contents out.new))
+        → MatchResult result (SaysLast (course run.now.options.now) snapshot.now (W.contents out.old) (W.contents out.new))
         (EndsAnswering (course run.now.options.now) snapshot.now (W.contents out.old) (W.contents out.new)) }
 {
     match again(last, snapshot.transactions()) {
-        Ok(last) => Ok(last.outcome.into_answer()),
-        Err(last) => {
-            let said = say(run, snapshot, last, out, notes)?;
-            Ok(said.outcome.into_answer())
-        }
+        Ok(last) => Ok(last),
+        Err(last) => say(run, snapshot, last, out, notes),
     }
 }
 
-/// Writes the answers at the seals that are still to come and the one at the end, if it is due, and gives the last; or
-/// writes what ends the run before, and gives the number that it ends with.
+/// Writes the answers at the seals that are still to come and the one at the end, if it is due, and gives what was said last;
+/// or writes what ends the run before, and gives the number that it ends with.
 fn answer_all<R: Read + Drop, T: Threads + Sync, W: Write, N: Write, G: Gate>(
     run: &Run<T, G>,
     recording: &mut Recording<R>,
     out: &mut W,
     notes: &mut N,
-) -> Result<Option<Answer>, u8>
+) -> Result<Last<Outcome>, u8>
     ensures { (bytes : List ℕ) → IsRecording Small R.remaining recording.old [] (answers_of bytes) → IsWithin R.remaining recording.old.rows (records_of bytes)
         → fault_met recording.old.rows ≡ None
         → MatchResult result (AllAnswered (course run.now.options.now) bytes (W.contents out.old) (W.contents out.new))
@@ -142,14 +139,14 @@ fn answer_all<R: Read + Drop, T: Threads + Sync, W: Write, N: Write, G: Gate>(
     Err(print_memory(out, run.options.json))
 }
 
-/// Writes the answers for the records of the reader, and gives the last; or writes what ends the run before, and gives the
-/// number that it ends with.
+/// Writes the answers for the records of the reader, and gives what was said last; or writes what ends the run before, and gives
+/// the number that it ends with.
 fn answer_records<R: Read + Drop, T: Threads + Sync, W: Write, N: Write, G: Gate>(
     run: &Run<T, G>,
     reader: R,
     out: &mut W,
     notes: &mut N,
-) -> Result<Option<Answer>, u8>
+) -> Result<Last<Outcome>, u8>
     ensures { IfSome (R.remaining reader) (λ bytes. MatchResult result (AllAnswered (course run.now.options.now) bytes (W.contents out.old) (W.contents out.new))
         (EndsEarly (course run.now.options.now) bytes (W.contents out.old) (W.contents out.new))) }
 {
@@ -234,7 +231,14 @@ pub fn run_explain<R: Read + Drop, W: Write, C: Write, N: Write, G: Gate>(
         gate,
     };
     match answer_records(&run, reader, out, notes) {
-        Ok(last) => conclude(alloc, &last, certificate, &options, out, notes),
+        Ok(last) => conclude(
+            alloc,
+            &last.outcome.into_answer(),
+            certificate,
+            &options,
+            out,
+            notes,
+        ),
         Err(code) => code,
     }
 }

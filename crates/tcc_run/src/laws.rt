@@ -14,6 +14,7 @@ ghost use Rattle.tcc_cert.specs.Texts.{certificate_text};
 ghost use Rattle.tcc_cert.specs.declared.certificate.Certificate.{Certificate};
 ghost use Rattle.tcc_check.specs.Verdicts.{IsVerdict};
 ghost use Rattle.tcc_check.specs.declared.judgement.Judgement.{Judgement};
+ghost use Rattle.tcc_check.specs.declared.verdict.Rule.{Rule};
 ghost use Rattle.tcc_check.specs.declared.verdict.Verdict.{Verdict};
 ghost use Rattle.tcc_check.specs.declared.verdict.Verdict.TheVariants.{Accepted};
 ghost use Rattle.tcc_answer.specs.Claims.{certificate_of};
@@ -90,7 +91,7 @@ pub fn closes()
 
 /// The verdict on an answer's own certificate is `Accepted`; so what a check of it answers is that, or `NoMemory`.
 pub fn own_certificate()
-    ensures { (s : Sessions) (level : Level) (a : Answer) (checked : Result Verdict NoMemory)
+    ensures { (s : Sessions) (level : Level) (a : Answer) (checked : Result (Verdict Rule) NoMemory)
         → IsAnswerOfHistory (judged (history s) level) a
         → IfOk checked (IsVerdict (history s) (certificate_of a)) → IfOk checked (λ verdict. verdict ≡ Accepted) }
 {

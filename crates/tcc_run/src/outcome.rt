@@ -6,7 +6,8 @@ ghost use Rattle.tcc_txn.specs.Snapshots.{Sessions};
 ghost use Rattle.tcc_graph.specs.declared.level.Level.{Level};
 ghost use Rattle.tcc_explain.specs.Explained.{IsAnswerOfSnapshot, IsRefusal};
 ghost use Rattle.tcc_print.specs.Printed.{EndsIn};
-ghost use Rattle.tcc_run.specs.private.Stages.{HasEarlier, IsEarlier, IsOutcome, answer_in, outcome_text};
+ghost use Rattle.tcc_print.specs.private.Courses.{IsTold};
+ghost use Rattle.tcc_run.specs.private.Stages.{HasEarlier, IsEarlier, IsOutcome, answer_in, course, outcome_text};
 
 use crate::headline::{explain_snapshot, explain_snapshot_next};
 use std::alloc::Global;
@@ -76,9 +77,21 @@ fn work_out<T: Threads + Sync, G: Gate>(
 }
 
 impl Outcome {
-    /// What is to be said of the snapshot at the level, worked out by so many workers; it continues that of the earlier
-    /// anomaly, if there was one.
+    /// What is to be said of the snapshot; it continues that of the earlier anomaly, if there was one.
     pub(crate) fn of<T: Threads + Sync, G: Gate>(
+        run: &Run<T, G>,
+        snapshot: &Snapshot,
+        earlier: Option<Anomaly>,
+    ) -> Result<Outcome, NoMemory>
+        requires earlier { IfSome earlier (IsEarlier run.now.options.now.level snapshot.now) }
+        ensures told { IfOk result (IsTold (course run.now.options.now) snapshot.now) }
+        ensures earlier { IfOk result (HasEarlier run.now.options.now.level snapshot.now) }
+    {
+        Outcome::of_snapshot(run, snapshot, earlier)
+    }
+
+    /// What is to be said of the snapshot at the level, worked out by so many workers.
+    fn of_snapshot<T: Threads + Sync, G: Gate>(
         run: &Run<T, G>,
         snapshot: &Snapshot,
         earlier: Option<Anomaly>,

@@ -3,7 +3,7 @@ use Rattle.std.proofs.Common.{◌≡◌, ◌<◌, ◌≤◌, ℕ, Bool, true, fa
 use Rattle.std.specs.Prelude.{min, nat_lt}
 use Rattle.std.proofs.lemmas.Bool.{ltb-true, ltb-false}
 use Rattle.tcc_core.specs.Shares.{capped}
-use Rattle.tcc_packed.specs.Packed.{capped_at}
+use Rattle.tcc_bits.specs.Packed.{capped_at}
 
 some_number : (cap n : ℕ) (less : Bool) → nat_lt n cap ≡ less → Some (min cap n) ≡ cond less (Some n) (Some cap)
 some_number cap n true e =

@@ -16,7 +16,7 @@ use Rattle.tcc_core.specs.Shares.{IsCycleCost, Share}
 use Rattle.tcc_core.specs.private.Relaxing.{count_joined}
 use Rattle.tcc_core.specs.declared.settled.Settled.{Settled}
 use Rattle.tcc_core.specs.declared.settled.Settled.TheVariants as settled
-use Rattle.tcc_core.proofs.Frontier.{upward_end}
+use Rattle.tcc_core.proofs.FrontierLemmas.{upward_end}
 use Rattle.tcc_core.proofs.Lowering.{joined_set, joined_below}
 use Rattle.tcc_core.proofs.Ending.{still_outside, finished_returned}
 use Rattle.tcc_steal.specs.private.Working.{KnowsMore, HasEnded, whole_row}

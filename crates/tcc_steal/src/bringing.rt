@@ -1,7 +1,7 @@
 //! Searches that have ended.
 ghost use Rattle.std.specs.Prelude.{◌≡◌, ◌↔◌, Some, true};
 
-use tcc_packed::PackedRow;
+use tcc_bits::PackedRow;
 
 /// A search that has ended: its row from the start upward, none for what stands outside, and the worker that made it.
 #[derive(Drop)]

@@ -1,5 +1,5 @@
 //! What a search by many workers answers.
-use tcc_packed::PackedRow;
+use tcc_bits::PackedRow;
 
 /// What a least cycle costs, and how far it is from each start to each transaction.
 #[derive(Drop)]

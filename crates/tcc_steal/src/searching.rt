@@ -17,9 +17,9 @@ use crate::worker::Worker;
 use crate::{AllStart, Crew, Found, Gate};
 use std::alloc::Global;
 use std::thread::Threads;
+use tcc_bits::PackedRow;
 use tcc_bound::{Bound, Seat};
 use tcc_derive::Prices;
-use tcc_packed::PackedRow;
 use tcc_txn::NoMemory;
 use tcc_workers::Workers;
 

@@ -11,10 +11,10 @@ use crate::Gate;
 use crate::bringing::Searched;
 use crate::running::run;
 use std::alloc::Global;
+use tcc_bits::PackedRow;
 use tcc_bound::{Bound, Seat};
 use tcc_core::Search;
 use tcc_derive::Prices;
-use tcc_packed::PackedRow;
 use tcc_txn::NoMemory;
 
 /// A worker: its number, its seat at the bound, and its one search, which it has from its first start on and renews for each

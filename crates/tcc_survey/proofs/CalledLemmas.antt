@@ -1,13 +1,13 @@
 -- The usual names of contradicted reads.
-use Rattle.std.proofs.Common.{◌≡◌, ◌≢◌, ◌<◌, ◌≤◌, ◌+◌, ◌-◌, ◌⊎◌, inl, inr, ℕ, true, false, List, [], length, get_or, sym, ap, ◌∙◌, subst, arith}
+use Rattle.std.proofs.Common.{◌≡◌, ◌≢◌, ◌<◌, ◌≤◌, ◌+◌, ◌-◌, ◌⊎◌, inl, inr, ℕ, true, false, List, [], length, map, get_or, sym, ap, ◌∙◌, subst, arith}
 use Rattle.std.specs.List.{All, Contains}
 use Rattle.std.proofs.lemmas.Bool.{cases_lt, cases_eq, false≢true}
 use Rattle.std.proofs.lemmas.List.{get_or_default}
 use Rattle.std.proofs.lemmas.List.Elements.{All-filter, All-contains, filter_passes}
-use Rattle.tcc_txn.proofs.Lists.{from_map, in_filter}
+use Rattle.tcc_txn.proofs.Lists.{from_map, in_filter, in_map}
 use Rattle.tcc_reads.specs.History.{History, IsBySession, count, entry_at, owner}
 use Rattle.tcc_graph.specs.Relations.{causal_pair, IsSessionPair, IsReadsPair, reads_from}
-use Rattle.tcc_graph.specs.Keys.{has_name, readers, numbers}
+use Rattle.tcc_graph.specs.Keys.{has_name, key_at, readers, numbers}
 use Rattle.tcc_graph.proofs.NameLemmas.{has_name-contains, contains-has_name}
 use Rattle.tcc_graph.proofs.Pairs.{PairParts, pair_kinds, pair_from_reads, pair_parts}
 use Rattle.tcc_graph.proofs.WriterLemmas.{numbers_below, number_in}
@@ -35,47 +35,36 @@ reads_reader : (h : History) (a : ℕ) (x : List ℕ) (c : ℕ) → IsReadsPair 
 reads_reader h a x c (from, to, there) =
     in_filter (λ d. has_name (reads_from h a d) x) (numbers h) c (number_in h c to) (contains-has_name (reads_from h a c) x there)
 
--- ---- whom a transaction reads from
-module _ (h : History) (c : ℕ) (below : c < count h) (P : ℕ → Type 0) where
-  pub found_read : (k : ℕ) → k < length (entry_at h c).reads → (get_or (entry_at h c).reads k ([], 0)).1 < count h
-      → P (get_or (entry_at h c).reads k ([], 0)).1 → (d : ℕ) × ReadsFrom h d c × P d
-  found_read k l from is =
-      let read : List ℕ × ℕ = get_or (entry_at h c).reads k ([], 0) in
-      let here = get_or_default (entry_at h c).reads k (get_or (entry_at h c).reads k ([], 0)) ([], 0) l in
-      (read.1, (read.0, listed_pair h read.1 c read.0 from below (k, l, here)), is)
+-- ---- whom a transaction reads from, by the indices of the keys
+module _ (h : History) (c : ℕ) (below : c < count h) (P : ℕ → Type 0) (items : List (ℕ × ℕ))
+    (value : map (λ read. (key_at h read.0, read.1)) items ≡ (entry_at h c).reads) where
+  abbrev named : ℕ × ℕ → List ℕ × ℕ
+  named read = (key_at h read.0, read.1)
 
-  pub no_read : ((k : ℕ) → k < length (entry_at h c).reads → P (get_or (entry_at h c).reads k ([], 0)).1 → ⊥) → (d : ℕ) × ReadsFrom h d c × P d → ⊥
-  no_read never (d, (y, pair), is) =
+  pub found_item : (k : ℕ) → k < length items → (get_or items k (0, 0)).1 < count h → P (get_or items k (0, 0)).1 → (d : ℕ) × ReadsFrom h d c × P d
+  found_item k l from holds =
+      let r : ℕ × ℕ = get_or items k (0, 0) in
+      let there : Contains items r = (k, l, get_or_default items k r (0, 0) l) in
+      let read : List ℕ × ℕ = named r in
+      (r.1, (key_at h r.0, listed_pair h r.1 c (key_at h r.0) from below (subst (λ (xs : List (List ℕ × ℕ)). Contains xs read) value (in_map named items r there))), holds)
+
+  pub no_item : (n : ℕ) → length items ≤ n → ((k : ℕ) → k < n → P (get_or items k (0, 0)).1 → ⊥) → (d : ℕ) × ReadsFrom h d c × P d → ⊥
+  no_item n past never (d, (y, pair), is) =
       let w = from_map (λ (read : List ℕ × ℕ). read.1) (entry_at h c).reads d (reads_source h d c y pair.2) in
-      go w.0 w.1 w.2
+      let v = from_map named items w.0 (subst (λ (xs : List (List ℕ × ℕ)). Contains xs w.0) (sym value) w.1) in
+      go v.0 v.1 (ap (λ (p : List ℕ × ℕ). p.1) v.2 ∙ w.2)
     where
-      go : (r : List ℕ × ℕ) → Contains (entry_at h c).reads r → r.1 ≡ d → ⊥
+      go : (r : ℕ × ℕ) → Contains items r → r.1 ≡ d → ⊥
       go r (k, l, e) same =
-          let here : ◌≡◌ {A = List ℕ × ℕ} (get_or (entry_at h c).reads k ([], 0)) r = get_or_default (entry_at h c).reads k ([], 0) r l ∙ e in
-          never k l (subst P (sym (ap (λ (p : List ℕ × ℕ). p.1) here ∙ same)) is)
+          let here : ◌≡◌ {A = ℕ × ℕ} (get_or items k (0, 0)) r = get_or_default items k (0, 0) r l ∙ e in
+          never k (omega (arith, l, past)) (subst P (sym (ap (λ (p : ℕ × ℕ). p.1) here ∙ same)) is)
 
--- the same, of the reads as they are gone through
-module _ (h : History) (c : ℕ) (below : c < count h) (P : ℕ → Type 0) (items : List (List ℕ × ℕ)) (value : items ≡ (entry_at h c).reads) where
-  pub found_item : (k : ℕ) → k < length items → (r : List ℕ × ℕ) → ◌≡◌ {A = List ℕ × ℕ} r (get_or items k r) → r.1 < count h → P r.1
-      → (d : ℕ) × ReadsFrom h d c × P d
-  found_item k l r is from holds =
-      let there : Contains items r = (k, l, sym is) in
-      (r.1, (r.0, listed_pair h r.1 c r.0 from below (subst (λ (xs : List (List ℕ × ℕ)). Contains xs r) value there)), holds)
-
-  pub no_item : (n : ℕ) → length items ≤ n → ((k : ℕ) → k < n → P (get_or items k ([], 0)).1 → ⊥) → (d : ℕ) × ReadsFrom h d c × P d → ⊥
-  no_item n past never =
-      no_read h c below P
-      (subst (λ (xs : List (List ℕ × ℕ)). (k : ℕ) → k < length xs → P (get_or xs k ([], 0)).1 → ⊥) value (λ k l. never k (omega (arith, l, past))))
-
-  pub item_more : (n : ℕ) → n < length items → (r : List ℕ × ℕ) → ◌≡◌ {A = List ℕ × ℕ} r (get_or items n r)
-      → ((k : ℕ) → k < n → P (get_or items k ([], 0)).1 → ⊥) → (P r.1 → ⊥) → (k : ℕ) → k < n + 1 → P (get_or items k ([], 0)).1 → ⊥
-  item_more n inside r is before never k l holds = go (cases_eq k n)
+  pub item_more : (n : ℕ) → ((k : ℕ) → k < n → P (get_or items k (0, 0)).1 → ⊥) → (P (get_or items n (0, 0)).1 → ⊥)
+      → (k : ℕ) → k < n + 1 → P (get_or items k (0, 0)).1 → ⊥
+  item_more n before never k l holds = go (cases_eq k n)
     where
-      here : ◌≡◌ {A = List ℕ × ℕ} (get_or items n ([], 0)) r
-      here = get_or_default items n ([], 0) r inside ∙ sym is
-
       go : (k ≡ n) ⊎ (k ≢ n) → ⊥
-      go (inl same) = never (subst (λ (p : List ℕ × ℕ). P p.1) here (subst (λ (z : ℕ). P (get_or items z ([], 0)).1) same holds))
+      go (inl same) = never (subst (λ (z : ℕ). P (get_or items z (0, 0)).1) same holds)
       go (inr other) = before k (omega (arith, l, other)) holds
 
 -- ---- the session of a reader

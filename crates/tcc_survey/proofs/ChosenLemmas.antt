@@ -4,7 +4,7 @@ use Rattle.std.proofs.lemmas.Bool.{cases_lt, cases_eq}
 use Rattle.std.proofs.lemmas.List.{get_or_append_left, get_or_at}
 use Rattle.tcc_reads.specs.History.{count}
 use Rattle.tcc_graph.specs.Levels.{Judged}
-use Rattle.tcc_survey.specs.declared.reading.Reading.{Reading}
+use Rattle.tcc_survey.specs.declared.external_reads.Reading.{Reading}
 use Rattle.tcc_survey.specs.declared.contradicted.Contradicted.{Contradicted}
 use Rattle.tcc_survey.specs.Contradictions.{IsContradictedBy, Contradicts, HasRead, IsContradicted, ComesBefore, contradicted_at, AreContradicted}
 use Rattle.tcc_survey.specs.private.Settled.{IsAgainst, AreFound, reading_of}

@@ -18,7 +18,7 @@ use Rattle.tcc_clocks.specs.Spans.{AreSpans, AreBounds}
 use Rattle.tcc_clocks.specs.private.Between.{IsBetween}
 use Rattle.tcc_clocks.specs.declared.latest.TheConstants.{WIDE}
 use Rattle.tcc_clocks.proofs.SpanLemmas.{between_span, writers_rise}
-use Rattle.tcc_survey.specs.declared.reading.Reading.{Reading}
+use Rattle.tcc_survey.specs.declared.external_reads.Reading.{Reading}
 use Rattle.tcc_survey.specs.private.Settled.{IsAcyclic, AreWritersIn, AreSpansIn, in_span, IsAgainst, IsLeastOf, IsLeastBefore, AreSettled, AreFound, reading_of}
 
 -- ---- the order

@@ -1,14 +1,15 @@
 -- First numbers of sessions: of those meant so far, and of one more.
 use Rattle.std.proofs.Common.{◌≡◌, ◌≢◌, ◌<◌, ◌≤◌, ◌+◌, ◌==◌, ◌↔◌, ◌⊎◌, inl, inr, ℕ, true, false, ◌&&◌, nat_lt, List, [], ◌∷◌, ◌++◌, length, get_or, set, take}
 use Rattle.std.proofs.Common.{slice_index, refl, sym, ap, ◌∙◌, subst, arith}
-use Rattle.std.specs.Prelude.{min, zip}
+use Rattle.std.specs.Prelude.{min}
 use Rattle.std.specs.List.{All, Contains}
 use Rattle.std.proofs.lemmas.Bool.{cases_lt, cases_eq, cases_Bool, and_parts, and_from, ltb-true, lt-ltb, eqb-true, eq-eqb, false≢true}
 use Rattle.std.proofs.lemmas.List.{get_or_default, get_or-take, length-take-le, length-set}
 use Rattle.std.proofs.lemmas.List.Elements.{All-weaker, All-contains, All-contains_itself, Contains-append_left, Contains-push, Contains-push_cases}
 use Rattle.tcc_reads.specs.History.{History, IsBySession, count, owner, place}
 use Rattle.tcc_graph.specs.Relations.{IsCausalPair, IsReadsPair, IsSessionPair}
-use Rattle.tcc_graph.specs.Readings.{AreReadings}
+use Rattle.tcc_graph.specs.Keys.{key_at}
+use Rattle.tcc_graph.specs.Readings.{AreReadingsByIndex}
 use Rattle.tcc_graph.specs.Walks.{step_to, Leads, IsWalk, IsReached}
 use Rattle.tcc_graph.specs.Orders.{Before, IsNumbering}
 use Rattle.tcc_graph.specs.Tables.{row_of}
@@ -16,7 +17,8 @@ use Rattle.tcc_graph.specs.declared.step.Step.{Step}
 use Rattle.tcc_graph.proofs.Numberings.{one_index}
 use Rattle.tcc_graph.proofs.Pairs.{PairParts, lower_first, pair_below, pair_parts, step_pair, initial_pair}
 use Rattle.tcc_graph.proofs.Walking.{pair_walk, reached_append}
-use Rattle.tcc_bits.proofs.Lists.{zip_at, zip_has, zip-long, nothing_in, one_of_taken, still_taken, last_taken}
+use Rattle.tcc_bits.proofs.Lists.{zip_has, nothing_in, one_of_taken, still_taken, last_taken}
+use Rattle.tcc_order.proofs.Readings.{reader_at}
 use Rattle.tcc_clocks.specs.Clocks.{AreOwners, IsLike}
 use Rattle.tcc_clocks.specs.declared.latest.TheConstants.{WIDE}
 use Rattle.tcc_clocks.proofs.Along.{rows_more}
@@ -305,23 +307,18 @@ children_below h a children are =
     All-weaker (Contains children) (λ p. p < count h) (λ p there. (pair_below h a p (are.pairs p there)).1) children (All-contains_itself children)
 
 -- ---- children
-module _ (h : History) (a : ℕ) (readers : List ℕ) (names : List (List ℕ)) (are : AreReadings h a readers names) where
+module _ (h : History) (a : ℕ) (readers key_indices : List ℕ) (are : AreReadingsByIndex h a readers key_indices) where
   reader_pair : (p : ℕ) → Contains readers p → IsCausalPair h a p
   reader_pair p (k, l, e) =
-      let x : List ℕ = get_or names k [] in
-      let pair : IsReadsPair h a (get_or readers k 0) x = (are.each (get_or readers k 0) x).0 (zip_has readers names k [] are.long l) in
+      let i : ℕ = get_or key_indices k 0 in
+      let pair : IsReadsPair h a (get_or readers k 0) (key_at h i) = ((are.each (get_or readers k 0) i).0 (zip_has readers key_indices k 0 are.long l)).1 in
       let here : get_or readers k 0 ≡ p = get_or_default readers k 0 p l ∙ e in
-      inr (x, subst (λ (z : ℕ). IsReadsPair h a z x) here pair)
+      inr (key_at h i, subst (λ (z : ℕ). IsReadsPair h a z (key_at h i)) here pair)
 
   reader_listed : (p : ℕ) (x : List ℕ) → IsReadsPair h a p x → Contains readers p
-  reader_listed p x pair = go ((are.each p x).1 pair)
-    where
-      go : (let one : ℕ × List ℕ = (p, x) in Contains (zip readers names) one) → Contains readers p
-      go (k, l, e) =
-          let inside : k < length readers = omega (arith, l, zip-long readers names are.long) in
-          let at = zip_at readers names k 0 [] are.long inside in
-          let here : get_or readers k 0 ≡ p = ap (λ z. z.0) (sym at ∙ (get_or_default (zip readers names) k (0, []) (p, x) l ∙ e)) in
-          (k, inside, get_or_default readers k p 0 inside ∙ here)
+  reader_listed p x pair =
+      let w = reader_at h a readers key_indices are.long are.each p x pair in
+      (w.0, w.1, get_or_default readers w.0 p 0 w.1 ∙ w.2)
 
   pub children_last : (IsSessionPair h a (a + 1) → ⊥) → AreChildren h a readers
   children_last never = record { pairs = reader_pair; next = λ p. absurd (never p); readers = reader_listed }

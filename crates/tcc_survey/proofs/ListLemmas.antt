@@ -7,7 +7,7 @@ use Rattle.tcc_txn.proofs.Lists.{in_filter, in_map}
 use Rattle.tcc_reads.specs.History.{History, count, entry_at}
 use Rattle.tcc_graph.specs.Relations.{IsReadsPair}
 use Rattle.tcc_graph.specs.Keys.{keys, key_at}
-use Rattle.tcc_survey.specs.declared.reading.Reading.{Reading}
+use Rattle.tcc_survey.specs.declared.external_reads.Reading.{Reading}
 use Rattle.tcc_survey.specs.Contradictions.{ComesBefore}
 use Rattle.tcc_survey.specs.private.Settled.{reading_of}
 use Rattle.tcc_survey.specs.private.Listed.{IsEarlier, IsReadOf, AreReadsUpTo}

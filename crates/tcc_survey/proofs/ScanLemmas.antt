@@ -18,7 +18,7 @@ use Rattle.tcc_graph.proofs.Walking.{pair_walk, reached_append}
 use Rattle.tcc_graph.proofs.WriterLemmas.{writer_listed, writer_writes}
 use Rattle.tcc_clocks.specs.Clocks.{AreOwners, AreLatestOf, IsBefore, IsLatestOf, IsOneOf}
 use Rattle.tcc_clocks.specs.declared.latest.TheConstants.{WIDE}
-use Rattle.tcc_survey.specs.declared.reading.Reading.{Reading}
+use Rattle.tcc_survey.specs.declared.external_reads.Reading.{Reading}
 use Rattle.tcc_survey.specs.private.Firsts.{AreFirstOf, IsAfter}
 use Rattle.tcc_survey.specs.private.Settled.{IsLeastOf, IsAcyclic, IsKnown, IsHit, AreWritersIn, IsAgainst, IsLeastBefore, IsReading}
 use Rattle.tcc_survey.proofs.FirstLemmas.{in_session}

@@ -7,7 +7,7 @@ use Rattle.tcc_graph.specs.Links.{IsReason}
 use Rattle.tcc_graph.specs.Walks.{IsReached}
 use Rattle.tcc_graph.specs.declared.step.Step.{Step}
 use Rattle.tcc_survey.specs.Circles.{IsCircle}
-use Rattle.tcc_survey.specs.declared.reading.Reading.{Reading}
+use Rattle.tcc_survey.specs.declared.external_reads.Reading.{Reading}
 use Rattle.tcc_survey.specs.declared.contradicted.Contradicted.{Contradicted}
 use Rattle.tcc_survey.specs.declared.surveyed.Surveyed.{Surveyed}
 use Rattle.tcc_survey.specs.declared.surveyed.Surveyed.TheVariants as answer

@@ -1,4 +1,5 @@
-//! The contradicted reads of a history, one after the other.
+//! The contradicted reads of a history, one after the other: those for which the sweep (`clock_sweep`) found a writer. A step for each
+//! read beside it.
 ghost use Rattle.std.specs.Prelude.{IfOk};
 ghost use Rattle.tcc_reads.specs.History.{count};
 ghost use Rattle.tcc_graph.specs.Levels.{judged};
@@ -6,8 +7,8 @@ ghost use Rattle.tcc_graph.specs.Orders.{IsNumbering};
 ghost use Rattle.tcc_clocks.specs.Clocks.{LeadsOnward};
 ghost use Rattle.tcc_survey.specs.Contradictions.{AreContradicted};
 
-use crate::finding::find_least;
-use crate::reading::{Reading, all_reads};
+use crate::clock_sweep::find_least;
+use crate::external_reads::{Reading, all_reads};
 use std::alloc::Global;
 use tcc_graph::{LargeGraph, Level};
 use tcc_txn::NoMemory;

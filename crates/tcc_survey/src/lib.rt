@@ -3,19 +3,19 @@
 #![tactic(auto)]
 
 mod circle;
+mod clock_sweep;
 mod contradicted;
-mod finding;
-mod naming;
-mod reaching;
-mod reading;
+mod external_reads;
+mod reverse_clocks;
 mod scanning;
+mod session_guarantees;
 mod surveyed;
 mod surveying;
 mod usual_name;
 
 pub use contradicted::Contradicted;
-pub use naming::name_of;
-pub use reading::Reading;
+pub use external_reads::Reading;
+pub use session_guarantees::name_of;
 pub use surveyed::Surveyed;
 pub use surveying::survey;
 pub use usual_name::UsualName;

@@ -1,4 +1,6 @@
-//! Which of the writers in a block of sessions contradict a read: those that its source reaches and that reach its reader.
+//! Which of the writers in a block of sessions contradict a read: those that its source reaches and that reach its reader. Of few
+//! writers each is looked at; of many, in each session the first by binary search, as numbers rise with places in a session. A read
+//! of a key with W writers in the block takes 32 steps, or 64 log W and one for each that is not known at the level.
 ghost use Rattle.std.specs.Prelude.{◌≡◌, ◌<◌, ◌≤◌, ◌+◌, ◌^◌, ◌↔◌, ℕ, length, slice_index, All, IsTrue, OnOk};
 ghost use Rattle.std.specs.List.Sorted.{IsNonDecreasing};
 ghost use Rattle.tcc_reads.specs.History.{IsBySession, count};
@@ -7,9 +9,9 @@ ghost use Rattle.tcc_graph.specs.Levels.{judged};
 ghost use Rattle.tcc_clocks.specs.Clocks.{AreOwners, AreClocks};
 ghost use Rattle.tcc_clocks.specs.declared.latest.TheConstants.{WIDE};
 ghost use Rattle.tcc_survey.specs.private.Firsts.{AreFirsts};
-ghost use Rattle.tcc_survey.specs.private.Settled.{IsLeastOf, IsAcyclic, IsWithin, IsKnown, IsHit, IsHitIn, AreWritersIn, IsReading, IsLeastBefore, AreReads, AreSettled, AreSpansIn};
+ghost use Rattle.tcc_survey.specs.private.Settled.{IsLeastOf, IsAcyclic, IsBlock, MayHit, IsWithin, IsKnown, IsHit, IsHitIn, AreWritersIn, IsReading, IsLeastBefore, AreReads, AreSettled, AreSpansIn};
 
-use crate::reading::Reading;
+use crate::external_reads::Reading;
 use std::alloc::Global;
 use tcc_clocks::{SharedRows, WIDE, between, block_bounds, find_spans};
 use tcc_graph::{LargeGraph, Level};
@@ -57,12 +59,7 @@ fn hit_of_few(
     writers: &[u32],
     c: u32,
 ) -> u32
-    requires owners { length owners.now ≡ count graph.now }
-    requires inside { All (λ b. b < count graph.now) writers.now }
-    requires rising { IsNonDecreasing writers.now }
-    requires first { length first.now ≡ WIDE }
-    requires clock { length clock.now ≡ WIDE }
-    requires reader { c < count graph.now }
+    requires { MayHit graph.now owners.now from first.now clock.now writers.now c }
     ensures { IsLeastOf (IsHit (judged graph.now level) owners.now from first.now clock.now writers.now c) result }
 {
     for writer in writers {
@@ -126,14 +123,7 @@ fn hit_of_many(
     writers: &[u32],
     c: u32,
 ) -> u32
-    requires owners { AreOwners graph.now owners.now }
-    requires numbered { IsBySession graph.now.entries }
-    requires room { from + WIDE < 2 ^ 32 }
-    requires inside { All (λ b. b < count graph.now) writers.now }
-    requires rising { IsNonDecreasing writers.now }
-    requires first { length first.now ≡ WIDE }
-    requires clock { length clock.now ≡ WIDE }
-    requires reader { c < count graph.now }
+    requires { MayHit graph.now owners.now from first.now clock.now writers.now c }
     ensures { IsLeastOf (IsHit (judged graph.now level) owners.now from first.now clock.now writers.now c) result }
 {
     for lane in 0..WIDE {
@@ -168,14 +158,7 @@ fn first_hit(
     c: u32,
     are_reached: bool,
 ) -> u32
-    requires owners { AreOwners graph.now owners.now }
-    requires numbered { IsBySession graph.now.entries }
-    requires room { from + WIDE < 2 ^ 32 }
-    requires inside { All (λ b. b < count graph.now) writers.now }
-    requires rising { IsNonDecreasing writers.now }
-    requires first { length first.now ≡ WIDE }
-    requires clock { length clock.now ≡ WIDE }
-    requires reader { c < count graph.now }
+    requires { MayHit graph.now owners.now from first.now clock.now writers.now c }
     ensures { IsLeastOf (IsHit (judged graph.now level) owners.now from first.now clock.now writers.now c) result }
 {
     if are_reached || writers.len() <= FEW {
@@ -197,12 +180,7 @@ fn least_up_to(
     reading: Reading,
     known: u32,
 ) -> u32
-    requires numbered { IsBySession graph.now.entries }
-    requires room { from + WIDE < 2 ^ 32 }
-    requires acyclic { IsAcyclic graph.now }
-    requires owners { AreOwners graph.now owners.now }
-    requires firsts { AreFirsts graph.now from firsts.now }
-    requires clocks { AreClocks graph.now from clocks.now }
+    requires block { IsBlock graph.now owners.now from firsts.now clocks.now }
     requires writers { AreWritersIn graph.now from (key_at graph.now reading.key_index) writers.now }
     requires read { IsReading graph.now reading }
     requires known { IsLeastBefore (judged graph.now level) from reading known }
@@ -240,13 +218,8 @@ fn settle_each(
     clocks: &SharedRows,
     reads: &[Reading],
 )
-    requires numbered { IsBySession graph.now.entries }
-    requires room { from + WIDE < 2 ^ 32 }
-    requires acyclic { IsAcyclic graph.now }
-    requires owners { AreOwners graph.now owners.now }
+    requires block { IsBlock graph.now owners.now from firsts.now clocks.now }
     requires spans { AreSpansIn graph.now from spans.now }
-    requires firsts { AreFirsts graph.now from firsts.now }
-    requires clocks { AreClocks graph.now from clocks.now }
     requires reads { AreReads graph.now reads.now }
     requires settled { AreSettled (judged graph.now level) reads.now from found.old }
     ensures { AreSettled (judged graph.now level) reads.now (from + WIDE) found.new }

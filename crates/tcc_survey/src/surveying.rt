@@ -1,4 +1,5 @@
-//! The survey of a history.
+//! The survey of a history: an order of its causal pairs, by Kahn's algorithm (`tcc_order`), and along it the contradicted reads; or,
+//! where there is none, a circle of causal pairs. It costs what these cost.
 ghost use Rattle.std.specs.Prelude.{IfOk};
 ghost use Rattle.tcc_graph.specs.Levels.{judged};
 ghost use Rattle.tcc_survey.specs.Contradictions.{IsSurvey};

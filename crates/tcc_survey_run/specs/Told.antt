@@ -1,20 +1,15 @@
 -- What is told of contradicted reads, by the operations that were recorded.
-use Rattle.std.specs.Prelude.{ℕ, ◌+◌, ◌-◌, ◌≡◌, Bool, false, ◌&&◌, ◌==◌, List, [], ◌∷◌, length, map, filter, nat_lt, unwrap_or, position, slice_get, codes}
-use Rattle.std.specs.FinMap.{entries}
+use Rattle.std.specs.Prelude.{ℕ, ◌+◌, ◌-◌, ◌≡◌, ◌==◌, List, [], ◌∷◌, length, map, filter, nat_lt, codes}
 use Rattle.std.specs.List.{AllZip}
 use Rattle.std.specs.List.Sorted.{IsPermutation, IsSortedByKey}
 use Rattle.std.specs.Option.{option_map_or}
 use Rattle.std.specs.Ordering.{nat_cmp, ordering_then}
-use Rattle.std.specs.Str.{bytes_eq}
 use Rattle.std.specs.declared.cmp.Ordering.{Ordering}
 use Rattle.tcc_txn.specs.Snapshots.{Sessions}
-use Rattle.tcc_txn.specs.Transactions.{Transaction}
 use Rattle.tcc_txn.specs.declared.op.Op.{Op}
-use Rattle.tcc_txn.specs.declared.op.Op.TheVariants.{Get, Put}
 use Rattle.tcc_reads.specs.History.{History}
-use Rattle.tcc_reads.specs.Sources.{visible_write}
 use Rattle.tcc_graph.specs.Keys.{key_at}
-use Rattle.tcc_graph.specs.Numbers.{at}
+use Rattle.tcc_operations.specs.Operations.{first_reading, ops_of, source_value}
 use Rattle.tcc_survey.specs.Names.{IsUsualName, rank}
 use Rattle.tcc_survey.specs.declared.contradicted.Contradicted.{Contradicted}
 use Rattle.tcc_survey.specs.declared.usual_name.UsualName.{UsualName}
@@ -22,32 +17,15 @@ use Rattle.tcc_survey.specs.declared.usual_name.UsualName.TheVariants as name
 use Rattle.tcc_survey_run.specs.declared.counting.NameCount.{NameCount}
 use Rattle.tcc_survey_run.specs.declared.told.ToldRead.{ToldRead}
 
--- the operations of the transaction at this place of its session
-abbrev pub ops_in : List Transaction → ℕ → List Op
-ops_in transactions place = option_map_or (λ t. t.ops) (slice_get transactions (place - 1)) []
-
--- the recorded operations of the transaction of a number; none for `init`
-abbrev pub ops_of : Sessions → History → ℕ → List Op
-ops_of s h n = option_map_or (λ p. option_map_or (λ part. ops_in part.1 p.1) (slice_get (entries s) p.0) []) (at h n) []
-
--- whether an operation reads this value at a key
-abbrev pub reads_value : List ℕ → ℕ → Op → Bool
-reads_value x v (Get key value) = bytes_eq key x && (value == v)
-reads_value x v (Put key value) = false
-
 -- the position of the first operation that reads this value at a key, from 1
 abbrev pub first_read : List ℕ → ℕ → List Op → ℕ
-first_read x v ops = option_map_or (λ before. before + 1) (position (reads_value x v) ops) 0
-
--- the value at a key that is read from a transaction: 0 from `init`, else its visible write
-abbrev pub source_value : Sessions → History → List ℕ → ℕ → ℕ
-source_value s h x a = unwrap_or (visible_write x (ops_of s h a)) 0
+first_read x v ops = option_map_or (λ before. before + 1) (first_reading x v ops) 0
 
 -- what is told of a contradicted read
 pub record IsToldOf (s : Sessions) (h : History) (one : Contradicted) (told : ToldRead) : Type 0 where
   pub reader : told.reader ≡ one.reading.reader
   pub key : told.key ≡ key_at h one.reading.key_index
-  pub value : told.value ≡ source_value s h told.key one.reading.source
+  pub value : told.value ≡ source_value s h one.reading.source told.key
   pub op : told.op ≡ first_read told.key told.value (ops_of s h told.reader)
   pub writer : told.writer ≡ one.writer
   pub name : IsUsualName h told.reader told.key told.writer told.name

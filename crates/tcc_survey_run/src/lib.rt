@@ -9,7 +9,6 @@ mod naming;
 mod objects;
 mod options;
 mod outgoing;
-mod recorded;
 mod running;
 mod saying;
 mod told;

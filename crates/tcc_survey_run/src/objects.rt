@@ -1,8 +1,7 @@
 //! The lines of a survey as JSON, each an object that is made as a whole before a byte of it goes out.
-ghost use Rattle.std.specs.Prelude.{◌≡◌, ◌<◌, All, IfOk, false, map, string_bytes};
+ghost use Rattle.std.specs.Prelude.{◌≡◌, ◌<◌, All, IfOk, map, string_bytes};
 ghost use Rattle.serde_json.specs.Data.{array, string};
 ghost use Rattle.serde_json.specs.View.{view, items_of};
-ghost use Rattle.serde_json.specs.Written.{has_float};
 ghost use Rattle.tcc_reads.specs.History.{count};
 ghost use Rattle.tcc_graph.specs.Numbers.{label};
 ghost use Rattle.tcc_answer.specs.Json.{json_line};
@@ -13,20 +12,9 @@ use crate::naming::name_words;
 use crate::told::ToldRead;
 use serde_json::{Value, json};
 use std::alloc::{AllocError, Global};
-use tcc_answer::pieces::push;
+use tcc_answer::object_line;
 use tcc_graph::LargeGraph;
 use tcc_txn::NoMemory;
-
-/// The text of an object, and a line feed.
-fn line(alloc: Global, object: &Value) -> Result<Vec<u8>, NoMemory>
-    requires { has_float (view object.now) ≡ false }
-    ensures { IfOk result (λ line. line.items ≡ json_line (view object.now)) }
-{
-    let text = object.to_string(alloc)?;
-    let mut line = Vec::new(alloc);
-    push(&mut line, &[text.as_bytes(), b"\n"])?;
-    Ok(line)
-}
 
 fn read_json(
     alloc: Global,
@@ -62,7 +50,7 @@ pub(crate) fn read_object(
 {
     let reader = graph.label(alloc, told.reader)?;
     let writer = graph.label(alloc, told.writer)?;
-    line(alloc, &read_json(alloc, reader, writer, told)?)
+    object_line(alloc, &read_json(alloc, reader, writer, told)?)
 }
 
 fn name_json(alloc: Global, one: &NameCount) -> Result<Value, AllocError>
@@ -80,7 +68,7 @@ fn name_json(alloc: Global, one: &NameCount) -> Result<Value, AllocError>
 pub(crate) fn name_object(alloc: Global, one: &NameCount) -> Result<Vec<u8>, NoMemory>
     ensures { IfOk result (λ line. line.items ≡ json_line (name_json one.now)) }
 {
-    line(alloc, &name_json(alloc, one)?)
+    object_line(alloc, &name_json(alloc, one)?)
 }
 
 fn total_json(
@@ -108,7 +96,7 @@ pub(crate) fn total_object(
 ) -> Result<Vec<u8>, NoMemory>
     ensures { IfOk result (λ line. line.items ≡ json_line (total_json contradicted reads faults)) }
 {
-    line(alloc, &total_json(alloc, contradicted, reads, faults)?)
+    object_line(alloc, &total_json(alloc, contradicted, reads, faults)?)
 }
 
 /// The labels of transactions.
@@ -143,5 +131,5 @@ pub(crate) fn circle_object(
     requires { All (λ t. t < count graph.now) circle.now }
     ensures { IfOk result (λ line. line.items ≡ json_line (circle_json graph.now circle.now)) }
 {
-    line(alloc, &circle_json(alloc, graph, circle)?)
+    object_line(alloc, &circle_json(alloc, graph, circle)?)
 }

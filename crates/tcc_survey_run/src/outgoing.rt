@@ -6,7 +6,7 @@ ghost use Rattle.tcc_print.specs.Printed.{EndsIn};
 use std::io::Write;
 use tcc_print::Status;
 use tcc_print::printing::print_memory;
-use tcc_sending::{send, write_out};
+use tcc_sending::write_out;
 use tcc_txn::NoMemory;
 
 /// Writes a line that was made, and leaves the flush to the last one; else the run ends with this number.
@@ -20,24 +20,6 @@ pub(crate) fn write_line<W: Write>(
 {
     match made {
         Ok(text) => match write_out(out, &text) {
-            Ok(()) => Ok(()),
-            Err(_) => Err(Status::Device.code()),
-        },
-        Err(NoMemory) => Err(print_memory(out, json)),
-    }
-}
-
-/// Writes the last line that was made; else the run ends with this number.
-pub(crate) fn send_line<W: Write>(
-    made: Result<Vec<u8>, NoMemory>,
-    json: bool,
-    out: &mut W,
-) -> Result<(), u8>
-    ensures whole { (text : List ℕ) → IfOk made (λ bytes. bytes.items ≡ text) → OnOk result (Appends (W.contents out.old) (W.contents out.new) text) }
-    ensures ended { (text : List ℕ) → IfOk made (λ bytes. bytes.items ≡ text) → IfErr result (EndsIn json (W.contents out.old) (W.contents out.new) text) }
-{
-    match made {
-        Ok(text) => match send(out, &text) {
             Ok(()) => Ok(()),
             Err(_) => Err(Status::Device.code()),
         },

@@ -11,14 +11,14 @@ ghost use Rattle.tcc_survey_run.specs.private.Saying.{SaysFound};
 
 use crate::counting::{NameCount, names_of};
 use crate::options::SurveyOptions;
-use crate::outgoing::{send_line, write_line};
+use crate::outgoing::write_line;
 use crate::told::{ToldRead, told_reads};
 use crate::{lines, objects};
 use std::alloc::Global;
 use std::io::Write;
 use tcc_graph::LargeGraph;
 use tcc_print::Status;
-use tcc_print::printing::{print_memory, send_unresolved};
+use tcc_print::printing::{print_memory, send_made, send_unresolved};
 use tcc_reads::ReadFault;
 use tcc_survey::Contradicted;
 use tcc_txn::{Bounds, NoMemory, SnapshotWithin};
@@ -93,7 +93,7 @@ fn read_count(graph: &LargeGraph) -> Result<usize, NoMemory>
     let mut reads: usize = 0;
     for number in 0..graph.count() {
         // So many reads are held by no memory.
-        let Some(more) = reads.checked_add(graph.reads(number).len()) else {
+        let Some(more) = reads.checked_add(graph.reads_at(number).len()) else {
             return Err(NoMemory);
         };
         reads = more;
@@ -182,7 +182,7 @@ fn write_listing<W: Write>(
     write_faults(alloc, json, faults, out)?;
     write_names(alloc, json, &listing.names, out)?;
     let total = total_line(alloc, json, listing.told.len(), listing.reads, faults.len());
-    send_line(total, json, out)
+    send_made(total, json, out)
 }
 
 /// How a run ends that told these contradicted reads and these faults.
@@ -256,7 +256,7 @@ pub(crate) fn say_circle<W: Write>(
     requires { All (λ t. t < count graph.now) circle.now }
     ensures { GoesOut json (W.contents out.old) (W.contents out.new) (circle_line json graph.now circle.now) Status.Anomaly result }
 {
-    match send_line(circle_line(alloc, graph, json, circle), json, out) {
+    match send_made(circle_line(alloc, graph, json, circle), json, out) {
         Ok(()) => Status::Anomaly.code(),
         Err(code) => code,
     }

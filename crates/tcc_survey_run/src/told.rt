@@ -6,11 +6,12 @@ ghost use Rattle.tcc_graph.specs.Keys.{keys};
 ghost use Rattle.tcc_graph.specs.Levels.{judged};
 ghost use Rattle.tcc_graph.specs.declared.level.Level.{Level};
 ghost use Rattle.tcc_survey.specs.Contradictions.{AreContradicted};
-ghost use Rattle.tcc_survey_run.specs.Told.{AreTold, IsToldOf, operation_cmp};
+ghost use Rattle.tcc_operations.specs.Operations.{ops_of};
+ghost use Rattle.tcc_survey_run.specs.Told.{AreTold, IsToldOf, first_read, operation_cmp};
 
-use crate::recorded::{first_read, ops_of, source_value};
 use std::alloc::Global;
 use tcc_graph::{LargeGraph, Level};
+use tcc_operations::{first_reading, source_value};
 use tcc_survey::{Contradicted, UsualName, name_of};
 use tcc_txn::{Bounds, Name, NoMemory, SnapshotWithin};
 
@@ -28,6 +29,22 @@ pub struct ToldRead {
     pub name: UsualName,
 }
 
+/// The position of the first operation of a transaction that reads this value at a key, from 1; 0 where there is none.
+fn first_read<B: Bounds>(
+    snapshot: &SnapshotWithin<B>,
+    graph: &LargeGraph,
+    n: u32,
+    key: &Name,
+    value: u64,
+) -> usize
+    ensures { result ≡ first_read key.now value (ops_of snapshot.now graph.now n) }
+{
+    match first_reading(snapshot, graph, n, key, value) {
+        Some(before) => before + 1,
+        None => 0,
+    }
+}
+
 /// What is told of one contradicted read.
 fn told_of<B: Bounds>(
     snapshot: &SnapshotWithin<B>,
@@ -42,10 +59,10 @@ fn told_of<B: Bounds>(
 {
     let reader = one.reading.reader;
     let key = graph.keys()[one.reading.key_index as usize];
-    let value = source_value(snapshot, graph, &key, one.reading.source);
+    let value = source_value(snapshot, graph, one.reading.source, &key);
     ToldRead {
         reader,
-        op: first_read(&key, value, ops_of(snapshot, graph, reader)),
+        op: first_read(snapshot, graph, reader, &key, value),
         key,
         value,
         writer: one.writer,

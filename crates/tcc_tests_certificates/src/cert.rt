@@ -1,18 +1,16 @@
 //! Certificates of worked histories, writers that fail, altered texts, and readers that fail.
 mod large;
-mod large_parts;
-mod large_writer;
 mod parts;
 mod rows;
 mod streams;
 mod texts;
 
 use std::alloc::{AllocError, Global};
-use std::io::{ErrorKind, Read};
+use std::io::ErrorKind;
 use std::process::Abort;
 use std::test::Fail;
 use streams::{Failing, Fault, Faulty, gives_twice, nothing_held};
-use tcc_cert::{CertFaultKind, CertWriteFault, Certificate, read, write};
+use tcc_cert::{CertFault, CertFaultKind, CertWriteFault, Certificate, read, write};
 use tcc_sending::send;
 use texts::{STALE_READ, STALE_READ_UPWARD, TEXTS, altered};
 
@@ -95,15 +93,14 @@ fn worked_texts_are_read(rt: HostRuntime) {
     }
 }
 
-/// A reader's text has this fault first.
-fn assert_fault(
+/// A text of whatever version that was read has this fault first.
+fn assert_fault<T: Drop>(
     rt: &impl Abort,
-    alloc: Global,
-    reader: impl Read + Drop,
+    found: Result<T, CertFault>,
     line: u64,
     kind: CertFaultKind,
 ) {
-    match read(alloc, reader) {
+    match found {
         Ok(_) => panic!(rt; "a certificate is read"),
         Err(fault) => assert_eq!(rt; (fault.line, fault.kind), (line, kind)),
     }
@@ -121,7 +118,7 @@ fn cut_texts(rt: HostRuntime) {
         for count in 0..text.len() {
             let part = &text.as_bytes()[..count];
             let line = line_begun(part);
-            assert_fault(&rt, rt.alloc(), part, line, CertFaultKind::Truncated);
+            assert_fault(&rt, read(rt.alloc(), part), line, CertFaultKind::Truncated);
         }
     }
 }
@@ -135,12 +132,12 @@ fn reader_fails(rt: HostRuntime) {
             let text = &STALE_READ.as_bytes()[..count];
             let line = line_begun(text);
             let reader = Failing { text, most };
-            assert_fault(&rt, alloc, reader, line, CertFaultKind::Read);
+            assert_fault(&rt, read(alloc, reader), line, CertFaultKind::Read);
         }
     }
     let text = b"tcc-certificate 1\nring\n";
     let reader = Failing { text, most: 5 };
-    assert_fault(&rt, alloc, reader, 2, CertFaultKind::Word);
+    assert_fault(&rt, read(alloc, reader), 2, CertFaultKind::Word);
 }
 
 // However many bytes come at a time, the text is read, and no further than its end.
@@ -158,7 +155,7 @@ fn pieces(rt: HostRuntime) {
         let reader = gives_twice(trailing, most, whole);
         assert!(&rt; read(alloc, reader).is_ok(), "by {most}");
         let reader = gives_twice(trailing, most, whole - 1);
-        assert_fault(&rt, alloc, reader, 6, CertFaultKind::Truncated);
+        assert_fault(&rt, read(alloc, reader), 6, CertFaultKind::Truncated);
     }
 }
 
@@ -178,9 +175,9 @@ fn number(rt: &impl Abort, text: &str) -> usize {
     }
 }
 
-/// What comes of a text: that it is taken, or the line and the kind of its fault.
-fn outcome(alloc: Global, text: &[u8]) -> Result<String, AllocError> {
-    match read(alloc, text) {
+/// What came of a text of whatever version: that it is taken, or the line and the kind of its fault.
+fn outcome<T: Drop>(alloc: Global, found: Result<T, CertFault>) -> Result<String, AllocError> {
+    match found {
         Ok(_) => format!(in alloc; "taken"),
         Err(fault) => format!(in alloc; "{} {:?}", fault.line, fault.kind),
     }
@@ -198,7 +195,7 @@ fn assert_altered(
         let (line, rest) = halves(rt, row, ':');
         let (wanted, other) = halves(rt, rest, '|');
         let changed = altered(alloc, text, number(rt, line), other)?;
-        let found = outcome(alloc, changed.as_slice())?;
+        let found = outcome(alloc, read(alloc, changed.as_slice()))?;
         assert_eq!(rt; found.as_str(), wanted, "for {other:?} at {line}");
     }
     Ok(())
@@ -310,7 +307,12 @@ fn trailing_bytes(rt: HostRuntime) -> Result<(), Fail> {
     for more in [b'\n', b'x'] {
         let mut text = STALE_READ.as_bytes().to_vec(alloc)?;
         text.push(more)?;
-        assert_fault(&rt, alloc, text.as_slice(), 15, CertFaultKind::Trailing);
+        assert_fault(
+            &rt,
+            read(alloc, text.as_slice()),
+            15,
+            CertFaultKind::Trailing,
+        );
     }
     Ok(())
 }
@@ -324,14 +326,14 @@ fn assert_long(rt: &impl Abort, alloc: Global, row: Long<'_>) -> Result<(), Allo
     let line = line_begun(before.as_bytes());
     let mut text = before.as_bytes().to_vec(alloc)?;
     text.extend_from_slice(vec![in alloc; b'a'; count]?.as_slice())?;
-    assert_fault(rt, alloc, text.as_slice(), line, ended);
+    assert_fault(rt, read(alloc, text.as_slice()), line, ended);
     let reader = Failing {
         text: text.as_slice(),
         most: 1000,
     };
-    assert_fault(rt, alloc, reader, line, failed);
+    assert_fault(rt, read(alloc, reader), line, failed);
     text.push(b'\n')?;
-    assert_fault(rt, alloc, text.as_slice(), line, whole);
+    assert_fault(rt, read(alloc, text.as_slice()), line, whole);
     Ok(())
 }
 

@@ -1,7 +1,7 @@
 //! Rows of values in 16 bits each, and of values that have no room there.
 use std::process::Abort;
 use std::test::Fail;
-use tcc_packed::{NO_VALUE, PackedRow};
+use tcc_bits::{NO_VALUE, PackedRow};
 
 /// The row has these values, one by one and all together.
 fn assert_values(rt: &(impl Abort), row: &PackedRow, all: &[Option<u32>], wanted: &[Option<u32>]) {

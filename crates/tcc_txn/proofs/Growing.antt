@@ -1,12 +1,11 @@
 -- One more transaction of a session among sorted parts.
 use Rattle.std.proofs.Common.{◌≡◌, ℕ, zero, suc, ◌+◌, ◌≤◌, ◌<◌, Bool, true, false, cond, ◌&&◌, T, List, [], ◌∷◌, ◌++◌, length}
-use Rattle.std.proofs.Common.{get_or, set, sum_by, refl, ap, sym, ◌∙◌, subst, arith, Option, None, Some, Result, Ok, Err}
+use Rattle.std.proofs.Common.{get_or, map, set, sum_by, refl, ap, sym, ◌∙◌, subst, arith, Option, None, Some, Result, Ok, Err}
 use Rattle.std.proofs.Common.{length-append, nat_eq}
 use Rattle.std.specs.Prelude.{is_some, unwrap_or, OnOk, OnErr, IfErr}
 use Rattle.std.proofs.lemmas.Option.{none-some}
 use Rattle.std.proofs.Math.Seq.{map-set_same}
 use Rattle.std.specs.Cmp.Lexicographic.{pointwise, nat_list_eq_equiv}
-use Rattle.tcc_txn.proofs.Parts.{length-parts_of}
 use Rattle.std.proofs.lemmas.List.Sums.{sum_by-cons}
 use Rattle.std.specs.List.{insert}
 use Rattle.std.specs.FinMap.Entries.{below_all, by_order, find, is_sorted, put, length-put}
@@ -14,10 +13,8 @@ use Rattle.std.specs.Cmp.Lexicographic.{nat_list_cmp_total}
 use Rattle.std.specs.Ordering.{is_lt, is_eq, ordering_reverse}
 use Rattle.std.specs.declared.cmp.Ordering.{Ordering}
 use Rattle.std.specs.declared.cmp.Ordering.TheVariants.{Less, Equal, Greater}
-use Rattle.std.specs.Global.{Vec}
 use Rattle.std.proofs.lemmas.Cmp.{tied_itself}
 use Rattle.std.proofs.lemmas.Map.Lookups.{exact_bytes}
-use Rattle.tcc_txn.specs.Snapshots.{parts_of}
 use Rattle.tcc_txn.specs.private.SnapshotStorage.{StandsAt, index_in}
 use Rattle.tcc_txn.specs.Transactions.{Transaction}
 use Rattle.tcc_txn.proofs.SortedParts.{name_cmp, same_names}
@@ -137,22 +134,61 @@ length-insert [] (suc i) x = refl
 length-insert (e ∷ es) zero x = omega arith
 length-insert (e ∷ es) (suc i) x = let more = length-insert es i x in omega (arith, more)
 
-pub index_in-parts_of : (session : List ℕ) (es : List (List ℕ × Vec Transaction)) → index_in session (parts_of es) ≡ index_in session es
-index_in-parts_of session [] = refl
-index_in-parts_of session (e ∷ es) = ap (λ n. cond (is_lt (name_cmp e.0 session)) (suc n) 0) (index_in-parts_of session es)
+-- parts with their lists, of which X are the places
+abbrev pub seen : {X : Type 0} → (X → List Transaction) → List (List ℕ × X) → List (List ℕ × List Transaction)
+seen {X} f es = map (λ (e : List ℕ × X). (e.0, f e.1)) es
 
-pub parts_of-set : (es : List (List ℕ × Vec Transaction)) (i : ℕ) (name : List ℕ) (v : Vec Transaction)
-    → parts_of (set es i (name, v)) ≡ set (parts_of es) i (name, v.items)
-parts_of-set [] i name v = refl
-parts_of-set (e ∷ es) zero name v = refl
-parts_of-set (e ∷ es) (suc i) name v = ap (λ rest. (e.0, e.1.items) ∷ rest) (parts_of-set es i name v)
+module _ {X : Type 0} (f : X → List Transaction) where
+  pub index_in-seen : (session : List ℕ) (es : List (List ℕ × X)) → index_in session (seen f es) ≡ index_in session es
+  index_in-seen session [] = refl
+  index_in-seen session (e ∷ es) = ap (λ n. cond (is_lt (name_cmp e.0 session)) (suc n) 0) (index_in-seen session es)
 
-pub parts_of-insert : (es : List (List ℕ × Vec Transaction)) (i : ℕ) (name : List ℕ) (v : Vec Transaction)
-    → parts_of (insert es i (name, v)) ≡ insert (parts_of es) i (name, v.items)
-parts_of-insert [] zero name v = refl
-parts_of-insert [] (suc i) name v = refl
-parts_of-insert (e ∷ es) zero name v = refl
-parts_of-insert (e ∷ es) (suc i) name v = ap (λ rest. (e.0, e.1.items) ∷ rest) (parts_of-insert es i name v)
+  pub length-seen : (es : List (List ℕ × X)) → length (seen f es) ≡ length es
+  length-seen [] = refl
+  length-seen (e ∷ es) = ap suc (length-seen es)
+
+  pub seen-set : (es : List (List ℕ × X)) (i : ℕ) (name : List ℕ) (v : X) → seen f (set es i (name, v)) ≡ set (seen f es) i (name, f v)
+  seen-set [] i name v = refl
+  seen-set (e ∷ es) zero name v = refl
+  seen-set (e ∷ es) (suc i) name v = ap (λ rest. (e.0, f e.1) ∷ rest) (seen-set es i name v)
+
+  pub seen-insert : (es : List (List ℕ × X)) (i : ℕ) (name : List ℕ) (v : X) → seen f (insert es i (name, v)) ≡ insert (seen f es) i (name, f v)
+  seen-insert [] zero name v = refl
+  seen-insert [] (suc i) name v = refl
+  seen-insert (e ∷ es) zero name v = refl
+  seen-insert (e ∷ es) (suc i) name v = ap (λ rest. (e.0, f e.1) ∷ rest) (seen-insert es i name v)
+
+  below_all-seen : (name : List ℕ) (es : List (List ℕ × X)) → below_all name_cmp name (seen f es) ≡ below_all name_cmp name es
+  below_all-seen name [] = refl
+  below_all-seen name (e ∷ es) = ap (λ b. is_lt (name_cmp name e.0) && b) (below_all-seen name es)
+
+  pub is_sorted-seen : (es : List (List ℕ × X)) → is_sorted name_cmp (seen f es) ≡ is_sorted name_cmp es
+  is_sorted-seen [] = refl
+  is_sorted-seen (e ∷ es) = λ i. below_all-seen e.0 es i && is_sorted-seen es i
+
+  get_or-seen : (es : List (List ℕ × X)) (at : ℕ) (part : List ℕ × X) (d : List ℕ × List Transaction) → at < length es
+      → part ≡ get_or es at part → get_or (seen f es) at d ≡ (part.0, f part.1)
+  get_or-seen [] at part d within is = absurd (omega arith)
+  get_or-seen (e ∷ es) zero part d within is = ap (λ (p : List ℕ × X). (p.0, f p.1)) (sym is)
+  get_or-seen (e ∷ es) (suc at) part d within is = get_or-seen es at part d (omega arith) is
+
+  same_at : (es : List (List ℕ × X)) (at : ℕ) (d e : List ℕ × X) → at < length es → get_or es at d ≡ get_or es at e
+  same_at [] at d e within = absurd (omega (arith, within))
+  same_at (x ∷ es) zero d e within = refl
+  same_at (x ∷ es) (suc at) d e within = same_at es at d e (omega (arith, within))
+
+  -- the session's part stands at the index, seen or not
+  pub stands-seen : (es : List (List ℕ × X)) (session : List ℕ) (at : ℕ) → StandsAt es session at → StandsAt (seen f es) session at
+  stands-seen [] session at stands = absurd (omega (arith, stands.0))
+  stands-seen (e ∷ es) session at stands =
+      let part : List ℕ × X = get_or (e ∷ es) at e in
+      let is : part ≡ get_or (e ∷ es) at part = same_at (e ∷ es) at e part stands.0 in
+      (omega (arith, stands.0, length-seen (e ∷ es)), λ d. ap (λ p. p.0) (get_or-seen (e ∷ es) at part d stands.0 is) ∙ stands.1 e)
+
+  pub stands-unseen : (es : List (List ℕ × X)) (session : List ℕ) (at : ℕ) → StandsAt (seen f es) session at → StandsAt es session at
+  stands-unseen es session at stands =
+      let within : at < length es = omega (arith, stands.0, length-seen es) in
+      (within, λ d. ap (λ p. p.0) (sym (get_or-seen es at (get_or es at d) (d.0, f d.1) within (same_at es at d (get_or es at d) within))) ∙ stands.1 (d.0, f d.1))
 
 -- one more transaction among those of all sessions
 pub count-put : (k : List ℕ) (txn : Transaction) (es : List (List ℕ × List Transaction)) → T (is_sorted name_cmp es)
@@ -190,64 +226,66 @@ count-put k txn (e ∷ es) sorted = by (name_cmp k e.0) refl (λ rest. count-put
         let after = more (both-parts _ _ sorted).1 in
         ap (sum_by size) (later is) ∙ (sum_by-cons size e (put name_cmp k list es) ∙ omega (arith, after, sum_by-cons size e es))
 
-get_or-parts_of : (es : List (List ℕ × Vec Transaction)) (at : ℕ) (part : List ℕ × Vec Transaction) (d : List ℕ × List Transaction) → at < length es
-    → part ≡ get_or es at part → get_or (parts_of es) at d ≡ (part.0, part.1.items)
-get_or-parts_of [] at part d within is = absurd (omega arith)
-get_or-parts_of (e ∷ es) zero part d within is = ap (λ p. (p.0, p.1.items)) (sym is)
-get_or-parts_of (e ∷ es) (suc at) part d within is = get_or-parts_of es at part d (omega arith) is
-
 -- the part that was looked at is the session's, or is not
-pub stands-here : (es : List (List ℕ × Vec Transaction)) (at : ℕ) (part : List ℕ × Vec Transaction) (session : List ℕ) → at < length es
-    → part ≡ get_or es at part → pointwise nat_eq part.0 session ≡ true → StandsAt (parts_of es) session at
-stands-here es at part session within is same =
-    (omega (arith, within, length-parts_of es), λ d. ap (λ p. p.0) (get_or-parts_of es at part d within is) ∙ same_names part.0 session same)
+pub stands-here : {X : Type 0} (es : List (List ℕ × X)) (at : ℕ) (part : List ℕ × X) (session : List ℕ) → at < length es
+    → part ≡ get_or es at part → pointwise nat_eq part.0 session ≡ true → StandsAt es session at
+stands-here {X} es at part session within is same =
+    (within, λ d. ap (λ (p : List ℕ × X). p.0) (same_at (λ _. []) es at d part within ∙ sym is) ∙ same_names part.0 session same)
 
-pub stands-not-here : (es : List (List ℕ × Vec Transaction)) (at : ℕ) (part : List ℕ × Vec Transaction) (session : List ℕ) → at < length es
-    → part ≡ get_or es at part → pointwise nat_eq part.0 session ≡ false → StandsAt (parts_of es) session at → ⊥
-stands-not-here es at part session within is other stands =
-    let here : part.0 ≡ session = ap (λ p. p.0) (sym (get_or-parts_of es at part (part.0, part.1.items) within is)) ∙ stands.1 (part.0, part.1.items) in
+pub stands-not-here : {X : Type 0} (es : List (List ℕ × X)) (at : ℕ) (part : List ℕ × X) (session : List ℕ) → at < length es
+    → part ≡ get_or es at part → pointwise nat_eq part.0 session ≡ false → StandsAt es session at → ⊥
+stands-not-here {X} es at part session within is other stands =
+    let here : part.0 ≡ session = ap (λ (p : List ℕ × X). p.0) is ∙ stands.1 part in
     let same : pointwise nat_eq part.0 session ≡ true = ap (pointwise nat_eq part.0) (sym here) ∙ nat_list_eq_equiv.refl part.0 in
     cc
 
-module _ (es : List (List ℕ × Vec Transaction)) (k : List ℕ) (at : ℕ) where
+module _ {X : Type 0} (f : X → List Transaction) (es : List (List ℕ × X)) (k : List ℕ) (at : ℕ) where
+  index-seen : at ≡ index_in k es → at ≡ index_in k (seen f es)
+  index-seen index = index ∙ sym (index_in-seen f k es)
+
   -- one more transaction in the session's part
-  pub written : (txn : Transaction) (part : List ℕ × Vec Transaction) (new : Vec Transaction) → at ≡ index_in k (parts_of es) → StandsAt (parts_of es) k at
-      → part ≡ get_or es at part → new.items ≡ part.1.items ++ txn ∷ []
-      → parts_of (set es at (part.0, new)) ≡ put name_cmp k (unwrap_or (find name_cmp k (parts_of es)) [] ++ txn ∷ []) (parts_of es)
-  written txn part new index stands is grown =
-      let d : List ℕ × List Transaction = (part.0, part.1.items) in
-      let here : get_or (parts_of es) at d ≡ d = get_or-parts_of es at part d (omega (arith, stands.0, length-parts_of es)) is in
-      let present = put-present k (unwrap_or (find name_cmp k (parts_of es)) [] ++ txn ∷ []) (parts_of es) d (subst (StandsAt (parts_of es) k) index stands) in
-      let found : find name_cmp k (parts_of es) ≡ Some part.1.items =
-      present.1 ∙ ap (λ i. Some (get_or (parts_of es) i d).1) (sym index) ∙ ap (λ p. Some p.1) here in
-      parts_of-set es at part.0 new
-      ∙ ap (λ items. set (parts_of es) at (part.0, items)) (grown ∙ ap (λ o. unwrap_or o [] ++ txn ∷ []) (sym found))
-      ∙ ap (λ p. set (parts_of es) at (p.0, unwrap_or (find name_cmp k (parts_of es)) [] ++ txn ∷ [])) (sym here)
-      ∙ ap (λ i. set (parts_of es) i ((get_or (parts_of es) i d).0, unwrap_or (find name_cmp k (parts_of es)) [] ++ txn ∷ [])) index
+  pub written : (txn : Transaction) (part : List ℕ × X) (new : X) → at ≡ index_in k es → StandsAt es k at
+      → part ≡ get_or es at part → f new ≡ f part.1 ++ txn ∷ []
+      → seen f (set es at (part.0, new)) ≡ put name_cmp k (unwrap_or (find name_cmp k (seen f es)) [] ++ txn ∷ []) (seen f es)
+  written txn part new index stands is longer =
+      let d : List ℕ × List Transaction = (part.0, f part.1) in
+      let here : get_or (seen f es) at d ≡ d = get_or-seen f es at part d stands.0 is in
+      let present = put-present k (unwrap_or (find name_cmp k (seen f es)) [] ++ txn ∷ []) (seen f es) d
+      (subst (StandsAt (seen f es) k) (index-seen index) (stands-seen f es k at stands)) in
+      let found : find name_cmp k (seen f es) ≡ Some (f part.1) =
+      present.1 ∙ ap (λ i. Some (get_or (seen f es) i d).1) (sym (index-seen index)) ∙ ap (λ p. Some p.1) here in
+      seen-set f es at part.0 new
+      ∙ ap (λ items. set (seen f es) at (part.0, items)) (longer ∙ ap (λ o. unwrap_or o [] ++ txn ∷ []) (sym found))
+      ∙ ap (λ p. set (seen f es) at (p.0, unwrap_or (find name_cmp k (seen f es)) [] ++ txn ∷ [])) (sym here)
+      ∙ ap (λ i. set (seen f es) i ((get_or (seen f es) i d).0, unwrap_or (find name_cmp k (seen f es)) [] ++ txn ∷ [])) (index-seen index)
       ∙ sym present.0
 
   -- the part is as it was
-  pub unwritten : (part : List ℕ × Vec Transaction) (new : Vec Transaction) → part ≡ get_or es at part → new.items ≡ part.1.items
-      → parts_of (set es at (part.0, new)) ≡ parts_of es
+  pub unwritten : (part : List ℕ × X) (new : X) → part ≡ get_or es at part → f new ≡ f part.1 → seen f (set es at (part.0, new)) ≡ seen f es
   unwritten part new is same =
-      map-set_same (λ p. (p.0, p.1.items)) es at (part.0, new) part (ap (λ items. (part.0, items)) same ∙ ap (λ p. (p.0, p.1.items)) is)
+      map-set_same (λ (p : List ℕ × X). (p.0, f p.1)) es at (part.0, new) part
+      (ap (λ items. (part.0, items)) same ∙ ap (λ (p : List ℕ × X). (p.0, f p.1)) is)
 
-  pub found-here : at ≡ index_in k (parts_of es) → StandsAt (parts_of es) k at → find name_cmp k (parts_of es) ≡ None → ⊥
+  pub found-here : at ≡ index_in k es → StandsAt es k at → find name_cmp k (seen f es) ≡ None → ⊥
   found-here index stands none =
-      let present = put-present k [] (parts_of es) ([], []) (subst (StandsAt (parts_of es) k) index stands) in
+      let present = put-present k [] (seen f es) ([], []) (subst (StandsAt (seen f es) k) (index-seen index) (stands-seen f es k at stands)) in
       none-some _ (sym none ∙ present.1)
 
-  -- no part is the session's
-  pub missing : at ≡ index_in k (parts_of es) → T (is_sorted name_cmp (parts_of es)) → (StandsAt (parts_of es) k at → ⊥) → find name_cmp k (parts_of es) ≡ None
-  missing index sorted other =
-      let absent = put-absent k [] (parts_of es) (λ stands. other (subst (StandsAt (parts_of es) k) (sym index) stands)) in
-      find-absent k [] (parts_of es) sorted (ap length absent ∙ length-insert (parts_of es) (index_in k (parts_of es)) (k, []))
+  absent-seen : at ≡ index_in k es → (StandsAt es k at → ⊥) → StandsAt (seen f es) k (index_in k (seen f es)) → ⊥
+  absent-seen index other stands = other (stands-unseen f es k at (subst (StandsAt (seen f es) k) (sym (index-seen index)) stands))
 
-  pub inserted : (txn : Transaction) → at ≡ index_in k (parts_of es) → T (is_sorted name_cmp (parts_of es)) → (StandsAt (parts_of es) k at → ⊥)
-      → insert (parts_of es) at (k, txn ∷ []) ≡ put name_cmp k (unwrap_or (find name_cmp k (parts_of es)) [] ++ txn ∷ []) (parts_of es)
+  -- no part is the session's
+  pub missing : at ≡ index_in k es → T (is_sorted name_cmp es) → (StandsAt es k at → ⊥) → find name_cmp k (seen f es) ≡ None
+  missing index sorted other =
+      let absent = put-absent k [] (seen f es) (absent-seen index other) in
+      find-absent k [] (seen f es) (subst T (sym (is_sorted-seen f es)) sorted)
+      (ap length absent ∙ length-insert (seen f es) (index_in k (seen f es)) (k, []))
+
+  pub inserted : (txn : Transaction) → at ≡ index_in k es → T (is_sorted name_cmp es) → (StandsAt es k at → ⊥)
+      → insert (seen f es) at (k, txn ∷ []) ≡ put name_cmp k (unwrap_or (find name_cmp k (seen f es)) [] ++ txn ∷ []) (seen f es)
   inserted txn index sorted other =
-      rw (missing index sorted other) (ap (λ i. insert (parts_of es) i (k, txn ∷ [])) index
-      ∙ sym (put-absent k (txn ∷ []) (parts_of es) (λ stands. other (subst (StandsAt (parts_of es) k) (sym index) stands))))
+      rw (missing index sorted other) (ap (λ i. insert (seen f es) i (k, txn ∷ [])) (index-seen index)
+      ∙ sym (put-absent k (txn ∷ []) (seen f es) (absent-seen index other)))
 
 pub ok-then : {A E : Type 0} {P Q : Type 0} (r : Result A E) → (P → Q) → OnOk r P → OnOk r Q
 ok-then (Ok a) f p = f p
@@ -264,3 +302,7 @@ if-err-then (Err e) f p = f e p
 pub ok-always : {A E : Type 0} {P : Type 0} (r : Result A E) → P → OnOk r P
 ok-always (Ok a) p = p
 ok-always (Err e) p = tt
+
+pub err-always : {A E : Type 0} {P : Type 0} (r : Result A E) → P → OnErr r P
+err-always (Ok a) p = tt
+err-always (Err e) p = p

@@ -1,10 +1,10 @@
 -- Snapshots: what the sessions had finished at one moment.
-use Rattle.std.specs.Prelude.{ℕ, nat_lt, nat_eq, if◌then◌else◌, List, [], ◌∷◌, ◌++◌, map, length, sum_by, Option, None, Some}
+use Rattle.std.specs.Prelude.{ℕ, nat_lt, nat_eq, if◌then◌else◌, List, [], ◌∷◌, ◌++◌, map, length, slice_get, sum_by, Option, None, Some}
 use Rattle.std.specs.List.{list_any}
 use Rattle.std.specs.Option.{option_map_or}
 use Rattle.std.specs.Ordering.{nat_cmp}
 use Rattle.std.specs.Cmp.Lexicographic.{slice_cmp, pointwise}
-use Rattle.std.specs.FinMap.{FinMap}
+use Rattle.std.specs.FinMap.{FinMap, entries}
 use Rattle.std.specs.Global.{Vec}
 use Rattle.tcc_txn.specs.Limits.{most_sessions, most_transactions}
 use Rattle.tcc_txn.specs.Transactions.{Transaction}
@@ -38,3 +38,11 @@ snapshot_fault_within limits parts =
 -- why they make no small one
 abbrev pub snapshot_fault : List (List ℕ × List Transaction) → Option SnapshotFault
 snapshot_fault = snapshot_fault_within Small
+
+-- the transactions of the part at an index; none past the last part
+abbrev pub listed_at : List (List ℕ × List Transaction) → ℕ → List Transaction
+listed_at parts i = option_map_or (λ named. named.1) (slice_get parts i) []
+
+-- the transactions of the session at an index in byte order of the names; none past the last session
+abbrev pub finished_at : Sessions → ℕ → List Transaction
+finished_at s i = listed_at (entries s) i

@@ -1,8 +1,7 @@
 //! Whether transactions and snapshots are equal.
 ghost use Rattle.std.specs.Prelude.{◌≡◌, true, false};
-ghost use Rattle.tcc_txn.specs.Snapshots.{parts_of};
 
-use crate::{Name, Op, Txn};
+use crate::{Op, Recorded, Txn};
 
 /// Values that can be compared.
 pub trait Alike {
@@ -25,6 +24,40 @@ impl Alike for Txn {
     }
 }
 
+/// Whether there is one operation and the other, and they are equal, or neither.
+fn is_same_op(one: Option<Op>, other: Option<Op>) -> bool
+    ensures same { result ≡ true → one ≡ other }
+    ensures other { result ≡ false → one ≡ other → ⊥ }
+{
+    match (one, other) {
+        (Some(one), Some(other)) => one.is_same(&other),
+        (None, None) => true,
+        _ => false,
+    }
+}
+
+/// Whether the operations of two transactions are equal.
+fn are_same_ops(one: &Recorded<'_>, other: &Recorded<'_>) -> bool
+    ensures same { result ≡ true → one.now.ops ≡ other.now.ops }
+    ensures other { result ≡ false → one.now.ops ≡ other.now.ops → ⊥ }
+{
+    if one.len() != other.len() {
+        return false;
+    }
+    for index in 0..one.len() {
+        if !is_same_op(one.op(index), other.op(index)) {
+            return false;
+        }
+    }
+    true
+}
+
+impl<'a> Alike for Recorded<'a> {
+    fn is_same(&self, other: &Recorded<'a>) -> bool {
+        self.committed() == other.committed() && are_same_ops(self, other)
+    }
+}
+
 /// Whether the lists are equal.
 pub fn are_same<T: Alike>(some: &[T], others: &[T]) -> bool
     ensures same { result ≡ true → some.now ≡ others.now }
@@ -35,31 +68,6 @@ pub fn are_same<T: Alike>(some: &[T], others: &[T]) -> bool
     }
     for index in 0..some.len() {
         if !some[index].is_same(&others[index]) {
-            return false;
-        }
-    }
-    true
-}
-
-/// Whether two sessions have the same name and the same transactions.
-fn is_same_part(session: &Name, some: &[Txn], other: &Name, others: &[Txn]) -> bool
-    ensures same { result ≡ true → (session.now ≡ other.now) × (some.now ≡ others.now) }
-    ensures other { result ≡ false → session.now ≡ other.now → some.now ≡ others.now → ⊥ }
-{
-    session == other && are_same(some, others)
-}
-
-/// Whether each session has the name and the transactions of the one at its index.
-pub(crate) fn are_same_parts(some: &[(Name, Vec<Txn>)], others: &[(Name, Vec<Txn>)]) -> bool
-    ensures same { result ≡ true → parts_of some.now ≡ parts_of others.now }
-    ensures other { result ≡ false → parts_of some.now ≡ parts_of others.now → ⊥ }
-{
-    if some.len() != others.len() {
-        return false;
-    }
-    for index in 0..some.len() {
-        let (one, other) = (&some[index], &others[index]);
-        if !is_same_part(&one.0, &one.1, &other.0, &other.1) {
             return false;
         }
     }

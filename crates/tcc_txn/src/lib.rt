@@ -2,12 +2,17 @@
 #![tactic(auto)]
 
 mod alike;
+mod by_name;
 mod limits;
 mod list;
 mod memory;
 mod name;
 mod op;
+mod packed;
+mod recorded;
 mod snapshot;
+mod storage;
+mod symbols;
 mod txn;
 
 pub use alike::{Alike, are_same};
@@ -20,5 +25,6 @@ pub use list::ListOf;
 pub use memory::NoMemory;
 pub use name::{Name, NameFault};
 pub use op::Op;
+pub use recorded::Recorded;
 pub use snapshot::{GrowFault, LargeSnapshot, Snapshot, SnapshotFault, SnapshotWithin};
 pub use txn::{Txn, TxnFault};

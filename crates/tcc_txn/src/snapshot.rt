@@ -10,13 +10,16 @@ ghost use Rattle.std.specs.Ordering.{nat_cmp};
 ghost use Rattle.tcc_txn.specs.Finished.{IsWithinLimits, KeepsLimits, transaction_count, with_transaction};
 ghost use Rattle.tcc_txn.specs.Limits.{most_sessions, most_transactions};
 ghost use Rattle.std.specs.Cmp.Lexicographic.{pointwise, slice_cmp};
-ghost use Rattle.tcc_txn.specs.Snapshots.{parts_of, first_repeated, snapshot_fault, snapshot_fault_within};
-ghost use Rattle.tcc_txn.specs.private.SnapshotStorage.{IsStoredWithin, StandsAt, index_in, shown};
+ghost use Rattle.std.specs.Option.{option_map_or};
+ghost use Rattle.tcc_txn.specs.Snapshots.{finished_at, parts_of, first_repeated, snapshot_fault, snapshot_fault_within};
+ghost use Rattle.tcc_txn.specs.private.SnapshotStorage.{IsStoredWithin, shown};
 ghost use Rattle.tcc_txn.specs.declared.limits.TheConstants.{LARGE_SESSIONS, LARGE_TRANSACTIONS, MAX_SESSIONS, MAX_TRANSACTIONS};
 
-use crate::alike::are_same_parts;
+use crate::by_name::part_of;
+use crate::storage::Storage;
 use crate::{
-    Bounds, LargeLimits, Limits, MAX_SESSIONS, MAX_TRANSACTIONS, Name, NoMemory, SmallLimits, Txn,
+    Alike, Bounds, LargeLimits, Limits, MAX_SESSIONS, MAX_TRANSACTIONS, Name, NoMemory, Recorded,
+    SmallLimits, Txn,
 };
 use std::alloc::{AllocFailed, Global};
 use std::collections::BTreeSet;
@@ -69,7 +72,7 @@ impl<T: Drop> From<AllocFailed<T>> for GrowFault {
 /// in byte order of their names.
 #[derive(Drop)]
 pub struct SnapshotWithin<B: Bounds> {
-    sessions: Vec<(Name, Vec<Txn>)>,
+    sessions: Storage,
     /// How many there are in all.
     transactions: usize,
     bounds: PhantomData<B>,
@@ -95,13 +98,16 @@ impl<B: Bounds> Model for SnapshotWithin<B> {
 
     ghost Value = { Sessions };
 
-    ghost use Rattle.tcc_txn.specs.private.SnapshotStorage.{sessions_code, shown, IsCounted};
+    ghost use Rattle.tcc_txn.specs.private.SnapshotStorage.{sessions_code};
 
     ghost coded = { sessions_code };
 
-    ghost view = { λ s. shown s.sessions.items };
+    ghost use Rattle.tcc_txn.specs.private.SnapshotStorage.{shown};
+    ghost use Rattle.tcc_txn.specs.private.Storing.{parts_in, IsCounted};
 
-    ghost invariant = { λ s. IsCounted B.limits s.sessions.items s.transactions };
+    ghost view = { λ s. shown (parts_in s.sessions) };
+
+    ghost invariant = { λ s. IsCounted B.limits s.sessions s.transactions };
 }
 
 fn is_among(parts: &[(Name, Vec<Txn>)], name: Name) -> bool
@@ -199,9 +205,9 @@ fn in_order(
     limits: Limits,
 ) -> Result<Vec<(Name, Vec<Txn>)>, (SnapshotFault, Vec<(Name, Vec<Txn>)>)>
     ensures made { MatchResult result
-        (λ s. (snapshot_fault_within limits (parts_of parts.items) ≡ None) × (shown s.items ≡ sessions.from_entries (parts_of parts.items)))
+        (λ s. (snapshot_fault_within limits (parts_of parts.items) ≡ None) × (shown (parts_of s.items) ≡ sessions.from_entries (parts_of parts.items)))
         (λ e. (snapshot_fault_within limits (parts_of parts.items) ≡ Some e.0) × (e.1 ≡ parts)) }
-    ensures stored { IfOk result (λ s. IsStoredWithin limits s.items) }
+    ensures stored { IfOk result (λ s. IsStoredWithin limits (parts_of s.items)) }
 {
     if let Some(fault) = fault_of(*parts.allocator(), &parts, limits) {
         return Err((fault, parts));
@@ -218,65 +224,6 @@ fn part_at(parts: &[(Name, Vec<Txn>)], i: u32) -> Option<(&Name, &[Txn])>
     match parts.get(i as usize) {
         Some(part) => Some((&part.0, &part.1)),
         None => None,
-    }
-}
-
-/// Equal transactions.
-fn copied(alloc: Global, transactions: &[Txn]) -> Result<Vec<Txn>, NoMemory>
-    ensures { IfOk result (λ copy. copy.items ≡ transactions.now) }
-{
-    let mut copy = Vec::new(alloc);
-    for transaction in transactions {
-        copy.push(transaction.copy(alloc)?)?;
-    }
-    Ok(copy)
-}
-
-/// Equal parts.
-fn copied_parts(
-    alloc: Global,
-    parts: &[(Name, Vec<Txn>)],
-) -> Result<Vec<(Name, Vec<Txn>)>, NoMemory>
-    ensures { IfOk result (λ copy. parts_of copy.items ≡ parts_of parts.now) }
-{
-    let mut copy = Vec::new(alloc);
-    for part in parts {
-        copy.push((part.0, copied(alloc, &part.1)?))?;
-    }
-    Ok(copy)
-}
-
-/// How many parts stand before the session.
-fn index_of(parts: &[(Name, Vec<Txn>)], session: &Name) -> usize
-    requires { T (is_sorted (slice_cmp nat_cmp) (parts_of parts.now)) }
-    ensures { result ≡ index_in session.now (parts_of parts.now) }
-{
-    parts.partition_point(|part| part.0 < *session)
-}
-
-/// Whether the part at the index is the session's.
-fn stands_at(parts: &[(Name, Vec<Txn>)], at: usize, session: &Name) -> bool
-    ensures stands { result ≡ true → StandsAt (parts_of parts.now) session.now at }
-    ensures not { result ≡ false → StandsAt (parts_of parts.now) session.now at → ⊥ }
-{
-    match parts.get(at) {
-        Some(part) => part.0 == *session,
-        None => false,
-    }
-}
-
-/// The index of the session's part, or else the one that it would have.
-fn part_of(parts: &[(Name, Vec<Txn>)], session: &Name) -> Result<usize, usize>
-    requires { T (is_sorted (slice_cmp nat_cmp) (parts_of parts.now)) }
-    ensures { MatchResult result
-        (λ at. (at ≡ index_in session.now (parts_of parts.now)) × StandsAt (parts_of parts.now) session.now at)
-        (λ at. (at ≡ index_in session.now (parts_of parts.now)) × (StandsAt (parts_of parts.now) session.now at → ⊥)) }
-{
-    let at = index_of(parts, session);
-    if stands_at(parts, at, session) {
-        Ok(at)
-    } else {
-        Err(at)
     }
 }
 
@@ -310,7 +257,7 @@ fn insert(
 }
 
 /// The session has one more transaction.
-fn add_to(
+pub(crate) fn add_to(
     parts: &mut Vec<(Name, Vec<Txn>)>,
     limits: Limits,
     alloc: Global,
@@ -337,13 +284,96 @@ fn add_to(
     }
 }
 
+/// Whether there is one name and the other, and they are equal, or neither.
+fn is_same_name(one: Option<&Name>, other: Option<&Name>) -> bool
+    ensures same { result ≡ true → option_map (λ name. name.now) one.entry ≡ option_map (λ name. name.now) other.entry }
+    ensures other { result ≡ false → option_map (λ name. name.now) one.entry ≡ option_map (λ name. name.now) other.entry → ⊥ }
+{
+    match (one, other) {
+        (Some(one), Some(other)) => *one == *other,
+        (None, None) => true,
+        _ => false,
+    }
+}
+
+/// Whether there is one transaction and the other, and they are equal, or neither.
+fn is_same_txn(one: Option<Recorded<'_>>, other: Option<Recorded<'_>>) -> bool
+    ensures same { result ≡ true → one ≡ other }
+    ensures other { result ≡ false → one ≡ other → ⊥ }
+{
+    match (one, other) {
+        (Some(one), Some(other)) => one.is_same(&other),
+        (None, None) => true,
+        _ => false,
+    }
+}
+
+/// Whether the sessions at the index have equal transactions.
+fn are_same_lists<B: Bounds>(one: &SnapshotWithin<B>, other: &SnapshotWithin<B>, i: u32) -> bool
+    ensures same { result ≡ true → finished_at one.now i ≡ finished_at other.now i }
+    ensures other { result ≡ false → finished_at one.now i ≡ finished_at other.now i → ⊥ }
+{
+    if one.finished(i) != other.finished(i) {
+        return false;
+    }
+    for index in 0..one.finished(i) {
+        if !is_same_txn(one.recorded(i, index), other.recorded(i, index)) {
+            return false;
+        }
+    }
+    true
+}
+
+/// Whether the sessions at the index have the same name and the same transactions.
+fn is_same_session<B: Bounds>(one: &SnapshotWithin<B>, other: &SnapshotWithin<B>, i: u32) -> bool
+    ensures same { result ≡ true → slice_get (sessions.entries one.now) i ≡ slice_get (sessions.entries other.now) i }
+    ensures other { result ≡ false → slice_get (sessions.entries one.now) i ≡ slice_get (sessions.entries other.now) i → ⊥ }
+{
+    is_same_name(one.name(i), other.name(i)) && are_same_lists(one, other, i)
+}
+
+/// The transactions of the session at the index, of their own.
+fn copied<B: Bounds>(
+    alloc: Global,
+    snapshot: &SnapshotWithin<B>,
+    i: u32,
+) -> Result<Vec<Txn>, NoMemory>
+    ensures { IfOk result (λ copy. copy.items ≡ finished_at snapshot.now i) }
+{
+    let mut copy = Vec::new(alloc);
+    for index in 0..snapshot.finished(i) {
+        match snapshot.recorded(i, index) {
+            Some(recorded) => copy.push(recorded.to_txn(alloc)?)?,
+            None => unreachable!(),
+        }
+    }
+    Ok(copy)
+}
+
+/// The sessions, of their own.
+fn copied_parts<B: Bounds>(
+    alloc: Global,
+    snapshot: &SnapshotWithin<B>,
+) -> Result<Vec<(Name, Vec<Txn>)>, NoMemory>
+    ensures { IfOk result (λ copy. parts_of copy.items ≡ sessions.entries snapshot.now) }
+{
+    let mut copy = Vec::new(alloc);
+    for i in 0..snapshot.sessions() {
+        match snapshot.name(i) {
+            Some(name) => copy.push((*name, copied(alloc, snapshot, i)?))?,
+            None => unreachable!(),
+        }
+    }
+    Ok(copy)
+}
+
 impl<B: Bounds> SnapshotWithin<B> {
     /// No session has finished anything.
     pub fn empty(alloc: Global) -> SnapshotWithin<B>
         ensures { result ≡ sessions.empty }
     {
         SnapshotWithin {
-            sessions: Vec::new(alloc),
+            sessions: Storage::new(alloc, B::limits()),
             transactions: 0,
             bounds: PhantomData,
         }
@@ -360,7 +390,7 @@ impl<B: Bounds> SnapshotWithin<B> {
         if self.transactions >= limits.transactions() {
             return Err(GrowFault::TooManyTransactions);
         }
-        match add_to(&mut self.sessions, limits, alloc, session, txn) {
+        match self.sessions.add(limits, alloc, session, txn) {
             Ok(()) => {
                 self.transactions += 1;
                 Ok(())
@@ -381,7 +411,7 @@ impl<B: Bounds> SnapshotWithin<B> {
         let sessions = in_order(parts, B::limits())?;
         let transactions = transactions_in(&sessions);
         Ok(SnapshotWithin {
-            sessions,
+            sessions: Storage::Plain(sessions),
             transactions,
             bounds: PhantomData,
         })
@@ -404,20 +434,26 @@ impl<B: Bounds> SnapshotWithin<B> {
         self.transactions
     }
 
-    /// The session at this index in byte order of the names, with its transactions.
-    pub fn session(&self, i: u32) -> Option<(&Name, &[Txn])>
-        ensures { option_map (λ s. (s.0.now, s.1.now)) result ≡ slice_get (sessions.entries self.now) i }
+    /// The name of the session at this index in byte order of the names.
+    pub fn name(&self, i: u32) -> Option<&Name>
+        ensures { option_map (λ name. name.now) result ≡ option_map (λ named. named.0) (slice_get (sessions.entries self.now) i) }
     {
-        part_at(&self.sessions, i)
+        self.sessions.name(i)
     }
 
-    /// The sessions in byte order of their names, each with its transactions.
-    pub fn parts(&self) -> &[(Name, Vec<Txn>)]
-        ensures value { parts_of result.now ≡ sessions.entries self.now }
-        ensures few { length result.now ≤ most_sessions B.limits }
-        ensures few_transactions { transaction_count self.now ≤ most_transactions B.limits }
+    /// How many transactions the session at this index has finished; none past the last session.
+    pub fn finished(&self, i: u32) -> usize
+        ensures value { result ≡ length (finished_at self.now i) }
+        ensures few { result ≤ most_transactions B.limits }
     {
-        &self.sessions
+        self.sessions.finished(i)
+    }
+
+    /// The transaction at an index, from 0, of the session at this one.
+    pub fn recorded(&self, i: u32, index: usize) -> Option<Recorded<'_>>
+        ensures { result ≡ slice_get (finished_at self.now i) index }
+    {
+        self.sessions.recorded(i, index)
     }
 
     /// Whether the snapshots are equal.
@@ -425,11 +461,54 @@ impl<B: Bounds> SnapshotWithin<B> {
         ensures same { result ≡ true → self.now ≡ other.now }
         ensures other { result ≡ false → self.now ≡ other.now → ⊥ }
     {
-        are_same_parts(&self.sessions, &other.sessions)
+        if self.sessions() != other.sessions() {
+            return false;
+        }
+        for i in 0..self.sessions() {
+            if !is_same_session(self, other, i) {
+                return false;
+            }
+        }
+        true
     }
 }
 
 impl SnapshotWithin<SmallLimits> {
+    /// The sessions where they lie.
+    fn plain(&self) -> &[(Name, Vec<Txn>)]
+        ensures value { parts_of result.now ≡ sessions.entries self.now }
+        ensures few { length result.now ≤ MAX_SESSIONS }
+        ensures few_transactions { transaction_count self.now ≤ MAX_TRANSACTIONS }
+    {
+        match &self.sessions {
+            Storage::Plain(parts) => parts,
+            Storage::Packed(_) => unreachable!(),
+        }
+    }
+
+    /// The session at this index in byte order of the names, with its transactions.
+    pub fn session(&self, i: u32) -> Option<(&Name, &[Txn])>
+        ensures { option_map (λ s. (s.0.now, s.1.now)) result ≡ slice_get (sessions.entries self.now) i }
+    {
+        part_at(self.plain(), i)
+    }
+
+    /// The sessions in byte order of their names, each with its transactions.
+    pub fn parts(&self) -> &[(Name, Vec<Txn>)]
+        ensures value { parts_of result.now ≡ sessions.entries self.now }
+        ensures few { length result.now ≤ MAX_SESSIONS }
+        ensures few_transactions { transaction_count self.now ≤ MAX_TRANSACTIONS }
+    {
+        self.plain()
+    }
+
+    /// It keeps the small limits, for who has to know that.
+    pub fn keeps_limits(&self)
+        ensures { KeepsLimits self.now }
+    {
+        let _sessions = self.sessions();
+    }
+
     /// These sessions as a large snapshot.
     pub fn large(self) -> LargeSnapshot
         ensures { result ≡ self }
@@ -452,22 +531,6 @@ impl SnapshotWithin<LargeLimits> {
         sessions <= MAX_SESSIONS && transactions <= MAX_TRANSACTIONS
     }
 
-    /// These sessions as a snapshot within the small limits, where it keeps them.
-    pub fn small(self) -> Result<Snapshot, LargeSnapshot>
-        ensures { MatchResult result
-            (λ s. KeepsLimits self × (s ≡ self))
-            (λ s. (KeepsLimits self → ⊥) × (s ≡ self)) }
-    {
-        if !self.is_small() {
-            return Err(self);
-        }
-        Ok(SnapshotWithin {
-            sessions: self.sessions,
-            transactions: self.transactions,
-            bounds: PhantomData,
-        })
-    }
-
     /// A copy within the small limits, where it keeps them.
     pub fn small_copy(&self, alloc: Global) -> Result<Option<Snapshot>, NoMemory>
         ensures { IfOk result (λ found. MatchOption found (KeepsLimits self.now → ⊥) (λ small. KeepsLimits self.now × (small ≡ self.now))) }
@@ -476,7 +539,7 @@ impl SnapshotWithin<LargeLimits> {
             return Ok(None);
         }
         Ok(Some(SnapshotWithin {
-            sessions: copied_parts(alloc, &self.sessions)?,
+            sessions: Storage::Plain(copied_parts(alloc, self)?),
             transactions: self.transactions,
             bounds: PhantomData,
         }))

@@ -3,7 +3,7 @@ ghost use Rattle.std.specs.Prelude.{◌≡◌, ◌≤◌, ℕ, length, None, Som
 ghost use Rattle.tcc_txn.specs.Transactions.{writes_zero, txn_fault};
 ghost use Rattle.tcc_txn.specs.declared.limits.TheConstants.{MAX_OPERATIONS};
 
-use crate::{MAX_OPERATIONS, NoMemory, Op};
+use crate::{MAX_OPERATIONS, NoMemory, Op, Recorded};
 use std::alloc::Global;
 use std::marker::Model;
 use thiserror::Error;
@@ -76,6 +76,13 @@ impl Txn {
         ensures { result ≡ self.now.committed }
     {
         self.committed
+    }
+
+    /// This transaction, as a snapshot would hold it.
+    pub fn recorded(&self) -> Recorded<'_>
+        ensures { result ≡ self.now }
+    {
+        Recorded::of(self)
     }
 
     /// An equal transaction.

@@ -14,6 +14,7 @@ use Rattle.tcc_cert.specs.declared.certificate.Certificate.{Certificate}
 use Rattle.tcc_cert.specs.declared.fault.CertFaultKind.{CertFaultKind}
 use Rattle.tcc_cert.specs.declared.fault.CertFaultKind.TheVariants as text_kind
 use Rattle.tcc_check.specs.Verdicts.{IsVerdict, IsTrueClaim}
+use Rattle.tcc_check.specs.declared.verdict.Rule.{Rule}
 use Rattle.tcc_check.specs.declared.verdict.Verdict.{Verdict}
 use Rattle.tcc_check.specs.declared.verdict.Verdict.TheVariants as verdict
 use Rattle.tcc_print.specs.declared.halt.Halt.{Halt}
@@ -110,7 +111,7 @@ small_tells = record { text = λ why. refl; status = λ why. refl }
 
 module _ (certified : (h : History) (k : Certificate) → Certifies h k → IsTrueClaim h k) where
   -- what is accepted is certified, and so true
-  accepted : (h : History) (k : Certificate) (v : Verdict) → IsVerdict h k v → code_of (verdict_status v) ≡ 0 → IsTrueClaim h k
+  accepted : (h : History) (k : Certificate) (v : Verdict Rule) → IsVerdict h k v → code_of (verdict_status v) ≡ 0 → IsTrueClaim h k
   accepted h k verdict.Accepted is success = certified h k is
   accepted h k (verdict.Rejected rule at) is success = let bad : ⊥ = cc in absurd bad
 

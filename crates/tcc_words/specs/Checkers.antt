@@ -1,14 +1,13 @@
 -- What the words of the checker's command line ask for: the program that has the check alone.
 use Rattle.std.specs.Prelude.{ℕ, ◌≡◌, ◌⊎◌, List, [], Option, None, Some, Result, Ok, Err, codes}
-use Rattle.std.specs.String.{string_bytes}
-use Rattle.clap.specs.Walk.{Row, Text, first_of, one_of}
+use Rattle.clap.specs.Walk.{Row, Text}
 use Rattle.clap.specs.Simple.{App, new_app, on_top, subcommand_of, with_subcommand}
 use Rattle.clap.specs.Faults.{fault_of}
 use Rattle.clap.specs.Kinds.{IsAmong}
 use Rattle.clap.specs.declared.error.kind.ErrorKind.{ErrorKind}
 use Rattle.clap.specs.declared.error.kind.ErrorKind.TheVariants.{OutOfMemory}
-use Rattle.tcc_words.specs.CommandLines.{EndsUnasked, EndsWithoutWords, IsFlag, check_command, with_subcommand_required, with_version}
-use Rattle.tcc_words.specs.declared.checker.Files.{Files}
+use Rattle.tcc_words.specs.CommandLines.{AsksFiles, EndsUnasked, EndsWithoutWords, check_command, with_subcommand_required, with_version}
+use Rattle.tcc_words.specs.declared.command_line.Files.{Files}
 
 -- tcc_checker check [--large] HISTORY CERTIFICATE: the subcommand is the one of the program `tcc`, and has to be given
 abbrev pub checker_command : App
@@ -19,9 +18,7 @@ checker_command =
 -- the paths are those that clap finds for the subcommand that was met, and the limits are the large ones by its flag
 abbrev pub AsksFor : Option (Text × List Row) → Files → Type 0
 AsksFor None files = ⊥
-AsksFor (Some met) files =
-    (first_of (codes "history") met.1 ≡ Some (string_bytes files.history)) × (first_of (codes "certificate") met.1 ≡ Some (string_bytes files.certificate))
-    × IsFlag (one_of (codes "large") met.1) files.large
+AsksFor (Some met) files = AsksFiles met.1 files
 
 abbrev pub Asks : List Text → Files → Type 0
 Asks words files = AsksFor (subcommand_of checker_command words) files

@@ -15,6 +15,7 @@ use Rattle.clap.specs.Faults.{fault_of}
 use Rattle.clap.specs.Kinds.{IsAmong}
 use Rattle.clap.specs.declared.error.kind.ErrorKind.{ErrorKind}
 use Rattle.clap.specs.declared.error.kind.ErrorKind.TheVariants.{ArgumentConflict, DisplayHelp, DisplayVersion, OutOfMemory}
+use Rattle.tcc_words.specs.declared.command_line.Files.{Files}
 use Rattle.tcc_words.specs.declared.command_line.Request.{Request}
 use Rattle.tcc_words.specs.declared.command_line.Request.TheVariants.{Explain, Survey, Check}
 use Rattle.tcc_graph.specs.declared.level.Level.{Level}
@@ -178,7 +179,7 @@ AsksExplain met (Explain options history certificate large slice quiet full) =
     × IsFlag (flag_text (codes "large") met) large × (option_map string_bytes slice ≡ slice_path met)
     × IsFlag (flag_text (codes "quiet") met) quiet × IsFlag (flag_text (codes "full") met) full
 AsksExplain met (Survey level json large history) = ⊥
-AsksExplain met (Check history certificate large) = ⊥
+AsksExplain met (Check files) = ⊥
 
 -- the list is in lines of JSON and within the large limits by the flags, at the level of the word; the records are those of the file
 abbrev pub AsksSurvey : Option (Text × List Row) → Request → Type 0
@@ -186,15 +187,13 @@ AsksSurvey met (Survey level json large history) =
     IsLevel (level_text met) level × IsFlag (flag_text (codes "json") met) json × IsFlag (flag_text (codes "large") met) large
     × IsInput (history_path met) (option_map string_bytes history)
 AsksSurvey met (Explain options history certificate large slice quiet full) = ⊥
-AsksSurvey met (Check history certificate large) = ⊥
+AsksSurvey met (Check files) = ⊥
 
 -- the paths are those that clap finds, and it is within the large limits by the flag
-abbrev pub AsksCheck : List Row → Request → Type 0
-AsksCheck rows (Explain options history certificate large slice quiet full) = ⊥
-AsksCheck rows (Survey level json large history) = ⊥
-AsksCheck rows (Check history certificate large) =
-    (first_of (codes "history") rows ≡ Some (string_bytes history)) × (first_of (codes "certificate") rows ≡ Some (string_bytes certificate))
-    × IsFlag (one_of (codes "large") rows) large
+abbrev pub AsksFiles : List Row → Files → Type 0
+AsksFiles rows files =
+    (first_of (codes "history") rows ≡ Some (string_bytes files.history)) × (first_of (codes "certificate") rows ≡ Some (string_bytes files.certificate))
+    × IsFlag (one_of (codes "large") rows) files.large
 
 -- what the subcommand that was met asks for: a check by its name with its two paths; a survey by its name; else answers
 abbrev pub AsksBy : Option (Text × List Row) → Request → Type 0
@@ -203,8 +202,8 @@ AsksBy met (Explain options history certificate large slice quiet full) =
     × AsksExplain met (Explain options history certificate large slice quiet full)
 AsksBy met (Survey level json large history) =
     (option_map (λ entered. entered.0) met ≡ Some (codes "survey")) × AsksSurvey met (Survey level json large history)
-AsksBy None (Check history certificate large) = ⊥
-AsksBy (Some entered) (Check history certificate large) = (entered.0 ≡ codes "check") × AsksCheck entered.1 (Check history certificate large)
+AsksBy None (Check files) = ⊥
+AsksBy (Some entered) (Check files) = (entered.0 ≡ codes "check") × AsksFiles entered.1 files
 
 abbrev pub Asks : App → List Text → Request → Type 0
 Asks app words request = AsksBy (subcommand_of app words) request
@@ -215,7 +214,7 @@ GoesTogether (Explain options history certificate large slice quiet full) =
     (large ≡ false → slice ≡ None) × (quiet ≡ true → options.json ≡ false)
     × (full ≡ true → (quiet ≡ false) × (certificate ≡ None) × (slice ≡ None))
 GoesTogether (Survey level json large history) = Unit {0}
-GoesTogether (Check history certificate large) = Unit {0}
+GoesTogether (Check files) = Unit {0}
 
 -- a text, or the line `memory` in its place, goes out with its status
 abbrev pub PrintsHelp : Option (List ℕ) → Option (List ℕ) → ℕ → Type 0

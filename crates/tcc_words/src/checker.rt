@@ -5,22 +5,11 @@ ghost use Rattle.clap.specs.Words.{FailsBy, app_of, fault_of, kind_of, subcomman
 ghost use Rattle.clap.specs.declared.error.kind.ErrorKind.TheVariants.{OutOfMemory};
 ghost use Rattle.tcc_words.specs.Checkers.{AreAsked, Asks, AsksFor, WasAsked, checker_command};
 
-use crate::command_line::{Request, check_command, end_unasked, paths_of, words};
+use crate::command_line::{Files, check_command, end_unasked, files_of, words};
 use crate::help;
 use clap::{ArgMatches, Command, Error};
 use std::alloc::{AllocError, Global};
 use std::io::Write;
-
-/// The files to check.
-#[derive(Drop)]
-pub struct Files {
-    /// The path of the history's records.
-    pub history: String,
-    /// The path of the certificate's text.
-    pub certificate: String,
-    /// Whether records are taken up to the large limits, and certificates of any version.
-    pub large: bool,
-}
 
 /// The command by which words are read.
 fn command<'a>(alloc: Global) -> Result<Command<'a>, AllocError>
@@ -36,7 +25,7 @@ fn command<'a>(alloc: Global) -> Result<Command<'a>, AllocError>
 }
 
 /// The files that the matches ask for.
-fn files_of(alloc: Global, matches: &ArgMatches) -> Result<Files, Error>
+fn asked_of(alloc: Global, matches: &ArgMatches) -> Result<Files, Error>
     ensures asked { IfOk result (AsksFor (subcommand_rows_of matches.now)) }
     ensures fails { IfErr result (λ e. kind_of e ≡ OutOfMemory) }
 {
@@ -44,18 +33,7 @@ fn files_of(alloc: Global, matches: &ArgMatches) -> Result<Files, Error>
         // Words without the command are a fault by clap, so only memory can be wanting.
         return Err(Error::from(AllocError));
     };
-    match paths_of(alloc, check)? {
-        Request::Check {
-            history,
-            certificate,
-            large,
-        } => Ok(Files {
-            history,
-            certificate,
-            large,
-        }),
-        Request::Explain { .. } | Request::Survey { .. } => unreachable!(),
-    }
+    files_of(alloc, check)
 }
 
 /// What the words ask for.
@@ -64,7 +42,7 @@ fn parse(alloc: Global, words: &[String]) -> Result<Files, Error>
     ensures asked { IfOk result (Asks (map string_bytes words.now)) }
 {
     let matches = command(alloc)?.try_get_matches_from(words)?;
-    files_of(alloc, &matches)
+    asked_of(alloc, &matches)
 }
 
 /// What the words of the checker's command line ask for, the first of which is the program's name; else the number that the process

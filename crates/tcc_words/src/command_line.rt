@@ -5,7 +5,7 @@ ghost use Rattle.clap.specs.Words.{FailsBy, IsUnsignedIn, app_of, fault_of, foun
 ghost use Rattle.clap.specs.declared.error.kind.ErrorKind.TheVariants.{OutOfMemory};
 ghost use Rattle.tcc_graph.specs.declared.level.Level.{Level};
 ghost use Rattle.tcc_workers.specs.declared.workers.TheConstants.{MAX_WORKERS};
-ghost use Rattle.tcc_words.specs.CommandLines.{Asks, AsksBy, AsksCheck, AsksExplain, AsksSurvey, EndsUnasked, GoesTogether, IsAsked, IsFlag, IsInput, IsRequired, WasAsked};
+ghost use Rattle.tcc_words.specs.CommandLines.{Asks, AsksBy, AsksExplain, AsksFiles, AsksSurvey, EndsUnasked, GoesTogether, IsAsked, IsFlag, IsInput, IsRequired, WasAsked};
 ghost use Rattle.tcc_words.specs.CommandLines.{IsLevel, IsWorkers, PrintsHelp, SaysWorkers, certificate_option};
 ghost use Rattle.tcc_words.specs.CommandLines.{check_command, explain_command, flag, flag_text, level_option, level_text, level_word, option_text};
 ghost use Rattle.tcc_words.specs.CommandLines.{history_path, require_option, required_text, slice_option, survey_command};
@@ -55,14 +55,18 @@ pub enum Request {
         history: Option<String>,
     },
     /// Judge a certificate for a history.
-    Check {
-        /// The path of the history's records.
-        history: String,
-        /// The path of the certificate's text.
-        certificate: String,
-        /// Whether records are taken up to the large limits, and certificates of any version.
-        large: bool,
-    },
+    Check(Files),
+}
+
+/// The two files that a check is asked for.
+#[derive(Drop)]
+pub struct Files {
+    /// The path of the history's records.
+    pub history: String,
+    /// The path of the certificate's text.
+    pub certificate: String,
+    /// Whether records are taken up to the large limits, and certificates of any version.
+    pub large: bool,
 }
 
 /// An option by its own name, with what help calls its value; without it, the word stands for the value.
@@ -142,15 +146,37 @@ fn flag<'a>(alloc: Global, id: &'a str, help: &'a str) -> Arg<'a>
         .action(ArgAction::SetTrue)
 }
 
+/// The flag for the large limits, of records alone.
+fn large_flag<'a>(alloc: Global) -> Arg<'a>
+    ensures rule { rule_of result ≡ flag (codes "large") }
+    ensures own { result.global ≡ false }
+{
+    flag(
+        alloc,
+        "large",
+        "Takes up to 1048575 transactions of 65535 sessions",
+    )
+}
+
+/// The path of the records, which needn't be given.
+fn records_path<'a>(alloc: Global) -> Arg<'a>
+    ensures rule { rule_of result ≡ path (codes "history") false }
+    ensures own { result.global ≡ false }
+{
+    path(
+        alloc,
+        "history",
+        "FILE",
+        "The file of the records; '-', or none, is standard input",
+        false,
+    )
+}
+
 /// What is added for large histories: that one is expected, and where the slice of its anomaly goes.
 fn with_large<'a>(alloc: Global, explain: Command<'a>) -> Result<Command<'a>, AllocError>
     ensures { IfOk result (λ made. app_of made ≡ with_rule (with_rule (app_of explain.entry) (flag (codes "large"))) slice_option) }
 {
-    let large = flag(
-        alloc,
-        "large",
-        "Takes up to 1048575 transactions of 65535 sessions",
-    );
+    let large = large_flag(alloc);
     let slice = path_option(
         alloc,
         "slice",
@@ -170,13 +196,7 @@ fn with_places<'a>(alloc: Global, explain: Command<'a>) -> Result<Command<'a>, A
         "Writes the certificate of the last answer to this file",
     );
     let require = require_option(alloc);
-    let history = path(
-        alloc,
-        "history",
-        "FILE",
-        "The file of the records; '-', or none, is standard input",
-        false,
-    );
+    let history = records_path(alloc);
     let first = explain.arg(certificate)?;
     let second = first.arg(require)?;
     second.arg(history)
@@ -252,18 +272,8 @@ fn survey_command<'a>(alloc: Global, levels: &'a [&'a str]) -> Result<Command<'a
 {
     let level = level_option(alloc, levels);
     let json = flag(alloc, "json", "Lists in lines of JSON");
-    let large = flag(
-        alloc,
-        "large",
-        "Takes up to 1048575 transactions of 65535 sessions",
-    );
-    let history = path(
-        alloc,
-        "history",
-        "FILE",
-        "The file of the records; '-', or none, is standard input",
-        false,
-    );
+    let large = large_flag(alloc);
+    let history = records_path(alloc);
     let first = Command::new(alloc, "survey")
         .about("Reads records and lists every contradicted read with its usual name")
         .after_help(help::SURVEY)
@@ -444,13 +454,13 @@ fn survey_of(alloc: Global, matches: &ArgMatches) -> Result<Request, Error>
 }
 
 /// The two files to check, and within which limits.
-pub(crate) fn paths_of(alloc: Global, matches: &ArgMatches) -> Result<Request, Error>
-    ensures asked { IfOk result (AsksCheck (rows_of (found_of matches.now))) }
+pub(crate) fn files_of(alloc: Global, matches: &ArgMatches) -> Result<Files, Error>
+    ensures asked { IfOk result (AsksFiles (rows_of (found_of matches.now))) }
     ensures fails { IfErr result (λ e. kind_of e ≡ OutOfMemory) }
 {
     let large = matches.get_flag("large");
     match (matches.get_str("history"), matches.get_str("certificate")) {
-        (Some(history), Some(certificate)) => Ok(Request::Check {
+        (Some(history), Some(certificate)) => Ok(Files {
             history: history.to_string(alloc)?,
             certificate: certificate.to_string(alloc)?,
             large,
@@ -466,7 +476,7 @@ fn asked_of(alloc: Global, matches: &ArgMatches) -> Result<Request, Error>
     ensures fails { IfErr result (λ e. kind_of e ≡ OutOfMemory) }
 {
     match matches.subcommand() {
-        Some((name, check)) if name == "check" => paths_of(alloc, check),
+        Some((name, check)) if name == "check" => Ok(Request::Check(files_of(alloc, check)?)),
         Some((name, _survey)) if name == "survey" => survey_of(alloc, matches),
         _ => options_of(alloc, matches),
     }

@@ -5,6 +5,6 @@ mod checker;
 mod command_line;
 mod help;
 
-pub use checker::{Files, read_check, read_check_words};
-pub use command_line::{Request, read, read_words};
+pub use checker::{read_check, read_check_words};
+pub use command_line::{Files, Request, read, read_words};
 pub use help::VERSION;

@@ -1,5 +1,5 @@
 -- The parts of a text collected.
-use Rattle.std.specs.Prelude.{ℕ, ◌≡◌, ◌≤◌, ◌<◌, ◌⊎◌, List, [], ◌∷◌, ◌++◌, None, Some, Result, Ok, Err}
+use Rattle.std.specs.Prelude.{ℕ, ◌≡◌, ◌≤◌, ◌<◌, ◌⊎◌, List, [], ◌∷◌, ◌++◌, flat_map, None, Some, Result, Ok, Err}
 use Rattle.tcc_graph.specs.declared.link.Link.{Link}
 use Rattle.tcc_cert.specs.declared.fault.CertFault.{CertFault}
 use Rattle.tcc_cert.specs.declared.part.Part.{Part}
@@ -8,36 +8,29 @@ use Rattle.tcc_cert.specs.declared.reading.Tables.{Tables}
 use Rattle.tcc_cert.specs.Outcomes.{IsFailure}
 use Rattle.tcc_cert.specs.Parts.{Parts}
 
--- the links among some parts
-abbrev pub links_in : List Part → List Link
-links_in [] = []
-links_in (part.Link one ∷ parts) = one ∷ links_in parts
-links_in (_ ∷ parts) = links_in parts
+-- the link that a part is, where it is one, and the row of each table
+abbrev pub link_in : Part → List Link
+link_in (part.Link one) = one ∷ []
+link_in _ = []
 
--- the rows of the clocks among them
-abbrev pub clocks_in : List Part → List (List ℕ)
-clocks_in [] = []
-clocks_in (part.Clocks row ∷ parts) = row ∷ clocks_in parts
-clocks_in (_ ∷ parts) = clocks_in parts
+abbrev pub clock_in : Part → List (List ℕ)
+clock_in (part.Clocks row) = row ∷ []
+clock_in _ = []
 
--- those of `near`
-abbrev pub near_in : List Part → List (List ℕ)
-near_in [] = []
-near_in (part.Near row ∷ parts) = row ∷ near_in parts
-near_in (_ ∷ parts) = near_in parts
+abbrev pub near_row_in : Part → List (List ℕ)
+near_row_in (part.Near row) = row ∷ []
+near_row_in _ = []
 
--- those of `far`
-abbrev pub far_in : List Part → List (List ℕ)
-far_in [] = []
-far_in (part.Far row ∷ parts) = row ∷ far_in parts
-far_in (_ ∷ parts) = far_in parts
+abbrev pub far_row_in : Part → List (List ℕ)
+far_row_in (part.Far row) = row ∷ []
+far_row_in _ = []
 
 -- one link or one row more where the part is one
 pub record HasRow (given : Part) (old new : Tables) : Type 0 where
-  pub links : new.links.items ≡ old.links.items ++ links_in (given ∷ [])
-  pub clocks : new.clocks.items ≡ old.clocks.items ++ clocks_in (given ∷ [])
-  pub near : new.near.items ≡ old.near.items ++ near_in (given ∷ [])
-  pub far : new.far.items ≡ old.far.items ++ far_in (given ∷ [])
+  pub links : new.links.items ≡ old.links.items ++ link_in given
+  pub clocks : new.clocks.items ≡ old.clocks.items ++ clock_in given
+  pub near : new.near.items ≡ old.near.items ++ near_row_in given
+  pub far : new.far.items ≡ old.far.items ++ far_row_in given
 
 -- the reader failed or memory was refused, no later than the line at which the reading would have ended
 pub record IsCutIn (ahead : Parts) (fault : CertFault) : Type 0 where
@@ -51,10 +44,10 @@ EndsIn ahead fault = ((ahead.fault ≡ Some fault.kind) × (ahead.line ≡ fault
 
 -- the links and rows that were to come, up to the end
 pub record HasRowsOf (ahead : Parts) (tables : Tables) : Type 0 where
-  pub links : tables.links.items ≡ links_in ahead.parts
-  pub clocks : tables.clocks.items ≡ clocks_in ahead.parts
-  pub near : tables.near.items ≡ near_in ahead.parts
-  pub far : tables.far.items ≡ far_in ahead.parts
+  pub links : tables.links.items ≡ flat_map link_in ahead.parts
+  pub clocks : tables.clocks.items ≡ flat_map clock_in ahead.parts
+  pub near : tables.near.items ≡ flat_map near_row_in ahead.parts
+  pub far : tables.far.items ≡ flat_map far_row_in ahead.parts
   pub ended : ahead.fault ≡ None
 
 abbrev pub Collects : Parts → Result Tables CertFault → Type 0

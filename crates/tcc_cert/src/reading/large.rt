@@ -139,7 +139,7 @@ pub(crate) fn is_header(line: &[u8]) -> bool
 }
 
 /// The first line.
-pub(crate) fn header<R: Read>(input: &mut Input<R>) -> Result<Level, CertFault>
+fn header<R: Read>(input: &mut Input<R>) -> Result<Level, CertFault>
     ensures works { OnOk result (AsBefore input.old input.new) }
     ensures gives { (at : Position) → IsAt R.remaining input.old at → Gives R.remaining at (next MAX_HEADER_BYTES large_header_line at) result input.new }
 {

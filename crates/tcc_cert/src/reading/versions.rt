@@ -1,15 +1,10 @@
 //! The version of a text, by its first line.
 ghost use Rattle.std.specs.Prelude.{◌≡◌, ◌<◌, ℕ, List, IfErr, IfOk, IfSome};
-ghost use Rattle.tcc_cert.specs.InputBytes.{HasFailed};
-ghost use Rattle.tcc_cert.specs.LargeAhead.{HasReadFailed, IsLargeAhead, coming};
-ghost use Rattle.tcc_cert.specs.LargeParts.{large_parts_read};
 ghost use Rattle.tcc_cert.specs.Outcomes.{IsLargeReading};
-ghost use Rattle.tcc_cert.specs.declared.reading.large_stages.LargeStage.{LargeStage};
 ghost use Rattle.tcc_cert.specs.Versions.{IsLargeAt, IsReaderOf, IsUntouched};
 
 use super::input::Input;
 use super::large::{MOST_BYTES, is_header, whole};
-use super::large_parts::LargePartReader;
 use super::parts::CertReader;
 use crate::ranges::MAX_HEADER_BYTES;
 use crate::{CertFault, LargeCertificate};
@@ -38,16 +33,6 @@ impl<R: Read + Drop> LargeReader<R> {
     {
         let LargeReader { mut input } = self;
         whole(alloc, &mut input)
-    }
-
-    /// Its parts, one at a time: for those who go through it once, and hold none of it.
-    pub fn parts(self) -> LargePartReader<R>
-        ensures ahead { (bytes : List ℕ) → IsLargeAt R.remaining self bytes → IsLargeAhead R.remaining result (large_parts_read bytes) }
-        ensures fresh { coming result ≡ LargeStage.Claim }
-        ensures works { HasReadFailed result → HasFailed self.input }
-    {
-        let LargeReader { input } = self;
-        LargePartReader::over(input)
     }
 }
 

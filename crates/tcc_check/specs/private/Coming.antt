@@ -17,6 +17,7 @@ use Rattle.tcc_check.specs.declared.far_rows.FarFaults.{FarFaults}
 use Rattle.tcc_check.specs.declared.near_rows.NearFaults.{NearFaults}
 use Rattle.tcc_check.specs.declared.stream_fault.StreamFault.{StreamFault}
 use Rattle.tcc_check.specs.declared.stream_fault.StreamFault.TheVariants.{Text, NoMemory}
+use Rattle.tcc_check.specs.declared.verdict.Rule.{Rule}
 use Rattle.tcc_check.specs.declared.verdict.Rule.TheVariants.{Sizes, NearPairs, NearSteps, FarLinks, FarSteps, Returns}
 use Rattle.tcc_check.specs.declared.verdict.Verdict.{Verdict}
 use Rattle.tcc_check.specs.declared.verdict.Verdict.TheVariants as verdict
@@ -81,28 +82,28 @@ first_of None start None = None
 first_of None start (Some end) = Some (start, end)
 
 -- the first of two verdicts that is no acceptance
-abbrev pub first_rejected : Verdict → Verdict → Verdict
+abbrev pub first_rejected : {R : Type 0} → Verdict R → Verdict R → Verdict R
 first_rejected verdict.Accepted later = later
 first_rejected (verdict.Rejected rule at) later = verdict.Rejected rule at
 
 -- the verdict on tables, where they have the right sizes and nothing comes behind them
-abbrev pub sized : Option Verdict → Bool → Verdict
+abbrev pub sized : Option (Verdict Rule) → Bool → Verdict Rule
 sized (Some said) true = said
 sized (Some said) false = verdict.Rejected Sizes (0, 0)
 sized None at_once = verdict.Rejected Sizes (0, 0)
 
 -- the first broken rule of those on lengths, and where
-abbrev pub near_verdict : Option (ℕ × ℕ) → Option (ℕ × ℕ) → Verdict
+abbrev pub near_verdict : Option (ℕ × ℕ) → Option (ℕ × ℕ) → Verdict Rule
 near_verdict (Some at) step = verdict.Rejected NearPairs at
 near_verdict None (Some at) = verdict.Rejected NearSteps at
 near_verdict None None = verdict.Accepted
 
 -- the first broken rule of those on costs, and where
-abbrev pub verdict_by : Option (ℕ × ℕ) → Option (ℕ × ℕ) → Option (ℕ × ℕ) → Verdict
+abbrev pub verdict_by : Option (ℕ × ℕ) → Option (ℕ × ℕ) → Option (ℕ × ℕ) → Verdict Rule
 verdict_by (Some at) step back = verdict.Rejected FarLinks at
 verdict_by None (Some at) back = verdict.Rejected FarSteps at
 verdict_by None None (Some at) = verdict.Rejected Returns at
 verdict_by None None None = verdict.Accepted
 
-abbrev pub far_verdict : FarFaults → Verdict
+abbrev pub far_verdict : FarFaults → Verdict Rule
 far_verdict faults = verdict_by faults.link faults.step faults.back

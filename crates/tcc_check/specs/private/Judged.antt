@@ -1,11 +1,11 @@
 -- What the rules say of the tables of a claim, one after the other.
 use Rattle.std.specs.Prelude.{ℕ, ◌≡◌, List, [], ◌∷◌, ◌++◌, length, map, All}
 use Rattle.tcc_reads.specs.History.{History, count}
+use Rattle.tcc_graph.specs.Levels.{judged as judged_at}
 use Rattle.tcc_graph.specs.declared.level.Level.{Level}
 use Rattle.tcc_graph.specs.declared.link.Link.{Link}
 use Rattle.tcc_cert.specs.CycleRules.{HasRightSizes, IsLinkBelow, BreaksNearPair, BreaksNearStep, BreaksFarLink, BreaksFarStep, BreaksReturn}
 use Rattle.tcc_cert.specs.Parts.{Parts, with_clocks, with_tables}
-use Rattle.tcc_cert.specs.Rules.{IsRightCycle}
 use Rattle.tcc_cert.specs.Tables.{row_of}
 use Rattle.tcc_cert.specs.declared.certificate.CycleClaim.{CycleClaim}
 use Rattle.tcc_cert.specs.declared.part.CycleHead.{CycleHead}
@@ -17,34 +17,34 @@ use Rattle.tcc_check.specs.declared.judgement.Claim.TheVariants as claim
 use Rattle.tcc_check.specs.declared.judgement.Judgement.{Judgement}
 use Rattle.tcc_check.specs.declared.near_rows.NearJudged.{NearJudged}
 use Rattle.tcc_check.specs.declared.near_rows.NearRows.{NearRows}
-use Rattle.tcc_check.specs.declared.pairs.Pairs.{Pairs}
+use Rattle.tcc_check.specs.declared.adjacency.Pairs.{Pairs}
+use Rattle.tcc_check.specs.declared.verdict.Rule.{Rule}
 use Rattle.tcc_check.specs.declared.verdict.Rule.TheVariants.{Links, NearPairs, NearSteps, FarLinks, FarSteps, Returns}
 use Rattle.tcc_check.specs.declared.verdict.Verdict.{Verdict}
 use Rattle.tcc_check.specs.private.Coming.{IsFarRight, IsNearFoundTo, near_verdict}
 use Rattle.tcc_check.specs.private.Pairs.{AreOrderly}
 use Rattle.tcc_check.specs.private.Runs.{AreRuns}
-use Rattle.tcc_check.specs.Verdicts.{Asked, IsCycleFault, bounds_rules, at_each, cycle_rules, order_rules}
-use Rattle.tcc_check.specs.private.Searches.{IsAnswer}
+use Rattle.tcc_check.specs.Verdicts.{bounds_rules, cycle_rules, order_rules}
+use Rattle.tcc_check.specs.Asked.{Asked, IsVerdictOf, at_each, of_links}
 use Rattle.tcc_check.specs.private.WeightsFrom.{AreAllEnds, AreEndsTo, WeighsFrom}
 
 -- the rule on links
-abbrev pub links_rules : History → CycleClaim → List Asked
-links_rules h k = record { rule = Links; holds = IsRightCycle h k; broken = IsCycleFault h k } ∷ []
+abbrev pub links_rules : History → CycleClaim → List (Asked Rule)
+links_rules h k = of_links Links (judged_at h k.level) k.least k.links ∷ []
 
 -- the rules on lengths
-abbrev pub near_rules : History → Level → List (List ℕ) → List Asked
+abbrev pub near_rules : History → Level → List (List ℕ) → List (Asked Rule)
 near_rules h level near = at_each NearPairs (BreaksNearPair h near) ∷ at_each NearSteps (BreaksNearStep h level near) ∷ []
 
 -- those on costs
-abbrev pub far_rules : History → Version → ℕ → List (List ℕ) → List (List ℕ) → List Asked
+abbrev pub far_rules : History → Version → ℕ → List (List ℕ) → List (List ℕ) → List (Asked Rule)
 far_rules h version least near far =
     at_each FarLinks (BreaksFarLink h version near far) ∷ at_each FarSteps (BreaksFarStep h version near far)
     ∷ at_each Returns (BreaksReturn h version least far) ∷ []
 
 -- all but the rule on sizes
-abbrev pub claim_rules : History → CycleClaim → List Asked
-claim_rules h k =
-    record { rule = Links; holds = IsRightCycle h k; broken = IsCycleFault h k } ∷ bounds_rules h k
+abbrev pub claim_rules : History → CycleClaim → List (Asked Rule)
+claim_rules h k = of_links Links (judged_at h k.level) k.least k.links ∷ bounds_rules h k
 
 -- what was found in the first rows of a table of lengths, and the links that they tell of
 pub record AreNearRowsTo (h : History) (level : Level) (least : ℕ) (near : List (List ℕ)) (n : ℕ) (rows : NearRows) : Type 0 where
@@ -61,7 +61,7 @@ AreLinksOf h least near judged = AreAllEnds (λ u. WeighsFrom h (row_of near u) 
 
 -- what the rules on lengths say, and those links
 pub record IsNearJudged (h : History) (level : Level) (least : ℕ) (near : List (List ℕ)) (judged : NearJudged) : Type 0 where
-  pub answer : IsAnswer (near_rules h level near) judged.verdict
+  pub answer : IsVerdictOf (near_rules h level near) judged.verdict
   pub links : AreLinksOf h least near judged
 
 -- whatever the table: where runs begin, and the ends of links from each transaction
@@ -71,20 +71,20 @@ pub record IsOrderly (h : History) (judged : NearJudged) : Type 0 where
   pub links : AreOrderly (count h) judged.links.items
 
 -- the numbers of the links are below that of the transactions, the rule on links says so, and these parts come behind them
-pub record AreLinksJudged (h : History) (head : CycleHead) (links : List Link) (rest : Parts) (tables : List Part) (verdict : Verdict) : Type 0 where
+pub record AreLinksJudged (h : History) (head : CycleHead) (links : List Link) (rest : Parts) (tables : List Part) (verdict : Verdict Rule) : Type 0 where
   pub below : All (IsLinkBelow (count h)) links
-  pub answer : (near far : List (List ℕ)) → IsAnswer (links_rules h (with_tables head links near far)) verdict
+  pub answer : (near far : List (List ℕ)) → IsVerdictOf (links_rules h (with_tables head links near far)) verdict
   pub behind : rest.parts ≡ tables
 
 -- where no part is left behind the rows of costs, they are the whole table, and the rules on them say so
 pub record IsFarJudged (h : History) (version : Version) (least : ℕ) (near : List (List ℕ)) (far : List (List ℕ)) (rest : Parts)
-    (verdict : Verdict) : Type 0 where
-  pub right : rest.parts ≡ [] → IsFarRight version (count h) least far × IsAnswer (far_rules h version least near far) verdict
+    (verdict : Verdict Rule) : Type 0 where
+  pub right : rest.parts ≡ [] → IsFarRight version (count h) least far × IsVerdictOf (far_rules h version least near far) verdict
   pub more : IsFarRight version (count h) least far → rest.parts ≡ []
 
 -- so all rules behind that on sizes say
-pub record IsClaimJudged (h : History) (k : CycleClaim) (rest : Parts) (verdict : Verdict) : Type 0 where
-  pub right : rest.parts ≡ [] → HasRightSizes h k × IsAnswer (claim_rules h k) verdict
+pub record IsClaimJudged (h : History) (k : CycleClaim) (rest : Parts) (verdict : Verdict Rule) : Type 0 where
+  pub right : rest.parts ≡ [] → HasRightSizes h k × IsVerdictOf (claim_rules h k) verdict
   pub more : HasRightSizes h k → rest.parts ≡ []
 
 -- so all rules say, of a claim that a cycle is least, with the links and the tables that come
@@ -92,9 +92,9 @@ pub record IsCycleJudged (h : History) (head : CycleHead) (ahead : Parts) (judge
   pub same : judgement.claim ≡ claim.Cycle head.least
   pub answer : (links : List Link) (near far : List (List ℕ)) → length links ≡ head.links → length near ≡ head.count
       → ahead.parts ≡ map part.Link links ++ (map part.Near near ++ map part.Far far)
-      → IsAnswer (cycle_rules h (with_tables head links near far)) judgement.verdict
+      → IsVerdictOf (cycle_rules h (with_tables head links near far)) judgement.verdict
 
 -- and of a claim that a list is a commit order, with the clocks that come
 pub record IsOrderJudged (h : History) (head : OrderHead) (ahead : Parts) (judgement : Judgement) : Type 0 where
   pub same : judgement.claim ≡ claim.Order
-  pub answer : (clocks : List (List ℕ)) → ahead.parts ≡ map part.Clocks clocks → IsAnswer (order_rules h (with_clocks head clocks)) judgement.verdict
+  pub answer : (clocks : List (List ℕ)) → ahead.parts ≡ map part.Clocks clocks → IsVerdictOf (order_rules h (with_clocks head clocks)) judgement.verdict

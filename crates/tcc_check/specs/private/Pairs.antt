@@ -1,7 +1,7 @@
 -- What is known of the causal pairs of a history.
 use Rattle.std.specs.Prelude.{ℕ, ◌<◌, List, All}
 use Rattle.tcc_reads.specs.History.{History, count}
-use Rattle.tcc_check.specs.declared.pairs.Pairs.{Pairs}
+use Rattle.tcc_check.specs.declared.adjacency.Pairs.{Pairs}
 use Rattle.tcc_check.specs.private.Readings.{AreReadings}
 use Rattle.tcc_check.specs.private.Runs.{AreRuns}
 use Rattle.tcc_check.specs.private.Weights.{AreByWeight}

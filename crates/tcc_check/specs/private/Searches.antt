@@ -5,14 +5,6 @@ use Rattle.tcc_graph.specs.Relations.{IsSessionPair}
 use Rattle.tcc_check.specs.private.Coming.{first_of}
 use Rattle.tcc_check.specs.private.Runs.{IsInRun}
 use Rattle.tcc_check.specs.private.WeightsFrom.{ends_of}
-use Rattle.tcc_check.specs.declared.verdict.Verdict.{Verdict}
-use Rattle.tcc_check.specs.declared.verdict.Verdict.TheVariants as verdict
-use Rattle.tcc_check.specs.Verdicts.{AllHold, Asked, IsFirstBroken}
-
--- what these rules say
-abbrev pub IsAnswer : List Asked → Verdict → Type 0
-IsAnswer rules verdict.Accepted = AllHold rules
-IsAnswer rules (verdict.Rejected rule at) = IsFirstBroken rules rule at
 
 -- below n nothing is broken
 abbrev pub HoldsBelow : ℕ → (ℕ → Type 0) → Type 0

@@ -1,9 +1,9 @@
 -- What tables say of cycles that a walk makes, or a walk and one derived link back.
 use Rattle.std.specs.Prelude.{ℕ, ◌≤◌, ◌≡◌, ◌≢◌, ◌+◌, ◌==◌, if◌then◌else◌, slice_index}
 use Rattle.tcc_graph.specs.Tables.{row_of}
-use Rattle.tcc_near.specs.Distances.{NearTable}
+use Rattle.tcc_near.specs.WalkLengths.{NearTable}
 use Rattle.tcc_derive.specs.Prices.{Tables}
-use Rattle.tcc_near.specs.declared.distances.TheConstants.{NONE}
+use Rattle.tcc_near.specs.declared.walk_lengths.TheConstants.{NONE}
 use Rattle.tcc_core.specs.declared.queue.TheConstants.{NO_WAY}
 
 -- so many steps from a to b, and the price back; the steps alone where b is a

@@ -1,10 +1,11 @@
 -- Ways to all that a row marks, and rows of what is met at some cost.
-use Rattle.std.specs.Prelude.{ℕ, true, ◌≡◌, ◌<◌, ◌≤◌, ◌+◌, ◌^◌, List, length, slice_index}
+use Rattle.std.specs.Prelude.{ℕ, true, ◌≡◌, ◌<◌, ◌≤◌, ◌+◌, List, length, slice_index}
 use Rattle.std.specs.Int.{bit_at}
 use Rattle.tcc_bits.specs.Bits.{is_marked}
 use Rattle.tcc_core.specs.private.Queues.{Queue}
 use Rattle.tcc_core.specs.private.Offers.{IsOffered}
-use Rattle.tcc_core.specs.declared.ring.TheConstants.{BUCKETS}
+use Rattle.tcc_core.specs.declared.bucket_queue.TheConstants.{BUCKETS}
+use Rattle.tcc_txn.specs.declared.limits.TheConstants.{LARGE_COUNT}
 
 -- what the row marks is open at no more than the cost, or settled
 abbrev pub IsMet : ℕ → List ℕ → List ℕ → Type 0
@@ -21,7 +22,7 @@ IsMarkWay marks s cost v n = (s ≤ v) × (is_marked marks v ≡ true) × (cost 
 -- ways at a cost may be offered to all that a row marks: of its length is the row of what is met at that cost
 pub record MayOfferMarked (cost : ℕ) (met marks : List ℕ) (queue : Queue) : Type 0 where
   pub same : length met ≡ length marks
-  pub few : length marks ≤ 2 ^ 20
+  pub few : length marks ≤ LARGE_COUNT
   pub within : (v : ℕ) → is_marked marks v ≡ true → v < length queue.costs
   pub above : queue.floor < cost
   pub window : cost < queue.floor + BUCKETS

@@ -3,7 +3,7 @@ use Rattle.std.specs.Prelude.{ℕ, ◌≡◌, ◌<◌, ◌≤◌, ◌+◌, ◌�
 use Rattle.tcc_derive.specs.Prices.{Tables, cost_at, IsLater}
 use Rattle.tcc_core.specs.Rows.{in_row}
 use Rattle.tcc_core.specs.private.Queues.{Queue}
-use Rattle.tcc_core.specs.declared.ring.TheConstants.{BUCKETS}
+use Rattle.tcc_core.specs.declared.bucket_queue.TheConstants.{BUCKETS}
 
 -- costs after ways were offered: each is as it was, or less and more than the floor
 pub record IsLower (floor : ℕ) (old new : List ℕ) : Type 0 where

@@ -1,7 +1,7 @@
 -- Transactions that are open at a cost.
 use Rattle.std.specs.Prelude.{ℕ, ◌≡◌, ◌≢◌, ◌<◌, ◌≤◌, ◌+◌, ◌-◌, ◌%◌, ◌⊎◌, ◌&&◌, List, [], ◌∷◌, length, slice_index, slice_set, nat_lt, ◌==◌, if◌then◌else◌}
 use Rattle.tcc_txn.specs.declared.limits.TheConstants.{MAX_COUNT}
-use Rattle.tcc_core.specs.declared.ring.TheConstants.{BUCKETS}
+use Rattle.tcc_core.specs.declared.bucket_queue.TheConstants.{BUCKETS}
 use Rattle.tcc_core.specs.declared.queue.TheConstants.{NO_WAY}
 
 -- of each transaction the cost at which it is open; 0 where it is settled, and NO_WAY where no way was offered. No way that
@@ -43,7 +43,7 @@ pub record IsBeginning (count : ℕ) (queue : Queue) : Type 0 where
 abbrev pub offered : ℕ → List ℕ → ℕ → ℕ → List ℕ
 offered floor costs v cost = if nat_lt floor cost && (nat_lt (cost - floor) BUCKETS && nat_lt cost (slice_index costs v)) then slice_set costs v cost else costs
 
--- ---- how they stand in the ring
+-- ---- how they stand in the buckets
 
 -- a transaction that is open at this cost stands in this bucket
 pub record IsOpen (floor most cost b : ℕ) : Type 0 where
@@ -59,13 +59,13 @@ pub record IsShut (cost b : ℕ) : Type 0 where
 
 -- no way leads to v, and it stands in no bucket
 abbrev pub IsFar : List ℕ → List ℕ → ℕ → Type 0
-IsFar costs ring v = (slice_index costs v ≡ NO_WAY) × (BUCKETS ≤ slice_index ring v)
+IsFar costs buckets v = (slice_index costs v ≡ NO_WAY) × (BUCKETS ≤ slice_index buckets v)
 
-pub record IsFiled (floor most : ℕ) (costs ring : List ℕ) : Type 0 where
-  pub long : length costs ≡ length ring
+pub record IsFiled (floor most : ℕ) (costs buckets : List ℕ) : Type 0 where
+  pub long : length costs ≡ length buckets
   pub window : most < floor + BUCKETS
   pub few : most < NO_WAY
-  pub each : (v : ℕ) → v < length costs → IsShut (slice_index costs v) (slice_index ring v) ⊎ IsOpen floor most (slice_index costs v) (slice_index ring v)
+  pub each : (v : ℕ) → v < length costs → IsShut (slice_index costs v) (slice_index buckets v) ⊎ IsOpen floor most (slice_index costs v) (slice_index buckets v)
 
 -- how many were reached
 abbrev pub count_reached : List ℕ → ℕ

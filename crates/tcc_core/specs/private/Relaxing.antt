@@ -3,7 +3,7 @@ use Rattle.std.specs.Prelude.{ℕ, ◌<◌, ◌≤◌, ◌≡◌, ◌+◌, ◌*�
 use Rattle.tcc_txn.specs.declared.limits.TheConstants.{MAX_COUNT}
 use Rattle.tcc_core.specs.Rows.{in_row}
 use Rattle.tcc_core.specs.Searches.{Search}
-use Rattle.tcc_core.specs.declared.ring.TheConstants.{BUCKETS}
+use Rattle.tcc_core.specs.declared.bucket_queue.TheConstants.{BUCKETS}
 
 -- how many transactions the row has
 abbrev pub count_joined : List (Option ℕ) → ℕ

@@ -1,8 +1,8 @@
 -- What walks and derived links back cost, or none where there are none.
 use Rattle.std.specs.Prelude.{ℕ, ◌+◌, ◌<◌, ◌≤◌, ◌≡◌, ◌≢◌, ◌⊎◌, List, All, Contains, Some, length, slice_index}
 use Rattle.tcc_graph.specs.Tables.{row_of}
-use Rattle.tcc_near.specs.Distances.{least, least_in}
-use Rattle.tcc_near.specs.declared.distances.TheConstants.{NONE}
+use Rattle.tcc_near.specs.WalkLengths.{least, least_in}
+use Rattle.tcc_near.specs.declared.walk_lengths.TheConstants.{NONE}
 use Rattle.tcc_derive.specs.Limits.{IsClosing}
 
 -- a walk from somewhere to b, and a derived link back by these prices from b, cost n together

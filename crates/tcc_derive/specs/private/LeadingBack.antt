@@ -6,7 +6,7 @@ use Rattle.tcc_graph.specs.Walks.{step_from, step_to, IsStep}
 use Rattle.tcc_graph.specs.Levels.{Judged}
 use Rattle.tcc_graph.specs.Ties.{step_cmp}
 use Rattle.tcc_graph.specs.declared.step.Step.{Step}
-use Rattle.tcc_near.specs.Distances.{IsShortest}
+use Rattle.tcc_near.specs.WalkLengths.{IsShortest}
 
 -- the step comes before the other, or is the same
 abbrev pub IsUpTo : Step → Step → Type 0

@@ -1,13 +1,13 @@
 -- Rows of prices that reads lower, and of costs.
 use Rattle.std.specs.Prelude.{ℕ, ◌+◌, ◌<◌, ◌≤◌, ◌≡◌, ◌≢◌, ◌==◌, ◌⊎◌, List, length, min, if◌then◌else◌, slice_index, Contains, All}
 use Rattle.tcc_derive.specs.declared.read.Read.{Read}
-use Rattle.tcc_near.specs.declared.distances.TheConstants.{NONE}
+use Rattle.tcc_near.specs.declared.walk_lengths.TheConstants.{NONE}
 
 -- one more, but no more than a row can hold
 abbrev pub one_more : ℕ → ℕ
 one_more n = min (n + 1) NONE
 
--- what it costs to contradict a read, by the distances to its reader
+-- what it costs to contradict a read, by the walk lengths to its reader
 abbrev pub price_by : List ℕ → Read → ℕ
 price_by steps r = one_more (slice_index steps r.reader)
 

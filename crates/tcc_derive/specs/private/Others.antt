@@ -5,8 +5,8 @@ use Rattle.tcc_reads.specs.History.{History, count}
 use Rattle.tcc_graph.specs.Relations.{reads_from, has_items}
 use Rattle.tcc_graph.specs.Tables.{row_of}
 use Rattle.tcc_graph.specs.declared.level.Level.{Level}
-use Rattle.tcc_near.specs.Distances.{IsSquare}
-use Rattle.tcc_near.specs.declared.distances.TheConstants.{NONE}
+use Rattle.tcc_near.specs.WalkLengths.{IsSquare}
+use Rattle.tcc_near.specs.declared.walk_lengths.TheConstants.{NONE}
 use Rattle.tcc_txn.specs.declared.limits.TheConstants.{MAX_COUNT}
 use Rattle.tcc_derive.specs.private.Lowering.{HasPairs}
 use Rattle.tcc_derive.specs.Prices.{Tables, IsEnd, end_of, others_at}
@@ -24,7 +24,7 @@ others_below h u prices costs (suc n) = others_below h u prices costs n ++ (if i
 abbrev pub IsOtherRow : History → ℕ → List ℕ → List ℕ → List (ℕ × ℕ) → Type 0
 IsOtherRow h u steps prices row = (costs : List ℕ) × HasPairs steps prices costs × (row ≡ others_below h u prices costs (count h))
 
--- so for each transaction
+-- for each transaction a row of the others that links lead to
 pub record HasOtherRows (h : History) (near : List (List ℕ)) (prices : List (List ℕ)) (rows : List (List (ℕ × ℕ))) : Type 0 where
   pub long : length rows ≡ count h
   pub each : (u : ℕ) → u < count h → IsOtherRow h u (row_of near u) (row_of prices u) (row_of rows u)

@@ -2,7 +2,7 @@
 use Rattle.std.specs.Prelude.{ℕ, ◌<◌, ◌≤◌, ◌≡◌, ◌+◌, List, length, Some}
 use Rattle.tcc_reads.specs.History.{History, count}
 use Rattle.tcc_graph.specs.Levels.{Judged}
-use Rattle.tcc_near.specs.Distances.{least_in}
+use Rattle.tcc_near.specs.WalkLengths.{least_in}
 use Rattle.tcc_derive.specs.Prices.{IsPrice, IsCost}
 use Rattle.tcc_graph.specs.Tables.{row_of}
 

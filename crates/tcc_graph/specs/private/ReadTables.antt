@@ -1,4 +1,4 @@
--- The tables of reads, by names and by indices, and how they are made.
+-- What transactions write and read by the indices of the keys, and the table of who reads from whom.
 use Rattle.std.specs.Prelude.{ℕ, ◌<◌, ◌≤◌, ◌≡◌, ◌==◌, List, [], ◌++◌, length, map, filter, slice_index_or, All}
 use Rattle.tcc_txn.specs.declared.limits.TheConstants.{LARGE_COUNT}
 use Rattle.std.specs.List.Sorted.{IsStrictlySortedBy}
@@ -13,12 +13,12 @@ abbrev pub values_from : {X : Type 0} → List (X × ℕ) → ℕ → List X
 values_from reads a = map (λ read. read.0) (filter (λ read. read.1 == a) reads)
 
 -- each read of a transaction went to the end of the row of its source
-pub record AddsReads (X : Type 0) (old : List (List (ℕ × X))) (new : List (List (ℕ × X))) (reader : ℕ) (reads : List (X × ℕ)) : Type 0 where
+pub record AddsReads (old : List (List (ℕ × ℕ))) (new : List (List (ℕ × ℕ))) (reader : ℕ) (reads : List (ℕ × ℕ)) : Type 0 where
   pub long : length new ≡ length old
   pub rows : (a : ℕ) → row_of new a ≡ row_of old a ++ as_group reader (values_from reads a)
 
 -- the row of each of `count` transactions has what the first n transactions read from it, each with its reader
-pub record IsSourceTable (X : Type 0) (count : ℕ) (reads : ℕ → List (X × ℕ)) (n : ℕ) (table : List (List (ℕ × X))) : Type 0 where
+pub record IsSourceTable (count : ℕ) (reads : ℕ → List (ℕ × ℕ)) (n : ℕ) (table : List (List (ℕ × ℕ))) : Type 0 where
   pub long : length table ≡ count
   pub rows : (a : ℕ) → a < count → row_of table a ≡ groups (λ b. values_from (reads b) a) n
 
@@ -26,22 +26,41 @@ pub record IsSourceTable (X : Type 0) (count : ℕ) (reads : ℕ → List (X × 
 abbrev pub over : List Entry → History
 over entries = record { sessions = []; entries = entries }
 
--- the row of each transaction has the keys that the first n transactions read from it, each with its reader
-abbrev pub IsReadTable : List Entry → ℕ → List (List (ℕ × List ℕ)) → Type 0
-IsReadTable entries n table = IsSourceTable (List ℕ) (length entries) (λ b. (slice_index_or entries b initial).reads) n table
-
--- what a transaction writes and reads, by the indices of the keys
+-- a transaction, with what it writes and reads by the indices of the keys
 pub record Indexed : Type 0 where
+  pub owner : ℕ
+  pub place : ℕ
   pub writes : List ℕ
   pub reads : List (ℕ × ℕ)
 
+-- `init`
+abbrev pub unindexed : Indexed
+unindexed = record { owner = 0; place = 0; writes = []; reads = [] }
+
 abbrev pub indexed_of : List Indexed → ℕ → Indexed
-indexed_of indexed n = slice_index_or indexed n (record { writes = []; reads = [] })
+indexed_of indexed n = slice_index_or indexed n unindexed
+
+-- reads by the names of the keys
+abbrev pub named : List (List ℕ) → List (ℕ × ℕ) → List (List ℕ × ℕ)
+named names reads = map (λ read. (name_of names read.0, read.1)) reads
+
+-- the transaction by the names of the keys
+abbrev pub entry_of : List (List ℕ) → Indexed → Entry
+entry_of names p = record { owner = p.owner; place = p.place; writes = map (name_of names) p.writes; reads = named names p.reads }
+
+abbrev pub entries_of : List (List ℕ) → List Indexed → List Entry
+entries_of names indexed = map (entry_of names) indexed
+
+-- the history of these sessions and transactions
+abbrev pub history_of : List (List ℕ) → List (List ℕ) → List Indexed → History
+history_of sessions names indexed = record { sessions = sessions; entries = entries_of names indexed }
 
 -- the indices are those of the transaction's keys among these names
 pub record IsIndexed (names : List (List ℕ)) (e : Entry) (p : Indexed) : Type 0 where
+  pub owner : p.owner ≡ e.owner
+  pub place : p.place ≡ e.place
   pub writes : map (name_of names) p.writes ≡ e.writes
-  pub reads : map (λ read. (name_of names read.0, read.1)) p.reads ≡ e.reads
+  pub reads : named names p.reads ≡ e.reads
   pub writes_within : All (λ k. k < length names) p.writes
   pub reads_within : All (λ read. read.0 < length names) p.reads
 
@@ -52,7 +71,7 @@ pub record AreIndexed (names : List (List ℕ)) (entries : List Entry) (indexed 
 
 -- the row of each transaction has the indices of the keys that the first n transactions read from it, each with its reader
 abbrev pub IsIndexTable : ℕ → List Indexed → ℕ → List (List (ℕ × ℕ)) → Type 0
-IsIndexTable count indexed n table = IsSourceTable ℕ count (λ b. (indexed_of indexed b).reads) n table
+IsIndexTable count indexed n table = IsSourceTable count (λ b. (indexed_of indexed b).reads) n table
 
 -- each read of a transaction has its source among n transactions
 abbrev pub HasSources : ℕ → Entry → Type 0

@@ -1,15 +1,14 @@
 -- What stands behind a transaction and has to stand before it: by a block of sessions, and from some place of the order on.
 use Rattle.std.specs.Prelude.{ℕ, ◌<◌, ◌≤◌, ◌≡◌, ◌+◌, ◌==◌, ◌&&◌, ◌||◌, nat_lt, Bool, List, Option, None, Some, if◌then◌else◌, length, slice_index}
 use Rattle.tcc_reads.specs.History.{History, owner}
-use Rattle.tcc_graph.specs.Keys.{key_at}
 use Rattle.tcc_graph.specs.Levels.{causally}
-use Rattle.tcc_graph.specs.Relations.{IsReadsPair}
 use Rattle.tcc_graph.specs.Tables.{row_of}
 use Rattle.tcc_graph.specs.Walks.{IsReached}
 use Rattle.tcc_clocks.specs.declared.latest.TheConstants.{WIDE}
 use Rattle.tcc_judge.specs.declared.least.TheConstants.{NONE}
 use Rattle.tcc_judge.specs.Orders.{BreaksAxiom}
 use Rattle.tcc_judge.specs.private.NextWriters.{IsNextWriter}
+use Rattle.tcc_judge.specs.private.Readings.{IsByReading}
 
 -- so many rows of a number for each session of a block
 pub record AreWide (n : ℕ) (table : List (List ℕ)) : Type 0 where
@@ -30,18 +29,9 @@ pub record IsBehindBy (h : History) (order : List ℕ) (from : ℕ) (place : ℕ
   pub next : IsNextWriter h order x (from + session) place b
   pub reached : IsReached h b c
 
--- so by one of the first of these readings
-pub record IsBehindIn (h : History) (order : List ℕ) (from : ℕ) (place : ℕ) (readers : List ℕ) (key_indices : List ℕ) (end : ℕ) (b : ℕ) : Type 0 where
-  pub index : ℕ
-  pub first : index < end
-  pub behind : IsBehindBy h order from place (key_at h (slice_index key_indices index)) (slice_index readers index) b
-
--- so by one of the readings of a
-pub record IsBehindOf (h : History) (order : List ℕ) (from : ℕ) (place : ℕ) (a : ℕ) (b : ℕ) : Type 0 where
-  pub reader : ℕ
-  pub key : List ℕ
-  pub pair : IsReadsPair h a reader key
-  pub behind : IsBehindBy h order from place key reader b
+-- b stands behind, and has to stand before a, by one of the readings of a
+abbrev pub IsBehindOf : History → List ℕ → ℕ → ℕ → ℕ → ℕ → Type 0
+IsBehindOf h order from place a b = IsByReading h a (IsBehindBy h order from place) b
 
 -- the axiom is broken by a transaction of the block
 pub record IsBrokenIn (h : History) (order : List ℕ) (from : ℕ) (at : ℕ × ℕ) : Type 0 where
@@ -51,7 +41,7 @@ pub record IsBrokenIn (h : History) (order : List ℕ) (from : ℕ) (at : ℕ ×
   pub owned : owner h at.0 ≡ from + session
   pub broken : BreaksAxiom (causally h) order at
 
--- so where the other one stands at the place or behind it
+-- the axiom is broken by a transaction of the block, where the other one stands at the place or behind it
 pub record IsBrokenFrom (h : History) (order : List ℕ) (from : ℕ) (place : ℕ) (at : ℕ × ℕ) : Type 0 where
   pub broken : IsBrokenIn h order from at
   pub index : ℕ
@@ -68,6 +58,6 @@ abbrev pub earlier_of : Option (ℕ × ℕ) → ℕ × ℕ → ℕ × ℕ
 earlier_of None at = at
 earlier_of (Some found) at = if is_earlier found at then found else at
 
--- so where there is another pair
+-- the first of what was found and the pair of b and a, where b is one
 abbrev pub first_with : Option (ℕ × ℕ) → ℕ → ℕ → Option (ℕ × ℕ)
 first_with found b a = if b == NONE then found else Some (earlier_of found (b, a))

@@ -5,10 +5,10 @@ use Rattle.tcc_graph.specs.Keys.{keys, key_at}
 use Rattle.tcc_graph.specs.Levels.{causally}
 use Rattle.tcc_graph.specs.Links.{IsReason}
 use Rattle.tcc_graph.specs.Orders.{Before}
-use Rattle.tcc_graph.specs.Relations.{IsReadsPair}
 use Rattle.tcc_graph.specs.declared.step.Step.{Step}
 use Rattle.tcc_judge.specs.Spanned.{IsStaleKey}
 use Rattle.tcc_judge.specs.private.Behind.{IsBehindBy}
+use Rattle.tcc_judge.specs.private.Readings.{IsByReading}
 
 -- the greatest of those that are meant; where none is, it may be 0
 pub record IsGreatestOf (Is : ℕ → Type 0) (greatest : ℕ) : Type 0 where
@@ -19,27 +19,18 @@ pub record IsGreatestOf (Is : ℕ → Type 0) (greatest : ℕ) : Type 0 where
 abbrev pub IsBehindSome : History → List ℕ → ℕ → ℕ → List ℕ → ℕ → Type 0
 IsBehindSome h order from place x c = (b : ℕ) × IsBehindBy h order from place x c b
 
--- so one that has this position
+-- a transaction at this position is one that stands behind and has to stand before
 abbrev pub IsBehindAt : History → List ℕ → List ℕ → ℕ → ℕ → List ℕ → ℕ → ℕ → Type 0
 IsBehindAt h order positions from place x c position = (b : ℕ) × IsBehindBy h order from place x c b × (slice_index positions b ≡ position)
 
--- so of one of the first sessions of the block
+-- a transaction of one of the first sessions of the block, at this position, is such a one
 abbrev pub IsInLanes : History → List ℕ → List ℕ → ℕ → ℕ → List ℕ → ℕ → ℕ → ℕ → Type 0
 IsInLanes h order positions from place x c end position =
     (b : ℕ) × (is : IsBehindBy h order from place x c b) × (is.session < end) × (slice_index positions b ≡ position)
 
--- so by a reading from a
-pub record IsBehindTo (h : History) (order : List ℕ) (positions : List ℕ) (from : ℕ) (place : ℕ) (a : ℕ) (position : ℕ) : Type 0 where
-  pub reader : ℕ
-  pub key : List ℕ
-  pub pair : IsReadsPair h a reader key
-  pub behind : IsBehindAt h order positions from place key reader position
-
--- so by one of the first of these readings
-pub record IsBehindToIn (h : History) (order : List ℕ) (positions : List ℕ) (from : ℕ) (place : ℕ) (readers : List ℕ) (key_indices : List ℕ) (end : ℕ) (position : ℕ) : Type 0 where
-  pub index : ℕ
-  pub first : index < end
-  pub behind : IsBehindAt h order positions from place (key_at h (slice_index key_indices index)) (slice_index readers index) position
+-- a transaction at this position is such a one by one of the readings of a
+abbrev pub IsBehindTo : History → List ℕ → List ℕ → ℕ → ℕ → ℕ → ℕ → Type 0
+IsBehindTo h order positions from place a position = IsByReading h a (IsBehindAt h order positions from place) position
 
 -- a transaction of the sessions from one to before another has to stand before a, since c reads x from a, and does not
 pub record IsContradictedBy (h : History) (order : List ℕ) (from : ℕ) (end : ℕ) (a : ℕ) (x : List ℕ) (c : ℕ) : Type 0 where
@@ -51,7 +42,7 @@ pub record IsContradictedBy (h : History) (order : List ℕ) (from : ℕ) (end :
   pub reason : IsReason (causally h) by a x c walk
   pub apart : Before order by a → ⊥
 
--- so where it has this position
+-- such a transaction has this position
 pub record IsReadTo (h : History) (order : List ℕ) (positions : List ℕ) (from : ℕ) (end : ℕ) (a : ℕ) (position : ℕ) : Type 0 where
   pub key : List ℕ
   pub reader : ℕ
@@ -73,7 +64,7 @@ abbrev pub IsLedBackTo : History → List ℕ → List ℕ → ℕ → ℕ → T
 IsLedBackTo h order positions a position =
     (b : ℕ) × (x : List ℕ) × (c : ℕ) × (walk : List Step) × IsReason (causally h) b a x c walk × (Before order b a → ⊥) × (slice_index positions b ≡ position)
 
--- so whatever the sessions
+-- what all sessions contradict
 pub record AreContradicted (h : History) (order : List ℕ) (positions : List ℕ) (lasts : List ℕ) (stale : List Bool) : Type 0 where
   pub long : length lasts ≡ length order
   pub first : slice_index lasts 0 ≡ 0

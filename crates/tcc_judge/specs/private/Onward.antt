@@ -4,10 +4,11 @@ use Rattle.tcc_graph.specs.Levels.{Judged}
 use Rattle.tcc_least.specs.Shapes.{NoneBelow}
 use Rattle.tcc_judge.specs.Orders.{BreaksPair}
 use Rattle.tcc_judge.specs.Spanned.{IsBounded}
-use Rattle.tcc_judge.specs.Verdicts.{Asked, as_whole, at_each}
+use Rattle.tcc_check.specs.Asked.{Asked, as_whole, at_each}
+use Rattle.tcc_judge.specs.declared.verdict.Rule.{Rule}
 use Rattle.tcc_judge.specs.declared.verdict.Rule.TheVariants.{Onward, Limits, Cheaper}
 
 -- in turn, with an order
-abbrev pub onward_rules : Judged → List ℕ → ℕ → List Asked
+abbrev pub onward_rules : Judged → List ℕ → ℕ → List (Asked Rule)
 onward_rules j order most =
     at_each Onward (BreaksPair j.history order) ∷ as_whole Limits (IsBounded j.history order most) ∷ as_whole Cheaper (NoneBelow j most) ∷ []

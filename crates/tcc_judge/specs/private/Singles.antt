@@ -1,10 +1,11 @@
 -- What stands behind a transaction and has to stand before it by a single pair.
 use Rattle.std.specs.Prelude.{ℕ, ◌<◌, ◌≤◌, ◌↔◌, ◌&&◌, ◌||◌, nat_lt, nat_le, Bool, List, Contains, slice_index}
 use Rattle.tcc_reads.specs.History.{History}
-use Rattle.tcc_graph.specs.Keys.{key_at, writers}
+use Rattle.tcc_graph.specs.Keys.{writers}
 use Rattle.tcc_graph.specs.Levels.{atomically}
 use Rattle.tcc_graph.specs.Relations.{IsCausalPair, IsReadsPair, IsSessionPair}
 use Rattle.tcc_judge.specs.Orders.{BreaksAxiom}
+use Rattle.tcc_judge.specs.private.Readings.{IsByReading}
 
 -- b, one of these writers, stands behind a, and a pair leads from it to c
 pub record IsSingle (h : History) (positions : List ℕ) (writers : List ℕ) (a : ℕ) (c : ℕ) (b : ℕ) : Type 0 where
@@ -12,18 +13,13 @@ pub record IsSingle (h : History) (positions : List ℕ) (writers : List ℕ) (a
   pub behind : slice_index positions a < slice_index positions b
   pub pair : IsCausalPair h b c
 
--- so by one of the first of these readings
-pub record IsSingleIn (h : History) (positions : List ℕ) (a : ℕ) (readers : List ℕ) (key_indices : List ℕ) (end : ℕ) (b : ℕ) : Type 0 where
-  pub index : ℕ
-  pub first : index < end
-  pub single : IsSingle h positions (writers h (key_at h (slice_index key_indices index))) a (slice_index readers index) b
+-- such a writer of a key behind a, by a reader of the key
+abbrev pub IsSingleBy : History → List ℕ → ℕ → List ℕ → ℕ → ℕ → Type 0
+IsSingleBy h positions a x c b = IsSingle h positions (writers h x) a c b
 
--- so by one of the readings of a
-pub record IsSingleOf (h : History) (positions : List ℕ) (a : ℕ) (b : ℕ) : Type 0 where
-  pub reader : ℕ
-  pub key : List ℕ
-  pub read : IsReadsPair h a reader key
-  pub single : IsSingle h positions (writers h key) a reader b
+-- such a writer by one of the readings of a
+abbrev pub IsSingleOf : History → List ℕ → ℕ → ℕ → Type 0
+IsSingleOf h positions a b = IsByReading h a (IsSingleBy h positions a) b
 
 -- the axiom of single pairs is broken at one of the first transactions
 abbrev pub IsBrokenBelow : History → List ℕ → ℕ → ℕ × ℕ → Type 0

@@ -15,10 +15,12 @@ use Rattle.tcc_check.specs.Verdicts.{IsVerdict}
 use Rattle.tcc_check.specs.declared.judgement.Judgement.{Judgement}
 use Rattle.tcc_check.specs.declared.stream_fault.StreamFault.{StreamFault}
 use Rattle.tcc_check.specs.declared.stream_fault.StreamFault.TheVariants.{Text, NoMemory}
+use Rattle.tcc_check.specs.declared.verdict.Rule.{Rule}
 use Rattle.tcc_check.specs.declared.verdict.Rule.TheVariants.{Sizes}
 use Rattle.tcc_check.specs.declared.verdict.Verdict.{Verdict}
 use Rattle.tcc_check.specs.declared.verdict.Verdict.TheVariants as verdict
-use Rattle.tcc_judge.specs.Verdicts.{IsVerdictOf, rules_of}
+use Rattle.tcc_check.specs.Asked.{IsVerdictOf}
+use Rattle.tcc_judge.specs.Verdicts.{rules_of}
 use Rattle.tcc_large_check.specs.LargeChecks.{IsTextFault, large_claim_of}
 use Rattle.tcc_large_check.specs.declared.judgement.LargeJudgement.{LargeJudgement}
 use Rattle.tcc_large_check.specs.declared.judgement.LargeJudgement.TheVariants as judgement
@@ -35,7 +37,7 @@ IsSizedHistory s (Small h) = KeepsLimits s × (h ≡ history s)
 IsSizedHistory s (Large h) = (KeepsLimits s → ⊥) × (h ≡ history s)
 
 -- the verdict on a certificate of version 1 or 2
-abbrev pub IsSizedVerdict : SizedGraph → Certificate → Verdict → Type 0
+abbrev pub IsSizedVerdict : SizedGraph → Certificate → Verdict Rule → Type 0
 IsSizedVerdict (Small h) c v = IsVerdict h c v
 IsSizedVerdict (Large h) c v = v ≡ verdict.Rejected Sizes (0, 0)
 

@@ -30,7 +30,6 @@ use Rattle.tcc_print.specs.Courses.{Contents, Gains, Said}
 use Rattle.tcc_print.specs.Large.{unproved}
 use Rattle.tcc_print.specs.Printed.{Prints, answered, device_line, memory_line, unresolved}
 use Rattle.tcc_print.specs.Statuses.{answer_status, code_of}
-use Rattle.tcc_print.specs.declared.last.Last.{Last}
 use Rattle.tcc_print.specs.declared.options.Options.{Options}
 use Rattle.tcc_print.specs.declared.status.Status.{Status}
 use Rattle.tcc_print.specs.declared.status.Status.TheVariants.{Anomaly, Device, Memory, ReadFaults}
@@ -131,15 +130,14 @@ outcome_links (outcome.Large h a) = answer_links a
 outcome_links (outcome.Proved h a claim) = answer_links a
 outcome_links (outcome.Cycle h labels links) = Some links.items
 
--- the course of a run, which keeps what was said last
-abbrev pub course : Options → Course Outcome (Last Outcome)
+-- the course of a run
+abbrev pub course : Options → Course Outcome
 course options = record {
   limits = Large;
   options = options;
   is_said = IsSaidOfSnapshot options;
   is_outcome = IsOutcome options.level;
   say = outcome_said options;
-  keeps = λ last said. said ≡ outcome_said options last.outcome;
 }
 
 -- ---- the certificate

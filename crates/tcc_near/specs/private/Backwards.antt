@@ -1,4 +1,4 @@
--- Distances by those of the transactions that pairs lead to.
+-- Walk lengths by those of the transactions that pairs lead to.
 use Rattle.std.specs.Prelude.{ℕ, ◌<◌, ◌≤◌, ◌≡◌, ◌≢◌, ◌⊎◌, ◌↔◌, true, min, List, [], length, slice_index, Contains}
 use Rattle.tcc_reads.specs.History.{History, count}
 use Rattle.tcc_graph.specs.Relations.{IsSessionPair, causal_pair}
@@ -7,7 +7,7 @@ use Rattle.tcc_graph.specs.Walks.{Leads}
 use Rattle.tcc_graph.specs.Tables.{row_of}
 use Rattle.tcc_graph.specs.declared.step.Step.{Step}
 use Rattle.tcc_near.specs.private.Breadth.{HasLengths}
-use Rattle.tcc_near.specs.declared.distances.TheConstants.{NONE}
+use Rattle.tcc_near.specs.declared.walk_lengths.TheConstants.{NONE}
 
 -- some steps, of this number, lead from one of these to c; none of them lead from one of these to itself
 abbrev pub IsLedFrom : History → (ℕ → Type 0) → ℕ → ℕ → Type 0
@@ -37,7 +37,7 @@ IsFromOn h a b = IsSessionPair h a b ⊎ (b ≡ a)
 abbrev pub AreOthers : History → ℕ → List ℕ → Type 0
 AreOthers h a numbers = (b : ℕ) → (causal_pair h a b ≡ true) ↔ IsNextOrOne h a numbers b
 
--- a row for each transaction, with the distances from it or with nothing
+-- a row for each transaction, with the lengths from it or with nothing
 pub record AreKnown (h : History) (rows : List (List ℕ)) : Type 0 where
   pub long : length rows ≡ count h
   pub each : (u : ℕ) → u < count h → (row_of rows u ≡ []) ⊎ HasLengths (causally h) u (row_of rows u)

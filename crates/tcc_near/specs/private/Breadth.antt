@@ -8,8 +8,8 @@ use Rattle.tcc_graph.specs.Walks.{IsReached, IsWalk}
 use Rattle.tcc_graph.specs.Tables.{row_of}
 use Rattle.tcc_graph.specs.declared.step.Step.{Step}
 use Rattle.tcc_bits.specs.Bits.{is_marked, words_for}
-use Rattle.tcc_near.specs.Distances.{IsShortest, IsWalkLength, least_in}
-use Rattle.tcc_near.specs.declared.distances.TheConstants.{NONE}
+use Rattle.tcc_near.specs.WalkLengths.{IsShortest, IsWalkLength, least_in}
+use Rattle.tcc_near.specs.declared.walk_lengths.TheConstants.{NONE}
 use Rattle.tcc_txn.specs.declared.limits.TheConstants.{MAX_COUNT}
 
 -- the marks of a number, and none past the table
@@ -22,7 +22,7 @@ pub record IsSessionEnd (h : History) (u : ℕ) (end : ℕ) : Type 0 where
   pub few : end ≤ count h
   pub pairs : (v : ℕ) → IsSessionPair h u v ↔ ((u + 1 ≤ v) × (v < end))
 
--- so for each transaction
+-- of each transaction where the numbers end that session pairs lead to
 pub record AreEnds (h : History) (ends : List ℕ) : Type 0 where
   pub long : length ends ≡ count h
   pub each : (u : ℕ) → u < count h → IsSessionEnd h u (slice_index ends u)
@@ -71,23 +71,23 @@ pub record IsBoundFrom (h : History) (a : ℕ) (row : List ℕ) : Type 0 where
   pub long : length row ≡ count h
   pub reached : (b : ℕ) → IsReached h a b → slice_index row b ≢ NONE
 
--- the distance where it is at most n, and none where it is more
+-- the length where it is at most n, and none where it is more
 abbrev pub IsLengthWithin : History → ℕ → ℕ → ℕ → Option ℕ → Type 0
 IsLengthWithin h a n b None = IsWithin h a n b → ⊥
 IsLengthWithin h a n b (Some d) = (d ≤ n) × IsShortest (causally h) a b d
 
--- the row has each distance that is at most n
+-- the row has each length that is at most n
 pub record IsSearched (h : History) (a : ℕ) (n : ℕ) (row : List ℕ) : Type 0 where
   pub long : length row ≡ count h
   pub exact : (b : ℕ) → b < count h → IsLengthWithin h a n b (least_in row b)
 
--- the row has each distance
+-- the row has each length
 pub record HasLengths (j : Judged) (a : ℕ) (row : List ℕ) : Type 0 where
   pub long : length row ≡ count j.history
   pub exact : (b : ℕ) → b < count j.history → IsWalkLength j a b (least_in row b)
   pub short : (b : ℕ) (n : ℕ) → b < count j.history → least_in row b ≡ Some n → n ≤ count j.history
 
--- a row of distances for each transaction
+-- a row of lengths for each transaction
 pub record HaveLengths (j : Judged) (rows : List (List ℕ)) : Type 0 where
   pub long : length rows ≡ count j.history
   pub each : (a : ℕ) → a < count j.history → HasLengths j a (row_of rows a)
@@ -100,24 +100,24 @@ IsSpread marks table IsOne b = (is_marked marks b ≡ true) ⊎ ((u : ℕ) × Is
 abbrev pub IsLedTo : History → List ℕ → (ℕ → Type 0) → ℕ → Type 0
 IsLedTo h marks IsOne b = (is_marked marks b ≡ true) ⊎ ((u : ℕ) × IsOne u × (causal_pair h u b ≡ true))
 
--- the distance of b once what is marked and had none got this one
+-- the length of b once what is marked and had none got this one
 abbrev pub numbered : List ℕ → List ℕ → ℕ → ℕ → ℕ
 numbered row marks distance b =
     if is_marked marks b && (slice_index row b == NONE) then distance else slice_index row b
 
--- how many numbers have no distance
+-- how many numbers have no length
 abbrev pub unnumbered : List ℕ → ℕ
 unnumbered row = count_by (λ distance. distance == NONE) row
 
--- the distance by walks of one step
+-- the length by walks of one step
 abbrev pub one_step : Bool → ℕ
 one_step mark = if mark then 1 else NONE
 
--- seen is what has a distance
+-- seen is what has a length
 abbrev pub IsSeen : List ℕ → List ℕ → Type 0
 IsSeen row seen = (b : ℕ) → b < length row → (is_marked seen b ≡ false) ↔ (slice_index row b ≡ NONE)
 
--- what is marked and had no distance has got this one: those are the fresh ones, and seen is what has a distance now
+-- what is marked and had no length has got this one: those are the fresh ones, and seen is what has a length now
 pub record IsRound (marks : List ℕ) (old : List ℕ) (new : List ℕ) (met : List ℕ) (found : List ℕ) (distance : ℕ) : Type 0 where
   pub each : (b : ℕ) → slice_index new b ≡ numbered old marks distance b
   pub fresh : (b : ℕ) → Contains found b ↔ ((is_marked marks b ≡ true) × (slice_index old b ≡ NONE))

@@ -3,7 +3,7 @@ use Rattle.std.specs.Prelude.{ℕ, ◌<◌, ◌≤◌, ◌≡◌, ◌⊎◌, ◌
 use Rattle.tcc_reads.specs.History.{History, count, place}
 use Rattle.tcc_graph.specs.Tables.{row_of}
 use Rattle.tcc_graph.specs.Clocks.{IsBehind, IsLast}
-use Rattle.tcc_near.specs.declared.distances.TheConstants.{NONE}
+use Rattle.tcc_near.specs.declared.walk_lengths.TheConstants.{NONE}
 
 -- the greatest place of a transaction below n of the session from which t is reached, or 0 where there is none
 pub record IsLastBelow (h : History) (t : ℕ) (session : ℕ) (n : ℕ) (last : ℕ) : Type 0 where

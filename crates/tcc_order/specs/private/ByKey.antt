@@ -11,7 +11,7 @@ pub record AreReadingsFrom (h : History) (a : ℕ) (readings : List (ℕ × ℕ)
   pub within : All (λ reading. reading.1 < length (keys h)) readings
   pub each : (c key_index : ℕ) → Contains readings (c, key_index) ↔ ((key_index < length (keys h)) × IsReadsPair h a c (key_at h key_index))
 
--- so for each transaction
+-- for each transaction a row of those who read from it
 pub record AreReadingRows (h : History) (rows : List (List (ℕ × ℕ))) : Type 0 where
   pub long : length rows ≡ count h
   pub each : (a : ℕ) → a < count h → AreReadingsFrom h a (row_of rows a)
@@ -44,7 +44,7 @@ AreAlike table readings others =
     → (k < length others) × (key_index_in readings k ≡ key_index_in others k)
     × (row_of table (reader_in readings k) ≡ row_of table (reader_in others k))
 
--- so of a and the transaction before it in its session
+-- a and the transaction before it in its session are read by readers of one row, key by key
 pub record IsLikeBefore (owners : List ℕ) (table : List (List ℕ)) (rows : List (List (ℕ × ℕ))) (a : ℕ) : Type 0 where
   pub more : 1 < a
   pub same : slice_index owners (a - 1) ≡ slice_index owners a

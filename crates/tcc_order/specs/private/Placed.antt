@@ -2,8 +2,8 @@
 use Rattle.std.specs.Prelude.{ℕ, ◌<◌, ◌≡◌, Bool, true, false, List}
 use Rattle.tcc_bits.specs.Bits.{is_marked}
 use Rattle.tcc_order.specs.private.Numbering.{IsFirstOf}
-use Rattle.tcc_order.specs.declared.placing.Placed.{Placed}
-use Rattle.tcc_order.specs.declared.placing.Placed.TheVariants as placed
+use Rattle.tcc_order.specs.declared.kahn.Placed.{Placed}
+use Rattle.tcc_order.specs.declared.kahn.Placed.TheVariants as placed
 
 -- x was not placed
 abbrev pub IsLeftOut : ℕ → List ℕ → ℕ → Type 0

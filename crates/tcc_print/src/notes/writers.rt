@@ -3,7 +3,7 @@
 use std::alloc::Global;
 use tcc_answer::pieces::push;
 use tcc_reads::{ReadFault, ReadFaultKind};
-use tcc_txn::{Name, NoMemory, Op, Txn};
+use tcc_txn::{Bounds, Name, NoMemory, Op, Recorded, SnapshotWithin};
 
 /// Where a write stands: its session, the place of its transaction there and its own in the transaction, from 1.
 #[derive(Clone, Copy)]
@@ -14,35 +14,54 @@ struct Standing {
 }
 
 /// Whether the operation writes the value at the key.
-fn writes(op: &Op, key: Name, value: u64) -> bool {
+fn writes(op: Op, key: Name, value: u64) -> bool {
     match op {
         Op::Put {
             key: written,
             value: other,
-        } => *written == key && *other == value,
+        } => written == key && other == value,
         Op::Get { .. } => false,
     }
 }
 
-/// The first write of the value at the key in the transactions of a session.
-fn write_among(session: Name, txns: &[Txn], key: Name, value: u64) -> Option<Standing> {
-    for (before, txn) in txns.iter().enumerate() {
-        if let Some(op) = txn.ops().iter().position(|op| writes(op, key, value)) {
+/// The first write of the value at the key in a transaction: its place there, from 1.
+fn write_in(txn: &Recorded, key: Name, value: u64) -> Option<usize> {
+    for index in 0..txn.len() {
+        if writes(txn.op(index)?, key, value) {
+            return Some(index + 1);
+        }
+    }
+    None
+}
+
+/// The first write of the value at the key in the transactions of the session at this index.
+fn write_among<B: Bounds>(
+    snapshot: &SnapshotWithin<B>,
+    session: u32,
+    key: Name,
+    value: u64,
+) -> Option<Standing> {
+    for place in 0..snapshot.finished(session) {
+        let txn = snapshot.recorded(session, place)?;
+        if let Some(op) = write_in(&txn, key, value) {
             return Some(Standing {
-                session,
-                place: before + 1,
-                op: op + 1,
+                session: *snapshot.name(session)?,
+                place: place + 1,
+                op,
             });
         }
     }
     None
 }
 
-/// The first write of the value at the key in these sessions, one after the other.
-fn first_write(sessions: &[(Name, Vec<Txn>)], key: Name, value: u64) -> Option<Standing> {
-    sessions
-        .iter()
-        .find_map(|(session, txns)| write_among(*session, txns, key, value))
+/// The first write of the value at the key in the sessions, one after the other.
+fn first_write<B: Bounds>(snapshot: &SnapshotWithin<B>, key: Name, value: u64) -> Option<Standing> {
+    for session in 0..snapshot.sessions() {
+        if let Some(found) = write_among(snapshot, session, key, value) {
+            return Some(found);
+        }
+    }
+    None
 }
 
 /// What is said of the write that stands there.
@@ -57,14 +76,14 @@ fn about(kind: ReadFaultKind) -> &'static str {
     }
 }
 
-/// Adds which write of these sessions the fault is about.
-pub(super) fn push_writer(
+/// Adds which write of the snapshot the fault is about.
+pub(super) fn push_writer<B: Bounds>(
     alloc: Global,
     text: &mut Vec<u8>,
-    sessions: &[(Name, Vec<Txn>)],
+    snapshot: &SnapshotWithin<B>,
     fault: &ReadFault,
 ) -> Result<(), NoMemory> {
-    let Some(write) = first_write(sessions, fault.key, fault.value) else {
+    let Some(write) = first_write(snapshot, fault.key, fault.value) else {
         return push(text, &[b"nobody wrote it"]);
     };
     let place = write.place.to_string(alloc)?;

@@ -1,15 +1,16 @@
 -- What the resolver finds out about the operations, in the terms of its
 -- table of first writes. That this is what Faults and Sources say is proved.
-use Rattle.std.specs.Prelude.{ℕ, ◌≡◌, Bool, ◌&&◌, ◌==◌, not, if◌then◌else◌, List, []}
+use Rattle.std.specs.Prelude.{ℕ, ◌≡◌, ◌<◌, ◌≤◌, nat_lt, slice_index_or, true, false, Bool, ◌&&◌, ◌==◌, not, if◌then◌else◌, List, []}
 use Rattle.std.specs.Prelude.{◌∷◌, ◌++◌, map, filter, filter_map, flat_map, find, length, ◌+◌, Option, None, Some}
 use Rattle.std.specs.Prelude.{option_map}
+use Rattle.std.specs.Option.{option_and_then}
 use Rattle.std.specs.List.{list_any, AllAdjacentBelow}
+use Rattle.std.specs.List.Sorted.{IsPartitionPoint}
 use Rattle.std.specs.Ordering.{nat_cmp, ordering_then}
 use Rattle.std.specs.declared.cmp.Ordering.{Ordering}
 use Rattle.std.specs.declared.cmp.Ordering.TheVariants.{Less}
 use Rattle.std.specs.BTreeMap as tree
 use Rattle.std.specs.BTreeMap.{BTreeMap}
-use Rattle.std.specs.Str.{bytes_eq}
 use Rattle.tcc_txn.specs.declared.op.Op.{Op}
 use Rattle.tcc_txn.specs.declared.op.Op.TheVariants.{Get, Put}
 use Rattle.tcc_reads.specs.declared.fault.ReadFault.{ReadFault}
@@ -21,6 +22,7 @@ use Rattle.tcc_reads.specs.declared.judging.OpJudgement.TheVariants.{Faulty, Rea
 use Rattle.tcc_reads.specs.History.{Entry}
 use Rattle.tcc_reads.specs.Sites.{Stand, Site, at, sites_of}
 use Rattle.tcc_reads.specs.private.Numbers.{Numbered}
+use Rattle.tcc_reads.specs.private.KeyIndices.{index_of, key_index}
 use Rattle.tcc_reads.specs.Sources.{puts_at, visible_write, name_cmp, pair_cmp, sorted_once, writes_of as keys_written}
 use Rattle.tcc_reads.specs.Faults.{puts}
 use Rattle.tcc_txn.specs.Transactions.{op_key, op_value}
@@ -54,17 +56,26 @@ first_writer (n ∷ later) x v = first_in n [] n.stand.txn.ops x v (first_writer
 abbrev pub Writes : Type 0
 Writes = List ℕ → ℕ → Option Writer
 
--- whether a write is of this value at this key
-abbrev pub is_of : List ℕ → ℕ → Write → Bool
-is_of x v write = bytes_eq write.key x && (write.value == v)
+-- keys, and writes at them: a write has the index of its key
+pub record Table : Type 0 where
+  pub keys : List (List ℕ)
+  pub writes : List Write
 
--- the writers in a list of writes: of those of a value at a key the first
-abbrev pub writers_in : List Write → Writes
-writers_in table x v = option_map (λ write. write.writer) (find (is_of x v) table)
+-- whether a write is of this value at the key of this index
+abbrev pub is_of : ℕ → ℕ → Write → Bool
+is_of k v write = (write.key == k) && (write.value == v)
 
--- a write and one of this value at this key, by value, then by key
-abbrev pub spot_cmp : Write → List ℕ → ℕ → Ordering
-spot_cmp write x v = ordering_then (nat_cmp write.value v) (name_cmp write.key x)
+-- the writer in a list of writes: of those of a value at the key of an index the first
+abbrev pub writer_of : List Write → ℕ → ℕ → Option Writer
+writer_of writes k v = option_map (λ write. write.writer) (find (is_of k v) writes)
+
+-- the writers in a table
+abbrev pub writers_in : Table → Writes
+writers_in table x v = option_and_then (λ k. writer_of table.writes k v) (index_of table.keys x)
+
+-- a write and one of this value at the key of this index, by key, then by value
+abbrev pub spot_cmp : Write → ℕ → ℕ → Ordering
+spot_cmp write k v = ordering_then (nat_cmp write.key k) (nat_cmp write.value v)
 
 abbrev pub write_cmp : Write → Write → Ordering
 write_cmp one other = spot_cmp one other.key other.value
@@ -73,19 +84,31 @@ write_cmp one other = spot_cmp one other.key other.value
 abbrev pub AreApart : List Write → Type 0
 AreApart writes = AllAdjacentBelow (λ one other. write_cmp one other ≡ Less) writes (length writes)
 
--- the writes of a transaction among these operations, in order
-abbrev pub writes_from : Numbered → List Op → List Op → List Write
-writes_from n before [] = []
-writes_from n before (Get key value ∷ after) = writes_from n (before ++ Get key value ∷ []) after
-writes_from n before (Put key value ∷ after) =
-    record { value = value; key = key; writer = writer_at n before key after } ∷ writes_from n (before ++ Put key value ∷ []) after
+-- whether a write is of a lower key
+abbrev pub is_below : ℕ → Write → Bool
+is_below k write = nat_lt write.key k
 
-abbrev pub writes_of : Numbered → List Write
-writes_of n = writes_from n [] n.stand.txn.ops
+-- sorted writes of lower keys stand before this index, and no others
+abbrev pub IsStart : List Write → ℕ → ℕ → Type 0
+IsStart writes k i = (i ≤ length writes) × IsPartitionPoint (λ write. is_below k write ≡ true) (λ write. is_below k write ≡ false) writes i
+
+-- where the writes of each key begin
+abbrev pub AreStarts : List ℕ → List Write → Type 0
+AreStarts starts writes = (k : ℕ) → k < length starts → IsStart writes k (slice_index_or starts k 0)
+
+-- the writes of a transaction among these operations, in order
+abbrev pub writes_from : List (List ℕ) → Numbered → List Op → List Op → List Write
+writes_from keys n before [] = []
+writes_from keys n before (Get key value ∷ after) = writes_from keys n (before ++ Get key value ∷ []) after
+writes_from keys n before (Put key value ∷ after) =
+    record { value = value; key = key_index keys key; writer = writer_at n before key after } ∷ writes_from keys n (before ++ Put key value ∷ []) after
+
+abbrev pub writes_of : List (List ℕ) → Numbered → List Write
+writes_of keys n = writes_from keys n [] n.stand.txn.ops
 
 -- the writes of these transactions, in order
-abbrev pub all_writes : List Numbered → List Write
-all_writes ns = flat_map writes_of ns
+abbrev pub all_writes : List (List ℕ) → List Numbered → List Write
+all_writes keys ns = flat_map (writes_of keys) ns
 
 -- the table has the first writes of these transactions
 abbrev pub AreFirstWriters : Writes → List Numbered → Type 0

@@ -59,10 +59,6 @@ Follows level s last = HasEarlier level s last.outcome
 abbrev pub certificate_kept : Option Answer → Option (List ℕ)
 certificate_kept kept = option_map (λ a. certificate_text (certificate_of a)) kept
 
--- the status and the certificate of what was said are those of the answer that is kept, where so many transactions are required
-abbrev pub Keeps : ℕ → Said → Option Answer → Type 0
-Keeps required said kept = (said.status ≡ last_status required kept) × (said.certificate ≡ certificate_kept kept)
-
 -- how it goes out, and how a run ends whose last answer it is
 abbrev pub outcome_text : Bool → Outcome → List ℕ
 outcome_text json (outcome.Answered a) = answered json a
@@ -75,15 +71,14 @@ outcome_said options o = record {
   certificate = certificate_kept (answer_in o);
 }
 
--- the course of a run, which keeps its last answer
-abbrev pub course : Options → Course Outcome (Option Answer)
+-- the course of a run
+abbrev pub course : Options → Course Outcome
 course options = record {
   limits = Small;
   options = options;
   is_said = IsSaidOfSnapshot options;
   is_outcome = IsOutcome options.level;
   say = outcome_said options;
-  keeps = λ kept said. Keeps options.required said kept;
 }
 
 -- ---- the certificate

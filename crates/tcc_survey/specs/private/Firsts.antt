@@ -11,7 +11,7 @@ use Rattle.tcc_clocks.specs.declared.latest.TheConstants.{WIDE}
 abbrev pub IsFirstOf : History → (ℕ → Type 0) → ℕ → ℕ → Type 0
 IsFirstOf h Is session first = (b : ℕ) → 0 < b → b < count h → owner h b ≡ session → Is b ↔ (first ≤ b)
 
--- so for each session of the block that begins at `from`
+-- the row says of each session of the block that begins at `from` which is the first that is meant
 pub record AreFirstOf (h : History) (Is : ℕ → Type 0) (from : ℕ) (row : List ℕ) : Type 0 where
   pub wide : length row ≡ WIDE
   pub each : (k : ℕ) → k < WIDE → IsFirstOf h Is (from + k) (slice_index row k)
@@ -33,7 +33,7 @@ pub record HasFirst (h : History) (from : ℕ) (IsDone : ℕ → Type 0) (table 
   pub long : length table ≡ count h
   pub each : (a : ℕ) → a < count h → IsDone a → AreFirstOf h (IsAfter h a) from (row_of table a)
 
--- so for all of them
+-- the rows of all transactions are worked out
 abbrev pub AreFirsts : History → ℕ → List (List ℕ) → Type 0
 AreFirsts h from table = HasFirst h from (λ a. a < count h) table
 

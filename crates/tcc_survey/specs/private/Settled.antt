@@ -1,15 +1,17 @@
 -- Which writers contradict a read, by the rows of a block of sessions.
-use Rattle.std.specs.Prelude.{ℕ, ◌<◌, ◌≤◌, ◌+◌, ◌-◌, ◌≡◌, ◌⊎◌, true, List, length, take, drop, slice_index, slice_index_or, Contains}
+use Rattle.std.specs.Prelude.{ℕ, ◌<◌, ◌≤◌, ◌+◌, ◌-◌, ◌^◌, ◌≡◌, ◌⊎◌, true, List, length, take, drop, slice_index, slice_index_or, All, Contains}
 use Rattle.std.specs.List.Sorted.{IsNonDecreasing}
-use Rattle.tcc_reads.specs.History.{History, owner}
+use Rattle.tcc_reads.specs.History.{History, IsBySession, count, owner}
 use Rattle.tcc_graph.specs.Relations.{causal_pair, IsReadsPair}
 use Rattle.tcc_graph.specs.Keys.{keys, key_at, writers}
 use Rattle.tcc_graph.specs.Levels.{Judged}
 use Rattle.tcc_graph.specs.Walks.{IsReached}
 use Rattle.tcc_graph.specs.declared.level.Level.{Level}
 use Rattle.tcc_graph.specs.declared.level.Level.TheVariants as level
+use Rattle.tcc_clocks.specs.Clocks.{AreOwners, AreClocks}
 use Rattle.tcc_clocks.specs.declared.latest.TheConstants.{WIDE}
-use Rattle.tcc_survey.specs.declared.reading.Reading.{Reading}
+use Rattle.tcc_survey.specs.private.Firsts.{AreFirsts}
+use Rattle.tcc_survey.specs.declared.external_reads.Reading.{Reading}
 use Rattle.tcc_survey.specs.Contradictions.{IsContradictedBy}
 
 -- the least number that is one of those meant, or 0 where there is none; 0 itself isn't meant
@@ -40,6 +42,26 @@ abbrev pub IsHitIn : Judged → List ℕ → ℕ → ℕ → ℕ → List ℕ �
 IsHitIn j owners session low high among c b =
     (0 < b) × Contains among b × (slice_index owners b ≡ session) × (low ≤ b) × (b ≤ high) × IsKnown j.level j.history b c
 
+-- the block that begins at `from`, with the clocks of its sessions both ways
+pub record IsBlock (h : History) (owners : List ℕ) (from : ℕ) (firsts clocks : List (List ℕ)) : Type 0 where
+  pub numbered : IsBySession h.entries
+  pub room : from + WIDE < 2 ^ 32
+  pub acyclic : IsAcyclic h
+  pub owned : AreOwners h owners
+  pub first : AreFirsts h from firsts
+  pub clock : AreClocks h from clocks
+
+-- these, which rise, are transactions, and so is c; the rows are as wide as a block
+pub record MayHit (h : History) (owners : List ℕ) (from : ℕ) (first clock among : List ℕ) (c : ℕ) : Type 0 where
+  pub numbered : IsBySession h.entries
+  pub owned : AreOwners h owners
+  pub room : from + WIDE < 2 ^ 32
+  pub inside : All (λ b. b < count h) among
+  pub rising : IsNonDecreasing among
+  pub first_wide : length first ≡ WIDE
+  pub clock_wide : length clock ≡ WIDE
+  pub reader : c < count h
+
 -- some writers of the key, and all that are of the block; they rise
 pub record AreWritersIn (h : History) (from : ℕ) (x : List ℕ) (among : List ℕ) : Type 0 where
   pub listed : (b : ℕ) → Contains among b → Contains (writers h x) b
@@ -59,10 +81,11 @@ pub record IsReading (h : History) (r : Reading) : Type 0 where
   pub key : r.key_index < length (keys h)
   pub pair : IsReadsPair h r.source r.reader (key_at h r.key_index)
 
--- so for each of these
+-- the read at an index
 abbrev pub reading_of : List Reading → ℕ → Reading
 reading_of all k = slice_index_or all k (record { reader = 0; index = 0; key_index = 0; source = 0 })
 
+-- each of these reads what it says
 abbrev pub AreReads : History → List Reading → Type 0
 AreReads h all = (k : ℕ) → k < length all → IsReading h (reading_of all k)
 

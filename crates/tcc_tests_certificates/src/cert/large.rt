@@ -1,31 +1,28 @@
 //! Certificates of version 3, and readers that are picked by the first line.
 use super::streams::Failing;
 use super::texts::{NO_CLOCKS, STALE_READ, STALE_READ_UPWARD, altered};
-use super::{halves, line_begun, number};
-use std::alloc::{AllocError, Global};
-use std::io::Read;
-use std::process::Abort;
+use super::{assert_fault, halves, line_begun, number, outcome};
 use std::test::Fail;
 use tcc_cert::{CertFaultKind, VersionReader, read_large, reader_of, write_large};
 
-pub const NO_RUNS: &str = "tcc-certificate 3 causal\norder 1 0 0\nend\n";
+const NO_RUNS: &str = "tcc-certificate 3 causal\norder 1 0 0\nend\n";
 
-pub const RUNS: &str = "tcc-certificate 3 causal\norder 11 2 3\n0 4\n1 5\n0 1\nend\n";
+const RUNS: &str = "tcc-certificate 3 causal\norder 11 2 3\n0 4\n1 5\n0 1\nend\n";
 
-pub const LEAST_STALE_READ: &str =
+const LEAST_STALE_READ: &str =
     "tcc-certificate 3 causal\ncycle 3 2 3\nS 0 1\nD 1 0 x 2 1\nS 1 2\nleast 0\nend\n";
 
-pub const NO_LEAST: &str =
+const NO_LEAST: &str =
     "tcc-certificate 3 atomic\ncycle 4 2 4\nD 1 2 x 3 1\nR 1 3 x\nD 2 1 x 3 1\nR 2 3 x\nend\n";
 
-pub const FIVE_STEPS: &str = "tcc-certificate 3 causal\ncycle 5 2 5\nS 0 1\nD 1 0 x 4 3\nR 1 2 x\n\
+const FIVE_STEPS: &str = "tcc-certificate 3 causal\ncycle 5 2 5\nS 0 1\nD 1 0 x 4 3\nR 1 2 x\n\
     R 2 3 y\nS 3 4\nleast 3\n0 1\n1 1\n2 2\nend\n";
 
 /// The greatest numbers that a text may have.
 const GREATEST: &str = "tcc-certificate 3 atomic\ncycle 1048576 1 4294967295\n\
     R 1048575 1048575 x\nleast 1\n65534 1048575\nend\n";
 
-pub const TEXTS: [&str; 6] = [
+const TEXTS: [&str; 6] = [
     NO_RUNS,
     RUNS,
     LEAST_STALE_READ,
@@ -33,20 +30,6 @@ pub const TEXTS: [&str; 6] = [
     FIVE_STEPS,
     GREATEST,
 ];
-
-/// A reader's text has this fault first.
-fn assert_fault(
-    rt: &impl Abort,
-    alloc: Global,
-    reader: impl Read + Drop,
-    line: u64,
-    kind: CertFaultKind,
-) {
-    match read_large(alloc, reader) {
-        Ok(_) => panic!(rt; "a certificate is read"),
-        Err(fault) => assert_eq!(rt; (fault.line, fault.kind), (line, kind)),
-    }
-}
 
 // What was read is written as it was.
 #[test]
@@ -71,21 +54,23 @@ fn cut_texts(rt: HostRuntime) {
         for count in 0..text.len() {
             let part = &text.as_bytes()[..count];
             let line = line_begun(part);
-            assert_fault(&rt, rt.alloc(), part, line, CertFaultKind::Truncated);
+            assert_fault(
+                &rt,
+                read_large(rt.alloc(), part),
+                line,
+                CertFaultKind::Truncated,
+            );
             let reader = Failing {
                 text: part,
                 most: 10,
             };
-            assert_fault(&rt, rt.alloc(), reader, line, CertFaultKind::Read);
+            assert_fault(
+                &rt,
+                read_large(rt.alloc(), reader),
+                line,
+                CertFaultKind::Read,
+            );
         }
-    }
-}
-
-/// What comes of a text: that it is taken, or the line and the kind of its fault.
-fn outcome(alloc: Global, text: &[u8]) -> Result<String, AllocError> {
-    match read_large(alloc, text) {
-        Ok(_) => format!(in alloc; "taken"),
-        Err(fault) => format!(in alloc; "{} {:?}", fault.line, fault.kind),
     }
 }
 
@@ -142,7 +127,7 @@ fn altered_lines(rt: HostRuntime) -> Result<(), Fail> {
         let (line, rest) = halves(&rt, row, ':');
         let (wanted, other) = halves(&rt, rest, '|');
         let changed = altered(alloc, FIVE_STEPS, number(&rt, line), other)?;
-        let found = outcome(alloc, changed.as_slice())?;
+        let found = outcome(alloc, read_large(alloc, changed.as_slice()))?;
         assert_eq!(&rt; found.as_str(), wanted, "for {other:?} at {line}");
     }
     Ok(())
@@ -156,7 +141,7 @@ fn long_lines(rt: HostRuntime) -> Result<(), Fail> {
         let mut text = b"tcc-certificate 3 causal\n".as_slice().to_vec(alloc)?;
         text.extend_from_slice(vec![in alloc; b'a'; count]?.as_slice())?;
         text.push(b'\n')?;
-        assert_fault(&rt, alloc, text.as_slice(), 2, kind);
+        assert_fault(&rt, read_large(alloc, text.as_slice()), 2, kind);
     }
     Ok(())
 }

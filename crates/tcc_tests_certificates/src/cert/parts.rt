@@ -12,7 +12,7 @@ use tcc_cert::{CertReader, Part};
 use tcc_graph::Link;
 
 /// Where a link begins and ends.
-pub fn ends(link: &Link) -> [u32; 2] {
+fn ends(link: &Link) -> [u32; 2] {
     match link {
         Link::Session { from, to }
         | Link::Reads { from, to, .. }
@@ -84,7 +84,7 @@ fn stop(rt: &impl Abort, alloc: Global, reader: impl Read + Drop) -> Result<Stri
 }
 
 /// The lines before this one, counted from 1.
-pub fn begun(text: &[u8], line: usize) -> &[u8] {
+fn begun(text: &[u8], line: usize) -> &[u8] {
     let mut left = line;
     for (index, byte) in text.iter().enumerate() {
         if left <= 1 {

@@ -54,7 +54,7 @@ fn the_end_is_flushed(rt: HostRuntime) -> Result<(), Fail> {
 }
 
 /// Once a call has answered that a write failed, each later one does.
-pub fn note(rt: &impl Abort, has_failed: &mut bool, answer: Result<(), CertWriteFault>) {
+fn note(rt: &impl Abort, has_failed: &mut bool, answer: Result<(), CertWriteFault>) {
     if *has_failed {
         assert_eq!(rt; answer, Err(CertWriteFault::Device));
     }

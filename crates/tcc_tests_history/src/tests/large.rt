@@ -68,6 +68,7 @@ fn a_small_graph_as_a_large_one(rt: HostRuntime) -> Result<(), Fail> {
     let graph: Graph = graph_of(&rt, alloc, "a,begin\na,w,x,1\na,commit\n");
     let large: &LargeGraph = &graph;
     assert_eq!(rt; large.count(), 2);
-    assert_names(&rt, large.writes(1), &["x"]);
+    assert_names(&rt, large.keys(), &["x"]);
+    assert_eq!(rt; large.writes_at(1).first().copied(), Some(0));
     Ok(())
 }

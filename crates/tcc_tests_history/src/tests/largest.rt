@@ -119,6 +119,6 @@ fn resolves_as_many_transactions_as_there_may_be(rt: HostRuntime) -> Result<(), 
         panic!(rt; "no graph");
     };
     assert_eq!(rt; graph.count(), 1_048_576);
-    assert_eq!(rt; graph.readings(0).0.len(), 1_048_575);
+    assert_eq!(rt; graph.readings_at(0).0.len(), 1_048_575);
     Ok(())
 }

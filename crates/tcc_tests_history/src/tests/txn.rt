@@ -11,8 +11,8 @@ use tcc_rows::{
     LargeRecording, Moment, Recording, RowFault, RowFaultKind, large_snapshot_of, snapshot_of,
 };
 use tcc_txn::{
-    LARGE_COUNT, LargeSnapshot, Limits, Name, NameFault, NoMemory, Op, Snapshot, SnapshotFault,
-    Txn, TxnFault,
+    Alike, LARGE_COUNT, LargeSnapshot, Limits, Name, NameFault, NoMemory, Op, Recorded, Snapshot,
+    SnapshotFault, Txn, TxnFault, are_same,
 };
 
 fn get(key: Name, value: u64) -> Op {
@@ -273,24 +273,76 @@ fn makes_large_snapshots(rt: HostRuntime) -> Result<(), Fail> {
             panic!(rt; "{count} sessions are refused");
         };
         assert_eq!(rt; large.sessions(), count);
-        assert_eq!(rt; large.parts().len(), count as usize);
-        assert!(rt; large.session(count).is_none());
-        match large.small() {
-            Ok(snapshot) => {
+        assert!(rt; large.name(count).is_none());
+        match large.small_copy(alloc)? {
+            Some(snapshot) => {
                 assert!(rt; is_small);
                 assert_eq!(rt; snapshot.parts().len(), count as usize);
-                assert_eq!(rt; snapshot.large().sessions(), count);
+                assert!(rt; snapshot.large().is_same(&large));
             }
-            Err(large) => {
+            None => {
                 assert!(rt; !is_small);
-                let Some((first, txns)) = large.session(0) else {
-                    panic!(rt; "no session");
-                };
-                assert_eq!(rt; first.bytes(), "s0".as_bytes());
-                assert_eq!(rt; txns.len(), transactions);
+                assert!(rt;
+                    large
+                        .name(0)
+                        .is_some_and(|first| first.bytes() == "s0".as_bytes())
+                );
+                assert_eq!(rt; large.finished(0), transactions);
             }
         }
     }
+    Ok(())
+}
+
+// The first transaction of session b, of two that it finished: it wrote 1 at x and read 0 at y.
+fn assert_recorded(rt: &impl Abort, alloc: Global, recorded: &Recorded<'_>) -> Result<(), Fail> {
+    assert!(rt; recorded.committed());
+    assert_eq!(rt; recorded.len(), 2);
+    let written = put(name(rt, "x"), 1);
+    assert!(rt; recorded.op(0).is_some_and(|op| op.is_same(&written)));
+    assert!(rt; recorded.op(2).is_none());
+    let mut ops = vec![in alloc; written]?;
+    recorded.fill(&mut ops)?;
+    assert!(rt; are_same(&ops, &[written, get(name(rt, "y"), 0)]));
+    let txn = recorded.to_txn(alloc)?;
+    assert!(rt; are_same(txn.ops(), &ops));
+    assert!(rt; txn.recorded().is_same(recorded));
+    Ok(())
+}
+
+#[test]
+fn reads_recorded_transactions(rt: HostRuntime) -> Result<(), Fail> {
+    let alloc = rt.alloc();
+    let text =
+        "b,begin\nb,w,x,1\nb,r,y,0\nb,commit\na,begin\na,r,x,1\na,abort\nb,begin\nb,commit\n";
+    let Ok(snapshot) = large_snapshot_of(alloc, text.as_bytes()) else {
+        panic!(rt; "two sessions are refused");
+    };
+    for (i, wanted, finished) in [(0, "a", 1), (1, "b", 2)] {
+        assert!(rt;
+            snapshot
+                .name(i)
+                .is_some_and(|name| name.bytes() == wanted.as_bytes())
+        );
+        assert_eq!(rt; snapshot.finished(i), finished);
+        assert!(rt; snapshot.recorded(i, finished).is_none());
+    }
+    assert!(rt; snapshot.name(2).is_none());
+    assert_eq!(rt; snapshot.finished(2), 0);
+    assert!(rt;
+        snapshot
+            .recorded(0, 0)
+            .is_some_and(|recorded| !recorded.committed() && recorded.len() == 1)
+    );
+    match snapshot.recorded(1, 0) {
+        Some(recorded) => assert_recorded(&rt, alloc, &recorded)?,
+        None => panic!(rt; "no first transaction of b"),
+    }
+    let Some(small) = snapshot.small_copy(alloc)? else {
+        panic!(rt; "two sessions are no small snapshot");
+    };
+    small.keeps_limits();
+    assert!(rt; small.large().is_same(&snapshot));
     Ok(())
 }
 

@@ -1,5 +1,5 @@
 //! What the tests start from: worked histories as the texts of their records, and what is made of them.
-ghost use Rattle.tcc_near.specs.Distances.{IsNearOf};
+ghost use Rattle.tcc_near.specs.WalkLengths.{IsNearOf};
 ghost use Rattle.tcc_derive.specs.Prices.{IsPricesOf};
 ghost use Rattle.tcc_graph.specs.Levels.{judged};
 

@@ -5,13 +5,12 @@ use crate::tests::histories::{
 };
 use std::alloc::Global;
 use std::process::Abort;
-use tcc_graph::{Level, Link};
-use tcc_large::{
-    Decision, decide, explain_large, explain_large_with_order, is_cycle, records, slice,
-};
+use tcc_graph::{Level, Link, is_cycle};
+use tcc_large::{Decision, decide, explain_large, explain_large_with_order};
 use tcc_order::order;
 use tcc_reads::ResolveFault;
 use tcc_rows::snapshot_of;
+use tcc_slices::{records, slice};
 
 /// A read of the initial value in one session, which knows of the writer in another by two sessions between.
 const FAR_INIT: &str = "a,begin\na,w,x,1\na,commit\na,begin\na,w,y,1\na,commit\n\

@@ -5,12 +5,10 @@ use Rattle.std.specs.Ordering.{is_lt, nat_cmp}
 use Rattle.std.specs.Cmp.Lexicographic.{slice_cmp}
 use Rattle.std.specs.Coded.{Coded, code_by, coded×, coded_list, coded_ℕ, coded_bool}
 use Rattle.std.specs.FinMap as map
-use Rattle.std.specs.Global.{Vec}
 use Rattle.tcc_txn.specs.Transactions.{Transaction}
-use Rattle.tcc_txn.specs.Snapshots.{Sessions, parts_of}
+use Rattle.tcc_txn.specs.Snapshots.{Sessions}
 use Rattle.tcc_txn.specs.Limits.{most_sessions, most_transactions}
 use Rattle.tcc_txn.specs.declared.limits.Limits.{Limits}
-use Rattle.tcc_txn.specs.declared.limits.Limits.TheVariants.{Small}
 use Rattle.tcc_txn.specs.declared.op.Op.{Op}
 use Rattle.tcc_txn.specs.declared.op.Op.TheVariants.{Get, Put}
 
@@ -38,8 +36,8 @@ abbrev pub sessions_code : Coded Sessions
 sessions_code = map.code (coded_list coded_ℕ) (coded_list transaction_code)
 
 -- the map that sorted parts show
-abbrev pub shown : List (List ℕ × Vec Transaction) → Sessions
-shown parts = map.from_sorted (parts_of parts)
+abbrev pub shown : List (List ℕ × List Transaction) → Sessions
+shown parts = map.from_sorted parts
 
 -- how many parts stand before the session in byte order
 abbrev pub index_in : {X : Type 0} → List ℕ → List (List ℕ × X) → ℕ
@@ -51,15 +49,7 @@ abbrev pub StandsAt : {X : Type 0} → List (List ℕ × X) → List ℕ → ℕ
 StandsAt {X} parts session at = (at < length parts) × ((d : List ℕ × X) → (slice_index_or parts at d).0 ≡ session)
 
 -- the names strictly rise; there are not too many of them, and not too many transactions in all
-pub record IsStoredWithin (limits : Limits) (parts : List (List ℕ × Vec Transaction)) : Type 0 where
-  pub sorted : T (map.is_sorted (slice_cmp nat_cmp) (parts_of parts))
+pub record IsStoredWithin (limits : Limits) (parts : List (List ℕ × List Transaction)) : Type 0 where
+  pub sorted : T (map.is_sorted (slice_cmp nat_cmp) parts)
   pub few : length parts ≤ most_sessions limits
-  pub short : sum_by (λ part. length part.1.items) parts ≤ most_transactions limits
-
-abbrev pub IsStored : List (List ℕ × Vec Transaction) → Type 0
-IsStored = IsStoredWithin Small
-
--- parts as they are stored, with the count of transactions beside them
-pub record IsCounted (limits : Limits) (parts : List (List ℕ × Vec Transaction)) (transactions : ℕ) : Type 0 where
-  pub stored : IsStoredWithin limits parts
-  pub counted : transactions ≡ sum_by (λ part. length part.1.items) parts
+  pub short : sum_by (λ part. length part.1) parts ≤ most_transactions limits

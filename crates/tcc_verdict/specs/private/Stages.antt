@@ -1,5 +1,5 @@
 -- How the stages of a check follow one another.
-use Rattle.std.specs.Prelude.{ℕ, ◌≡◌, ◌⊎◌, List, None, Some, Result, Ok, Err}
+use Rattle.std.specs.Prelude.{ℕ, ◌≡◌, ◌⊎◌, List, None, Some, Result, Err}
 use Rattle.tcc_rows.specs.Answers.{answers_within, records_within}
 use Rattle.tcc_rows.specs.Failing.{FailsAtWithin}
 use Rattle.tcc_rows.specs.Items.{finished_in}

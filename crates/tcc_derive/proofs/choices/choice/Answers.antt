@@ -5,7 +5,7 @@ use Rattle.tcc_graph.proofs.SortedKeys.{keys_sorted}
 use Rattle.tcc_derive.proofs.ChoiceLemmas.{IsBestChoice, choice_bound, nearer_key, no_nearer_key, choice_of}
 use Rattle.tcc_derive.proofs.choices.choice.Goals.{in-Some+then-distance-least, in-Some+else-distance-least, in_default}
 use Rattle.tcc_derive.proofs.choices.choice.Goals as goal
-use Rattle.tcc_near.specs.declared.distances.TheConstants.{NONE}
+use Rattle.tcc_near.specs.declared.walk_lengths.TheConstants.{NONE}
 
 pub loop-key-preserved : goal.loop-key-preserved
 loop-key-preserved c =

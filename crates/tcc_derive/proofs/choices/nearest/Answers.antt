@@ -3,7 +3,7 @@ use Rattle.std.proofs.lemmas.List.{get_or_default, take_all}
 use Rattle.tcc_derive.proofs.ChoiceLemmas.{IsBest, nearer, no_nearer, nearest_of}
 use Rattle.tcc_derive.proofs.choices.nearest.Goals.{then-count-least, else-count-least}
 use Rattle.tcc_derive.proofs.choices.nearest.Goals as goal
-use Rattle.tcc_near.specs.declared.distances.TheConstants.{NONE}
+use Rattle.tcc_near.specs.declared.walk_lengths.TheConstants.{NONE}
 
 pub loop-reader-preserved : goal.loop-reader-preserved
 loop-reader-preserved c =

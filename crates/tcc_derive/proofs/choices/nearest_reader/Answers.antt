@@ -7,7 +7,7 @@ use Rattle.tcc_derive.specs.private.Choices.{IsNearest, IsNearestReader}
 use Rattle.tcc_derive.proofs.ChoiceLemmas.{readers_sorted, readers_below, reads_reader, writes_not, nearest_reader_of}
 use Rattle.tcc_derive.proofs.choices.nearest_reader.Goals.{then-b-a-via-then-b-a, then-b-a-via-else-b-a+then-not-contains}
 use Rattle.tcc_derive.proofs.choices.nearest_reader.Goals as goal
-use Rattle.tcc_near.specs.declared.distances.TheConstants.{NONE}
+use Rattle.tcc_near.specs.declared.walk_lengths.TheConstants.{NONE}
 
 pub returns-then-b-a : goal.returns-then-b-a
 returns-then-b-a c = elim c.then-b-a.branch [

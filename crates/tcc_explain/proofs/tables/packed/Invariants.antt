@@ -1,6 +1,6 @@
 -- the rows so far
 use Rattle.std.proofs.Common.{◌≡◌, map}
-use Rattle.tcc_packed.specs.Packed.{value_in}
+use Rattle.tcc_bits.specs.Packed.{value_in}
 use Rattle.tcc_explain.proofs.tables.packed.Given as goal
 
 abbrev pub invariant-loop-row : goal.invariant-loop-row

@@ -1,6 +1,5 @@
-use Rattle.std.proofs.Common.{take}
 use Rattle.tcc_graph.specs.private.ReadTables.{AreIndexed}
 use Rattle.tcc_graph.proofs.indexed.indexed_by.Given as goal
 
 abbrev pub invariant-loop-transaction : goal.invariant-loop-transaction
-invariant-loop-transaction l = AreIndexed l.keys (take l.transaction-index l.transactions) l.indexed.items
+invariant-loop-transaction l = AreIndexed l.keys l.yielded l.indexed.items

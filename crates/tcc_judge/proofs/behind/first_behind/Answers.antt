@@ -1,14 +1,12 @@
-use Rattle.std.proofs.Common.{rules, ◌≡◌, ◌<◌, ◌≤◌, ◌+◌, ◌*◌, ◌∙◌, ℕ, None, length, replicate, ap, subst, arith}
+use Rattle.std.proofs.Common.{rules, ◌≡◌, ◌+◌, ◌*◌, ◌∙◌, ℕ, None, length, replicate, ap, subst, arith}
 use Rattle.std.proofs.lemmas.List.{length-replicate}
-use Rattle.tcc_reads.specs.History.{count, owner}
 use Rattle.tcc_graph.specs.Keys.{keys}
-use Rattle.tcc_graph.specs.Levels.{causally}
 use Rattle.tcc_cert.specs.Tables.{IsFirstAt}
 use Rattle.tcc_clocks.specs.declared.latest.TheConstants.{WIDE}
 use Rattle.tcc_judge.specs.declared.least.TheConstants.{NONE}
 use Rattle.tcc_judge.specs.private.Least.{IsFoundFirst}
 use Rattle.tcc_judge.specs.private.Behind.{IsBrokenIn}
-use Rattle.tcc_judge.proofs.BehindLemmas.{IsBrokenPast, broken_none, broken_more, broken_here, broken_all, blocks_cover}
+use Rattle.tcc_judge.proofs.BehindLemmas.{IsBrokenPast, broken_more, broken_here, broken_all, blocks_cover}
 use Rattle.tcc_judge.proofs.behind.first_behind.Goals as goal
 
 pub loop-block-init : goal.loop-block-init

@@ -1,5 +1,4 @@
 use Rattle.std.proofs.Common.{◌≡◌, ◌<◌, ◌+◌, ◌-◌, ℕ, length, get_or, refl, sym, subst, ◌∙◌, arith}
-use Rattle.tcc_reads.specs.History.{count}
 use Rattle.tcc_judge.specs.private.Least.{IsFoundFirst, IsLeastOf}
 use Rattle.tcc_judge.specs.private.NextWriters.{AreNextWriters}
 use Rattle.tcc_judge.specs.private.Behind.{IsBehindOf, IsBrokenFrom, first_with}

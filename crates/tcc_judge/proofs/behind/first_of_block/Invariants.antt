@@ -1,4 +1,4 @@
-use Rattle.std.proofs.Common.{◌≡◌, ◌-◌, length}
+use Rattle.std.proofs.Common.{◌-◌, length}
 use Rattle.tcc_judge.specs.private.Least.{IsFoundFirst}
 use Rattle.tcc_judge.specs.private.NextWriters.{AreNextWriters}
 use Rattle.tcc_judge.specs.private.Behind.{IsBrokenFrom}

@@ -1,18 +1,16 @@
-use Rattle.std.proofs.Common.{◌≡◌, ◌<◌, ◌+◌, ℕ, length, get_or, sym, ap, ◌∙◌, arith}
-use Rattle.tcc_reads.specs.History.{count}
-use Rattle.tcc_graph.specs.Keys.{keys, key_at}
+use Rattle.std.proofs.Common.{◌+◌, ℕ, get_or, sym, ◌∙◌, arith}
+use Rattle.tcc_graph.specs.Keys.{key_at}
 use Rattle.tcc_graph.specs.Tables.{row_of}
 use Rattle.tcc_judge.specs.private.Least.{IsLeastOf}
-use Rattle.tcc_judge.specs.private.Behind.{IsBehindBy, IsWithin}
-use Rattle.tcc_judge.proofs.ReadingLemmas.{reading_at, reader_below}
-use Rattle.tcc_judge.proofs.BehindLemmas.{behind_by, behind_none, behind_more, behind_all}
-use Rattle.tcc_judge.proofs.behind.least_behind.Goals.{After-get}
+use Rattle.tcc_judge.specs.private.Behind.{IsBehindBy}
+use Rattle.tcc_judge.proofs.ReadingLemmas.{least_begun, least_next, least_of_all, reading_at, reader_below}
+use Rattle.tcc_judge.proofs.BehindLemmas.{behind_by}
 use Rattle.tcc_judge.proofs.behind.least_behind.Goals as goal
 
 pub loop-index-init : goal.loop-index-init
 loop-index-init c = λ from clocks nexts.
-    behind_none c.args.graph.now c.args.order.now from (c.args.place + 1) (get_or c.args.order.now c.args.place 0) c.readings_at.result.0.now
-    c.readings_at.result.1.now
+    least_begun c.args.graph.now (get_or c.args.order.now c.args.place 0) c.readings_at.result.0.now c.readings_at.result.1.now
+    (IsBehindBy c.args.graph.now c.args.order.now from (c.args.place + 1))
 
 pub get-requires-in-loop-index : goal.get-requires-in-loop-index
 get-requires-in-loop-index c =
@@ -50,10 +48,10 @@ loop-index-preserved c = λ from clocks nexts.
     (nexts.wide key reading.key) c.requires.few (clocks.each reader reading.pair.1 reading.pair.1) (λ session narrow. nexts.each key session reading.key narrow)
     c.least_within-within.result (rw (c.get.ensures, c.get-in-loop-index.ensures) at c.least_within-within.ensures) in
     rw c.min-least.ensures
-    (behind_more h order from place a readers key_indices i c.least_within-within.result c.loop-index.least one (c.loop-index.invariant from clocks nexts))
+    (least_next h a readers key_indices (IsBehindBy h order from place) i c.least_within-within.result c.loop-index.least one (c.loop-index.invariant from clocks nexts))
 
 pub returns : goal.returns
 returns c = λ from a clocks nexts same.
     rw same
-    (behind_all c.args.graph.now c.args.order.now from (c.args.place + 1) (get_or c.args.order.now c.args.place 0) c.readings_at.result.0.now
-    c.readings_at.result.1.now c.readings_at.ensures c.loop-index.index c.loop-index.least (omega arith) (c.loop-index.invariant from clocks nexts))
+    (least_of_all c.args.graph.now (get_or c.args.order.now c.args.place 0) c.readings_at.result.0.now c.readings_at.result.1.now
+    (IsBehindBy c.args.graph.now c.args.order.now from (c.args.place + 1)) c.readings_at.ensures c.loop-index.index c.loop-index.least (omega arith) (c.loop-index.invariant from clocks nexts))

@@ -1,9 +1,9 @@
-use Rattle.std.proofs.Common.{◌≡◌, ◌<◌, ◌≤◌, ◌+◌, ◌*◌, ◌++◌, ◌∙◌, ℕ, Bool, List, length, take, drop, ap, sym, subst, arith}
-use Rattle.tcc_reads.specs.History.{count, owner}
+use Rattle.std.proofs.Common.{◌≡◌, ◌≤◌, ◌+◌, ◌*◌, ◌∙◌, ℕ, length, sym, subst, arith}
 use Rattle.tcc_clocks.specs.declared.latest.TheConstants.{WIDE}
 use Rattle.tcc_judge.specs.private.Contradicted.{AreContradictedTo}
 use Rattle.tcc_judge.proofs.BehindLemmas.{blocks_cover}
-use Rattle.tcc_judge.proofs.ContradictedLemmas.{contradicted_all, written_back}
+use Rattle.tcc_txn.proofs.Lists.{whole}
+use Rattle.tcc_judge.proofs.ContradictedLemmas.{contradicted_all}
 use Rattle.tcc_judge.proofs.contradicted.contradicted_along.Goals as goal
 
 pub loop-block-preserved : goal.loop-block-preserved
@@ -19,8 +19,8 @@ loop-block-preserved c =
     let on : from + WIDE ≡ (c.loop-block.block + 1) * WIDE = omega arith in
     let as_many : length lasts ≡ length c.loop-block.lasts.items = noted.long ∙ sym inv.so_far.long in
     let as_many_keys : length stale ≡ length c.loop-block.stale.items = noted.keys_long ∙ sym inv.so_far.keys_long in
-    let first = written_back c.loop-block.lasts.len lasts c.loop-block.lasts.items as_many c.loop-block.lasts.ok.0 in
-    let second = written_back c.loop-block.stale.len stale c.loop-block.stale.items as_many_keys c.loop-block.stale.ok.0 in
+    let first = whole lasts c.loop-block.lasts.items c.loop-block.lasts.len as_many c.loop-block.lasts.ok.0 in
+    let second = whole stale c.loop-block.stale.items c.loop-block.stale.len as_many_keys c.loop-block.stale.ok.0 in
     record {
       table = c.in_ok-find_clocks.ensures.long;
       next = c.in_ok-note_block.ensures.same ∙ inv.next;

@@ -1,4 +1,4 @@
-use Rattle.std.proofs.Common.{◌≡◌, ℕ, List}
+use Rattle.std.proofs.Common.{ℕ, List}
 use Rattle.tcc_reads.specs.History.{count}
 use Rattle.tcc_graph.specs.Keys.{key_at}
 use Rattle.tcc_graph.specs.Orders.{IsNumbering}

@@ -1,5 +1,4 @@
-use Rattle.std.proofs.Common.{◌≡◌, ◌<◌, ◌+◌, ℕ, length, get_or, sym, ◌∙◌, arith}
-use Rattle.tcc_graph.specs.Keys.{keys, key_at}
+use Rattle.std.proofs.Common.{◌+◌, ℕ, get_or, arith}
 use Rattle.tcc_judge.proofs.ReadingLemmas.{reading_at}
 use Rattle.tcc_judge.proofs.ContradictedLemmas.{to_all, to_more, to_none}
 use Rattle.tcc_judge.proofs.contradicted.last_contradicted.Goals as goal

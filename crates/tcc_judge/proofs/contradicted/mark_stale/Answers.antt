@@ -1,7 +1,6 @@
-use Rattle.std.proofs.Common.{◌≡◌, ◌<◌, ◌+◌, ℕ, List, true, false, length, get_or, set, sym, ◌∙◌, arith}
+use Rattle.std.proofs.Common.{◌<◌, ℕ, true, false, length, get_or, sym, ◌∙◌, arith}
 use Rattle.std.proofs.lemmas.Bool.{false≢true}
 use Rattle.std.proofs.lemmas.List.{length-set}
-use Rattle.tcc_graph.specs.Keys.{keys}
 use Rattle.tcc_judge.proofs.ReadingLemmas.{reading_at}
 use Rattle.tcc_judge.proofs.ContradictedLemmas.{stale_all, stale_more, stale_same}
 use Rattle.tcc_judge.proofs.contradicted.mark_stale.Goals.{then-is_contradicted, else-is_contradicted}

@@ -1,6 +1,5 @@
-use Rattle.std.proofs.Common.{◌≡◌, ◌<◌, ◌+◌, ◌-◌, ℕ, List, length, get_or, set, refl, sym, subst, ◌∙◌, arith}
+use Rattle.std.proofs.Common.{◌≡◌, ◌<◌, ◌+◌, ◌-◌, ℕ, length, get_or, set, refl, sym, subst, arith}
 use Rattle.std.specs.Prelude.{max}
-use Rattle.tcc_clocks.specs.declared.latest.TheConstants.{WIDE}
 use Rattle.tcc_judge.specs.private.Contradicted.{IsBehindTo, IsGreatestOf}
 use Rattle.tcc_judge.specs.private.NextWriters.{AreNextWriters}
 use Rattle.tcc_judge.proofs.NextLemmas.{next_none}

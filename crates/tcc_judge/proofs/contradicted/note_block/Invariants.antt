@@ -1,4 +1,4 @@
-use Rattle.std.proofs.Common.{◌≡◌, ◌-◌, length}
+use Rattle.std.proofs.Common.{◌-◌, length}
 use Rattle.tcc_judge.specs.private.NextWriters.{AreNextWriters}
 use Rattle.tcc_judge.proofs.ContradictedLemmas.{AreNotedFrom}
 use Rattle.tcc_judge.proofs.contradicted.note_block.Given as goal

@@ -1,4 +1,4 @@
-use Rattle.std.proofs.Common.{◌≡◌, ◌<◌, length, arith}
+use Rattle.std.proofs.Common.{◌<◌, arith}
 use Rattle.tcc_reads.specs.History.{count}
 use Rattle.tcc_judge.proofs.Leastness.{past_four, runs_ordered}
 use Rattle.tcc_judge.proofs.cycles.least_verdict.Goals as goal

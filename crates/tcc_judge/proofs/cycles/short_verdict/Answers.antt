@@ -1,4 +1,4 @@
-use Rattle.std.proofs.Common.{◌≡◌, ◌≤◌, ◌⊎◌, inl, inr, refl, subst, ◌∙◌, arith}
+use Rattle.std.proofs.Common.{◌≡◌, inl, inr, refl, subst, arith}
 use Rattle.std.specs.Prelude.{min}
 use Rattle.tcc_graph.specs.Levels.{judged}
 use Rattle.tcc_least.specs.Shapes.{NoneBelow}

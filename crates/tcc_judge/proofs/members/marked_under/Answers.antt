@@ -1,4 +1,4 @@
-use Rattle.std.proofs.Common.{◌≡◌, ◌<◌, ◌+◌, ℕ, arith}
+use Rattle.std.proofs.Common.{◌+◌}
 use Rattle.tcc_judge.specs.private.Members.{IsFar}
 use Rattle.tcc_judge.proofs.MemberLemmas.{far_more, under_more}
 use Rattle.tcc_judge.proofs.members.marked_under.Goals as goal

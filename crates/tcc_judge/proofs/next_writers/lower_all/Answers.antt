@@ -1,4 +1,4 @@
-use Rattle.std.proofs.Common.{◌≡◌, ◌<◌, ℕ, length, get_or, set, arith}
+use Rattle.std.proofs.Common.{◌≡◌, ◌<◌, length, get_or, set, arith}
 use Rattle.std.proofs.lemmas.List.{take_all}
 use Rattle.tcc_graph.specs.Tables.{row_of}
 use Rattle.tcc_judge.specs.private.NextWriters.{lowered}

@@ -1,6 +1,5 @@
-use Rattle.std.proofs.Common.{◌≡◌, ◌<◌, ◌≤◌, ◌+◌, ◌-◌, ◌⊎◌, inl, inr, ℕ, length, get_or, sym, ◌∙◌, arith}
+use Rattle.std.proofs.Common.{◌≡◌, ◌<◌, ◌+◌, ◌-◌, ℕ, get_or, arith}
 use Rattle.tcc_reads.specs.History.{count, owner}
-use Rattle.tcc_clocks.specs.declared.latest.TheConstants.{WIDE}
 use Rattle.tcc_judge.proofs.NextLemmas.{next_outside, next_here}
 use Rattle.tcc_judge.proofs.next_writers.note_writer.Goals.{then-a-eq0-via-then-a-eq0, then-a-eq0-via-else-a-eq0+then-owner-from}
 use Rattle.tcc_judge.proofs.next_writers.note_writer.Goals as goal

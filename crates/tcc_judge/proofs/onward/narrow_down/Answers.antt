@@ -1,6 +1,6 @@
-use Rattle.std.proofs.Common.{◌≤◌, length, arith}
+use Rattle.std.proofs.Common.{length, arith}
 use Rattle.tcc_reads.specs.History.{count}
-use Rattle.tcc_judge.specs.private.Members.{AreMarkedUnder, IsMarked}
+use Rattle.tcc_judge.specs.private.Members.{AreMarkedUnder}
 use Rattle.tcc_judge.proofs.Leastness.{narrowed, too_many_keys, too_many_members}
 use Rattle.tcc_judge.proofs.onward.narrow_down.Goals.{In_ok-marks}
 use Rattle.tcc_judge.proofs.onward.narrow_down.Goals as goal

@@ -1,4 +1,4 @@
-use Rattle.std.proofs.Common.{◌≡◌, length, ap, sym, ◌∙◌, arith}
+use Rattle.std.proofs.Common.{length, ap, ◌∙◌}
 use Rattle.tcc_judge.proofs.ordering.claimed_order.Goals as goal
 
 pub returns-in_default : goal.returns-in_default

@@ -1,4 +1,4 @@
-use Rattle.std.proofs.Common.{◌≡◌, ◌<◌, length, arith}
+use Rattle.std.proofs.Common.{◌<◌, arith}
 use Rattle.tcc_reads.specs.History.{count}
 use Rattle.tcc_judge.proofs.Ordered.{told_ordered, with_sizes}
 use Rattle.tcc_judge.proofs.ordering.judge_order.Goals as goal

@@ -1,4 +1,4 @@
-use Rattle.std.proofs.Common.{ℕ, ◌<◌, length, get_or, arith}
+use Rattle.std.proofs.Common.{arith}
 use Rattle.tcc_judge.proofs.ReadingLemmas.{reader_below}
 use Rattle.tcc_judge.proofs.PositionLemmas.{turned_none, turned_more, turned_same, turned_all}
 use Rattle.tcc_judge.proofs.turned.least_turned.Goals.{then-positions-reader, else-positions-reader}

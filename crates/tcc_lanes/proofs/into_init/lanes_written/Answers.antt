@@ -1,11 +1,12 @@
-use Rattle.std.proofs.Common.{arith}
-use Rattle.tcc_lanes.proofs.IntoInit.{joined_more, joined_all}
+use Rattle.std.proofs.Common.{arith, get_or}
+use Rattle.tcc_lanes.proofs.IntoInit.{joined_all}
+use Rattle.tcc_lanes.proofs.WordLemmas.{joined_more}
 use Rattle.tcc_lanes.proofs.MarkLemmas.{written_by}
 use Rattle.tcc_lanes.proofs.into_init.lanes_written.Goals as goal
 
 pub loop-key_index-preserved : goal.loop-key_index-preserved
 loop-key_index-preserved c =
-    joined_more c.args.key_lanes.now c.writes_at-key_index-items.result.now c.loop-key_index.key_index-index c.loop-key_index.word c.loop-key_index.invariant
+    joined_more c.args.key_lanes.now (λ m. get_or c.writes_at-key_index-items.result.now m 0) c.loop-key_index.key_index-index c.loop-key_index.word c.loop-key_index.invariant
 
 pub returns : goal.returns
 returns c =

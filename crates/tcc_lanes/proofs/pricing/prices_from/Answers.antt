@@ -4,7 +4,7 @@ use Rattle.tcc_lanes.specs.declared.words.TheConstants.{LANES}
 use Rattle.tcc_lanes.specs.private.Marks.{AreMarksOf, IsAt}
 use Rattle.tcc_lanes.specs.private.Walking.{IsWalkedOn}
 use Rattle.tcc_lanes.specs.private.Pricing.{IsLowered, IsMetIn, cell}
-use Rattle.tcc_lanes.proofs.MarkLemmas.{written_back}
+use Rattle.tcc_txn.proofs.Lists.{whole}
 use Rattle.tcc_lanes.proofs.PriceLemmas.{pricing_more}
 use Rattle.tcc_lanes.proofs.pricing.prices_from.Goals as goal
 
@@ -22,12 +22,12 @@ loop-steps-preserved c =
     let new = c.lower.new.table in
     let price : ℕ = now.steps + 2 in
     let marks : AreMarksOf (count h) starts (length starts) begun = rw c.count-count.ensures.value at c.in_ok-begun.ensures in
-    let reached_back = written_back now.reached.len after now.reached.items (c.walk_on.ensures.same ∙ sym now.invariant.long) now.reached.ok.0 in
-    let room_back = written_back now.underway.len room now.underway.items (c.walk_on.ensures.room ∙ sym now.invariant.room) now.underway.ok.0 in
+    let reached_back = whole after now.reached.items now.reached.len (c.walk_on.ensures.same ∙ sym now.invariant.long) now.reached.ok.0 in
+    let room_back = whole room now.underway.items now.underway.len (c.walk_on.ensures.room ∙ sym now.invariant.room) now.underway.ok.0 in
     let same : length met ≡ length now.found.items = rw (c.deref_mut-in-loop-steps-2.ensures.value) at c.meet.ensures.same in
-    let met_back = written_back now.found.len met now.found.items same now.found.ok.0 in
+    let met_back = whole met now.found.items now.found.len same now.found.ok.0 in
     let alike : length new ≡ length now.table.items = rw (c.deref_mut-in-loop-steps-3.ensures.value) at c.lower.ensures.same in
-    let new_back = written_back now.table.len new now.table.items alike now.table.ok.0 in
+    let new_back = whole new now.table.items now.table.len alike now.table.ok.0 in
     let each : (v i : ℕ) → v < count h → i < LANES → IsAt after v i ↔ IsWalkedOn h c.args.level begun now.reached.items v i
     = rw (c.deref.ensures.value, c.deref_mut.ensures.value) at c.walk_on.ensures.each in
     let seen : c.deref-in-loop-steps-2.result.now ≡ after = c.deref-in-loop-steps-2.ensures.value ∙ reached_back in

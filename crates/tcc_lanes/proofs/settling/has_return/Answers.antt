@@ -2,7 +2,7 @@ use Rattle.std.proofs.Common.{◌≡◌, ◌≤◌, ◌<◌, [], length, get_or,
 use Rattle.std.proofs.lemmas.Bool.{ltb-true, lt-ltb}
 use Rattle.std.proofs.lemmas.List.{get_or_read}
 use Rattle.tcc_lanes.specs.private.Pricing.{IsSettled}
-use Rattle.tcc_lanes.proofs.MarkLemmas.{written_back}
+use Rattle.tcc_txn.proofs.Lists.{whole}
 use Rattle.tcc_lanes.proofs.SettledCosts.{reached_first, reached_more, returned, returns as returning}
 use Rattle.tcc_lanes.proofs.settling.has_return.Goals as goal
 
@@ -22,7 +22,7 @@ loop-level-preserved c =
     let new = c.settle.new.costs in
     let rows = c.args.rows.now in
     let settled : IsSettled rows now.level (length rows) now.costs.items new = rw (c.deref_mut.ensures.value) at c.settle.ensures in
-    let back = written_back now.costs.len new now.costs.items settled.same now.costs.ok.0 in
+    let back = whole new now.costs.items now.costs.len settled.same now.costs.ok.0 in
     rw back (record {
       same = settled.same ∙ now.invariant.same;
       reached = λ j members are.

@@ -1,13 +1,15 @@
-use Rattle.std.proofs.Common.{arith}
+use Rattle.std.proofs.Common.{arith, get_or}
 use Rattle.tcc_least.proofs.ReadLemmas.{AreReadsAt}
-use Rattle.tcc_lanes.proofs.Spread.{in_none, in_more, in_all}
+use Rattle.tcc_lanes.proofs.Spread.{in_all}
+use Rattle.tcc_lanes.proofs.WordLemmas.{joined_more, joined_none}
 use Rattle.tcc_lanes.proofs.spreading.at_sources.Goals as goal
 
 pub loop-read-init : goal.loop-read-init
-loop-read-init c = in_none c.args.marks.now c.reads_at-read-items.result.now
+loop-read-init c = joined_none c.args.marks.now (λ k. (get_or c.reads_at-read-items.result.now k (0, 0)).1)
 
 pub loop-read-preserved : goal.loop-read-preserved
-loop-read-preserved c = in_more c.args.marks.now c.reads_at-read-items.result.now c.loop-read.read-index c.loop-read.word c.loop-read.invariant
+loop-read-preserved c =
+    joined_more c.args.marks.now (λ k. (get_or c.reads_at-read-items.result.now k (0, 0)).1) c.loop-read.read-index c.loop-read.word c.loop-read.invariant
 
 pub returns : goal.returns
 returns c =

@@ -3,7 +3,7 @@ use Rattle.tcc_graph.specs.Levels.{Judged, judged}
 use Rattle.tcc_graph.specs.Links.{cost}
 use Rattle.tcc_graph.specs.declared.link.Link.{Link}
 use Rattle.tcc_least.specs.Shapes.{NoneBelow}
-use Rattle.tcc_large.specs.Cycles.{AreCycle}
+use Rattle.tcc_graph.specs.Routes.{AreCycle}
 use Rattle.tcc_large.proofs.Returned.{cycle_closed}
 use Rattle.tcc_large.proofs.deciding.by_cycle.Goals as goal
 

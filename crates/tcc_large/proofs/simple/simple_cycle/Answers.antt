@@ -1,6 +1,7 @@
 use Rattle.std.proofs.Common.{◌≡◌, List, drop, take, sym, ap, subst, ◌∙◌}
 use Rattle.tcc_graph.specs.declared.link.Link.{Link}
-use Rattle.tcc_large.specs.Cycles.{AreCycle, IsSimple}
+use Rattle.tcc_graph.specs.Routes.{AreCycle}
+use Rattle.tcc_large.specs.Cycles.{IsSimple}
 use Rattle.tcc_large.specs.private.Returning.{IsFirstReturn}
 use Rattle.tcc_large.proofs.Returned.{return_cycle, return_simple}
 use Rattle.tcc_large.proofs.simple.simple_cycle.Goals as goal

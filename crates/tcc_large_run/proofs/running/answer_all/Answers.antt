@@ -1,15 +1,21 @@
 -- What comes of each moment of the recording.
-use Rattle.std.proofs.Common.{refl}
-use Rattle.tcc_print.proofs.Courses.{ends-fault, ends-seal, finished-end, says-end, says-seal, wants_memory}
-use Rattle.tcc_large_run.specs.LargeRuns.{finished, records_of}
+use Rattle.tcc_print.proofs.Courses.{ends-fault, ends-seal, finished-end, none-answered, says-end, says-seal, wants_memory}
+use Rattle.tcc_large_run.specs.LargeRuns.{records_of}
 use Rattle.tcc_large_run.specs.private.Stages.{course}
-use Rattle.tcc_large_run.proofs.Outcomes.{said_of}
-use Rattle.tcc_large_run.proofs.Runs.{end_finished, end_outcome, kept_last}
+use Rattle.tcc_large_run.proofs.Runs.{on_ok}
 use Rattle.tcc_large_run.proofs.running.answer_all.Goals as goal
+
+pub moments-init : goal.moments-init
+moments-init g c = record {
+  way = λ text recording. none-answered g.R.Read.remaining (course c.args.run.now.options.now) text c.args.recording.now
+      (g.W.Write.contents c.args.out.now) recording;
+  within = λ records within. within;
+  going = λ none. none;
+}
 
 pub moments-preserved : goal.moments-preserved
 moments-preserved g c = record {
-  way = λ text recording. says-seal g.R.Read.remaining (course c.args.run.now.options.now) (said_of c.args.run.now.options.now) text
+  way = λ text recording. says-seal g.R.Read.remaining (course c.args.run.now.options.now) text
       c.moments.recording c.read_on.new.recording _ _ c.moments.last (c.moments.invariant.way text recording)
       _ c.in-Ok-Seal.ensures.moment c.snapshot-snapshot.result.now c.snapshot-snapshot.ensures.finished c.in-Ok-Seal.field-0-is
       c.in_ok-said-in-Ok-Seal.said _ c.in_ok-said-in-Ok-Seal.ensures;
@@ -19,39 +25,34 @@ moments-preserved g c = record {
 
 pub returns-in_err-said-in-Ok-Seal-clause-answers : goal.returns-in_err-said-in-Ok-Seal-clause-answers
 returns-in_err-said-in-Ok-Seal-clause-answers g c text recording within fresh =
-    ends-seal g.R.Read.remaining (course c.args.run.now.options.now) (said_of c.args.run.now.options.now) text
+    ends-seal g.R.Read.remaining (course c.args.run.now.options.now) text
     c.moments.recording c.read_on.new.recording _ _ c.moments.last (c.moments.invariant.way text recording)
     _ c.in-Ok-Seal.ensures.moment c.snapshot-snapshot.result.now c.snapshot-snapshot.ensures.finished c.in-Ok-Seal.field-0-is
     c.from_residual.result c.in_err-said-in-Ok-Seal.field-0.0 _ c.from_residual.ensures.1 c.in_err-said-in-Ok-Seal.ensures
 
 pub returns-in-Ok-End-clause-answers : goal.returns-in-Ok-End-clause-answers
 returns-in-Ok-End-clause-answers g c text recording within fresh =
-    says-end g.R.Read.remaining (course c.args.run.now.options.now) (said_of c.args.run.now.options.now) text
+    says-end g.R.Read.remaining (course c.args.run.now.options.now) text
     c.moments.recording c.read_on.new.recording _ _ c.moments.last (c.moments.invariant.way text recording)
     _ c.in-Ok-End.ensures.moment c.snapshot.result.now c.snapshot.ensures.finished c.in-Ok-End.field-0-is
-    (λ last. last) (λ last. refl) _ c.say_last.result c.say_last.ensures.said
-    (λ due. kept_last c.args.run.now.options.now c.snapshot.result.now _ _ c.say_last.result (c.say_last.ensures.due due))
+    _ c.say_last.result c.say_last.ensures.said c.say_last.ensures.due
 
 pub returns-in-Ok-End-clause-finished : goal.returns-in-Ok-End-clause-finished
 returns-in-Ok-End-clause-finished g c text recording =
-    end_finished c.args.run.now.options.now.level c.say_last.result c.read_on.new.recording.snapshot c.snapshot.result.now (finished text)
-    c.snapshot.ensures.value
-    (finished-end g.R.Read.remaining (course c.args.run.now.options.now) (said_of c.args.run.now.options.now) text
+    on_ok c.say_last.result
+    (finished-end g.R.Read.remaining (course c.args.run.now.options.now) text
     c.moments.recording c.read_on.new.recording _ _ c.moments.last (c.moments.invariant.way text recording)
-    _ c.in-Ok-End.ensures.moment c.snapshot.result.now c.snapshot.ensures.finished c.in-Ok-End.field-0-is c.say_last.result)
-    (end_outcome g.R.Read.remaining c.args.run.now.options.now text c.moments.recording c.read_on.new.recording _ _ _ c.moments.last
-    (c.moments.invariant.way text recording) _ c.in-Ok-End.ensures.moment c.snapshot.result.now c.snapshot.ensures.finished c.in-Ok-End.field-0-is
-    c.say_last.result c.say_last.ensures.said c.say_last.ensures.due)
+    _ c.in-Ok-End.ensures.moment c.snapshot.result.now c.snapshot.ensures.finished c.in-Ok-End.field-0-is)
 
 pub returns-in-Err-clause-answers : goal.returns-in-Err-clause-answers
 returns-in-Err-clause-answers g c text recording within fresh =
-    ends-fault g.R.Read.remaining (course c.args.run.now.options.now) (said_of c.args.run.now.options.now) text
+    ends-fault g.R.Read.remaining (course c.args.run.now.options.now) text
     c.moments.recording c.read_on.new.recording _ _ c.moments.last (c.moments.invariant.way text recording)
     c.in-Err.fault _ c.stop.result c.in-Err.ensures.moment (c.moments.invariant.within (records_of text) within)
     (c.in-Err.ensures.failed (c.moments.invariant.going fresh)) c.stop.ensures
 
 pub returns-clause-answers : goal.returns-clause-answers
 returns-clause-answers g c text recording within fresh =
-    wants_memory g.R.Read.remaining (course c.args.run.now.options.now) (said_of c.args.run.now.options.now) text
+    wants_memory g.R.Read.remaining (course c.args.run.now.options.now) text
     c.moments.recording c.moments.recording _ _ c.moments.last (c.moments.invariant.way text recording) _
     c.print_memory.result c.print_memory.ensures

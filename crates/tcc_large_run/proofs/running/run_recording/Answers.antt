@@ -5,8 +5,8 @@ use Rattle.tcc_large_run.proofs.running.run_recording.Goals as goal
 
 pub returns-in-Ok : goal.returns-in-Ok
 returns-in-Ok g c bytes recording within fresh =
-    let end = c.in-Ok.ensures.finished bytes recording in
-    concluded c.args.run.now.options.now bytes _ _ _ _ _ _ c.in-Ok.last c.conclude.result (c.snapshot.ensures.value ∙ end.0) end.1
+    concluded c.args.run.now.options.now bytes _ _ _ _ _ _ c.in-Ok.last c.conclude.result
+    (c.snapshot.ensures.value ∙ c.in-Ok.ensures.finished bytes recording)
     (c.in-Ok.ensures.answers bytes recording within fresh) c.conclude.ensures
 
 pub returns-in-Err : goal.returns-in-Err

@@ -2,8 +2,8 @@ use Rattle.std.proofs.Common.{ℕ, List, Option, subst}
 use Rattle.std.specs.Prelude.{IfSome}
 use Rattle.tcc_reads.specs.History.{History}
 use Rattle.tcc_txn.specs.Snapshots.{Sessions}
-use Rattle.tcc_large.specs.Cuts.{IsCutOf}
-use Rattle.tcc_large.specs.Slices.{IsSliceOf}
+use Rattle.tcc_slices.specs.Cuts.{IsCutOf}
+use Rattle.tcc_slices.specs.Slices.{IsSliceOf}
 use Rattle.tcc_large_run.specs.LargeRuns.{Finishes}
 use Rattle.tcc_large_run.proofs.slicing.text_of.Goals as goal
 

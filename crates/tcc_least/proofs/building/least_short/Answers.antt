@@ -1,7 +1,6 @@
 use Rattle.std.proofs.Common.{ℕ, ◌+◌, ◌-◌, ◌≡◌, subst, arith}
 use Rattle.std.specs.Prelude.{min}
 use Rattle.tcc_graph.specs.Levels.{judged}
-use Rattle.tcc_graph.specs.Links.{cost}
 use Rattle.tcc_least.specs.Shapes.{NoneBelow}
 use Rattle.tcc_least.specs.private.Building.{IsShortCycle}
 use Rattle.tcc_least.proofs.Built.{one_at_least, least_at}

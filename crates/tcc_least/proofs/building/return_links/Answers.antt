@@ -22,7 +22,7 @@ returns c =
     let all : c.push-3.new.self.items ≡ link.Derived b a x d c.new.result ∷ l ∷ []
     = c.in_ok-push-3.ensures.items ∙ ap (λ (z : List Link). z ++ l ∷ []) first in
     let one : IsShortCycle h 4 (link.Derived b a x d (s ∷ []) ∷ l ∷ [])
-    = return_of h b a d x s l c.requires.0.2.0 c.overwritten-reader.ensures.0 c.overwritten-reader.ensures.1 c.step.ensures.from c.step.ensures.to
+    = return_of h b a d x s l c.requires.0.2.0 c.overwritten-reader.ensures.read (c.overwritten-reader.ensures.writer, c.overwritten-reader.ensures.pair) c.step.ensures.from c.step.ensures.to
     c.step.ensures.step c.pair_link.ensures in
     subst (λ (z : List Link). IsShortCycle h 4 z) (sym all)
     (subst (λ (w : List Step). IsShortCycle h 4 (link.Derived b a x d w ∷ l ∷ [])) (sym walk) one)

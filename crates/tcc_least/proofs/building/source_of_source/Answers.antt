@@ -4,7 +4,7 @@ use Rattle.tcc_graph.specs.Keys.{key_at}
 use Rattle.tcc_graph.proofs.Pairs.{pair_kinds}
 use Rattle.tcc_least.proofs.ReadLemmas.{AreReadsAt}
 use Rattle.tcc_least.proofs.RoundLemmas.{none_led}
-use Rattle.tcc_least.proofs.Overwritten.{read_at}
+use Rattle.tcc_least.proofs.ReturnLemmas.{read_at}
 use Rattle.tcc_least.proofs.building.source_of_source.Goals as goal
 
 pub returns-then-causal : goal.returns-then-causal

@@ -1,7 +1,7 @@
 use Rattle.std.proofs.Common.{below_more, arith}
 use Rattle.tcc_least.proofs.ReadLemmas.{AreReadsAt}
 use Rattle.tcc_least.proofs.PlaceLemmas.{better_on}
-use Rattle.tcc_least.proofs.Overwritten.{read_at, between_all}
+use Rattle.tcc_least.proofs.ReturnLemmas.{read_at, between_all}
 use Rattle.tcc_least.proofs.returning.between.Goals as goal
 
 pub between_read-least-requires-clause-is : goal.between_read-least-requires-clause-is

@@ -1,5 +1,5 @@
 use Rattle.tcc_least.specs.private.Places.{IsAsGood}
-use Rattle.tcc_least.proofs.Overwritten.{AreBetween}
+use Rattle.tcc_least.proofs.ReturnLemmas.{AreBetween}
 use Rattle.tcc_least.proofs.returning.between.Given as goal
 
 abbrev pub invariant-loop-read : goal.invariant-loop-read

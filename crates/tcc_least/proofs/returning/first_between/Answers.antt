@@ -3,7 +3,7 @@ use Rattle.std.specs.List.Sorted.{IsNonDecreasing}
 use Rattle.tcc_graph.specs.Keys.{key_at}
 use Rattle.tcc_least.specs.private.Returns.{IsFirstWithin}
 use Rattle.tcc_least.proofs.Within.{writers_rise}
-use Rattle.tcc_least.proofs.Overwritten.{from_initial, from_session, below_first, past_reader}
+use Rattle.tcc_least.proofs.ReturnLemmas.{from_initial, from_session, below_first, past_reader}
 use Rattle.tcc_least.proofs.returning.first_between.Goals as goal
 
 pub first_within-requires : goal.first_within-requires

@@ -1,5 +1,5 @@
 use Rattle.std.proofs.Common.{arith}
-use Rattle.tcc_least.proofs.Overwritten.{done_first, done_more, all_found, first_found}
+use Rattle.tcc_least.proofs.ReturnLemmas.{done_first, done_more, all_found, first_found}
 use Rattle.tcc_least.proofs.returning.first_return.Goals as goal
 
 pub loop-number-init : goal.loop-number-init

@@ -1,6 +1,6 @@
 use Rattle.std.proofs.Common.{◌<◌, ◌≤◌}
 use Rattle.tcc_least.specs.private.Returns.{IsCut, IsSession}
-use Rattle.tcc_least.proofs.Overwritten.{AreDone}
+use Rattle.tcc_least.proofs.ReturnLemmas.{AreDone}
 use Rattle.tcc_least.proofs.returning.first_return.Given as goal
 
 abbrev pub invariant-loop-number : goal.invariant-loop-number

@@ -2,7 +2,7 @@ use Rattle.std.proofs.Common.{below_more, ℕ, sym, ◌∙◌, arith}
 use Rattle.std.proofs.lemmas.Bool.{false≢true}
 use Rattle.tcc_least.proofs.ReadLemmas.{AreReadsAt}
 use Rattle.tcc_least.proofs.PlaceLemmas.{one_more}
-use Rattle.tcc_least.proofs.Overwritten.{initial_return, initial_all}
+use Rattle.tcc_least.proofs.ReturnLemmas.{initial_return, initial_all}
 use Rattle.tcc_least.proofs.returning.initial.Goals as goal
 use Rattle.tcc_least.proofs.returning.initial.Goals.{then-is_source, else-is_source}
 

@@ -1,5 +1,5 @@
 use Rattle.tcc_least.specs.private.Places.{IsSound}
-use Rattle.tcc_least.proofs.Overwritten.{ArePastInitial}
+use Rattle.tcc_least.proofs.ReturnLemmas.{ArePastInitial}
 use Rattle.tcc_least.proofs.returning.initial.Given as goal
 
 abbrev pub invariant-loop-read : goal.invariant-loop-read

@@ -1,4 +1,4 @@
-use Rattle.tcc_least.proofs.Overwritten.{AreInitial}
+use Rattle.tcc_least.proofs.ReturnLemmas.{AreInitial}
 use Rattle.tcc_least.proofs.returning.is_source.Given as goal
 
 abbrev pub invariant-loop-reader : goal.invariant-loop-reader

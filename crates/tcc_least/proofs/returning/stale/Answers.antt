@@ -1,6 +1,6 @@
 use Rattle.std.proofs.Common.{below_more, arith}
 use Rattle.tcc_least.proofs.PlaceLemmas.{better_on}
-use Rattle.tcc_least.proofs.Overwritten.{written_at, stale_all}
+use Rattle.tcc_least.proofs.ReturnLemmas.{written_at, stale_all}
 use Rattle.tcc_least.proofs.returning.stale.Goals as goal
 
 pub stale_key-least-requires-clause-key : goal.stale_key-least-requires-clause-key

@@ -1,5 +1,5 @@
 use Rattle.tcc_least.specs.private.Places.{IsAsGood}
-use Rattle.tcc_least.proofs.Overwritten.{AreStale}
+use Rattle.tcc_least.proofs.ReturnLemmas.{AreStale}
 use Rattle.tcc_least.proofs.returning.stale.Given as goal
 
 abbrev pub invariant-loop-key_index : goal.invariant-loop-key_index

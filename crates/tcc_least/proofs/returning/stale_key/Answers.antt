@@ -6,7 +6,7 @@ use Rattle.tcc_graph.specs.Links.{MayContradict}
 use Rattle.tcc_least.specs.Shapes.{IsReturn}
 use Rattle.tcc_least.proofs.ReadLemmas.{AreReadsAt}
 use Rattle.tcc_least.proofs.PlaceLemmas.{better_on, one_more}
-use Rattle.tcc_least.proofs.Overwritten.{read_at, stale_key_all}
+use Rattle.tcc_least.proofs.ReturnLemmas.{read_at, stale_key_all}
 use Rattle.tcc_least.proofs.returning.stale_key.Goals as goal
 use Rattle.tcc_least.proofs.returning.stale_key.Goals.{then-is_read_later, else-is_read_later}
 

@@ -1,6 +1,6 @@
 use Rattle.tcc_graph.specs.Keys.{key_at}
 use Rattle.tcc_least.specs.private.Places.{IsAsGood}
-use Rattle.tcc_least.proofs.Overwritten.{AreStaleKey}
+use Rattle.tcc_least.proofs.ReturnLemmas.{AreStaleKey}
 use Rattle.tcc_least.proofs.returning.stale_key.Given as goal
 
 abbrev pub invariant-loop-read : goal.invariant-loop-read

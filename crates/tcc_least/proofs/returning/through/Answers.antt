@@ -1,7 +1,7 @@
 use Rattle.std.proofs.Common.{below_more, arith}
 use Rattle.tcc_least.proofs.ReadLemmas.{AreReadsAt}
 use Rattle.tcc_least.proofs.PlaceLemmas.{better_on}
-use Rattle.tcc_least.proofs.Overwritten.{read_at, through_all}
+use Rattle.tcc_least.proofs.ReturnLemmas.{read_at, through_all}
 use Rattle.tcc_least.proofs.returning.through.Goals as goal
 
 pub through_read-least-requires-clause-is : goal.through_read-least-requires-clause-is

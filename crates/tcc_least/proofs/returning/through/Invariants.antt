@@ -1,5 +1,5 @@
 use Rattle.tcc_least.specs.private.Places.{IsAsGood}
-use Rattle.tcc_least.proofs.Overwritten.{AreThrough}
+use Rattle.tcc_least.proofs.ReturnLemmas.{AreThrough}
 use Rattle.tcc_least.proofs.returning.through.Given as goal
 
 abbrev pub invariant-loop-read : goal.invariant-loop-read

@@ -5,7 +5,7 @@ use Rattle.tcc_graph.specs.Keys.{key_at}
 use Rattle.tcc_least.specs.Shapes.{IsReturn}
 use Rattle.tcc_least.proofs.ReadLemmas.{AreReadsAt}
 use Rattle.tcc_least.proofs.PlaceLemmas.{better_on, one_more}
-use Rattle.tcc_least.proofs.Overwritten.{read_at, through_read_all}
+use Rattle.tcc_least.proofs.ReturnLemmas.{read_at, through_read_all}
 use Rattle.tcc_least.proofs.returning.through_read.Goals as goal
 use Rattle.tcc_least.proofs.returning.through_read.Goals.{then-is_through, else-is_through}
 

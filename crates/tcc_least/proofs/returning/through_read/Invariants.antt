@@ -1,6 +1,6 @@
 use Rattle.tcc_graph.specs.Keys.{key_at}
 use Rattle.tcc_least.specs.private.Places.{IsAsGood}
-use Rattle.tcc_least.proofs.Overwritten.{AreThroughRead}
+use Rattle.tcc_least.proofs.ReturnLemmas.{AreThroughRead}
 use Rattle.tcc_least.proofs.returning.through_read.Given as goal
 
 abbrev pub invariant-loop-other : goal.invariant-loop-other

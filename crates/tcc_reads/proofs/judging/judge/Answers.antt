@@ -8,7 +8,7 @@ use Rattle.tcc_reads.proofs.judging.judge.Goals as goal
 
 pub loop-before-preserved : goal.loop-before-preserved
 loop-before-preserved c =
-    let ops : List Op = c.ops-ops.result.now in
+    let ops : List Op = c.args.ops.now in
     let index : ℕ = c.loop-before.before in
     let read : IsReadAt ops index c.index-ops-before.result
     = read_at ops index c.index-ops-before.result c.index-ops-before.result c.loop-before-test.true (sym c.index-ops-before.is) in

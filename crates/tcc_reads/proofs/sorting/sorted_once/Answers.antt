@@ -5,5 +5,6 @@ use Rattle.tcc_reads.proofs.sorting.sorted_once.Goals as goal
 
 pub returns : goal.returns
 returns g c =
-    dedup_is _ _ _ c.dedup.ensures.filtered
+    c.shrink_to_fit.ensures.items
+    ∙ dedup_is _ _ _ c.dedup.ensures.filtered
     ∙ sorted_deduped g.met.T.Ord.total c.requires g.met.T.Ord.matches_eq _ _ c.sort_unstable.ensures.permutation c.sort_unstable.ensures.sorted

@@ -1,16 +1,24 @@
 -- What comes of each moment of the recording.
-use Rattle.std.proofs.Common.{refl, subst, sym}
+use Rattle.std.proofs.Common.{subst, sym}
 use Rattle.tcc_rows.specs.Answers.{records_of}
 use Rattle.tcc_txn.specs.Nested.{IsNested}
-use Rattle.tcc_print.proofs.Courses.{ends-fault, ends-seal, says-end, says-seal, wants_memory}
-use Rattle.tcc_run.specs.private.Stages.{Follows, answer_in, course}
+use Rattle.tcc_print.proofs.Courses.{ends-fault, ends-seal, none-answered, says-end, says-seal, wants_memory}
+use Rattle.tcc_run.specs.private.Stages.{Follows, course}
 use Rattle.tcc_run.proofs.Earlier.{follows_on}
-use Rattle.tcc_run.proofs.Runs.{said_of}
 use Rattle.tcc_run.proofs.explain.answer_all.Goals as goal
+
+pub moments-init : goal.moments-init
+moments-init g c = record {
+  way = λ text recording. none-answered g.R.Read.remaining (course c.args.run.now.options.now) text c.args.recording.now
+      (g.W.Write.contents c.args.out.now) recording;
+  within = λ records within. within;
+  earlier = tt;
+  going = λ none. none;
+}
 
 pub moments-preserved : goal.moments-preserved
 moments-preserved g c = record {
-  way = λ text recording. says-seal g.R.Read.remaining (course c.args.run.now.options.now) (said_of c.args.run.now.options.now) text
+  way = λ text recording. says-seal g.R.Read.remaining (course c.args.run.now.options.now) text
       c.moments.recording c.advance.new.self _ _ c.moments.last (c.moments.invariant.way text recording)
       _ c.in-Ok-Seal.ensures.moment c.snapshot-snapshot.result.now c.snapshot-snapshot.ensures.finished c.in-Ok-Seal.field-0-is
       c.in_ok-said-in-Ok-Seal.said _ c.in_ok-said-in-Ok-Seal.ensures.said;
@@ -21,28 +29,28 @@ moments-preserved g c = record {
 
 pub returns-in_err-said-in-Ok-Seal : goal.returns-in_err-said-in-Ok-Seal
 returns-in_err-said-in-Ok-Seal g c text recording within fresh =
-    ends-seal g.R.Read.remaining (course c.args.run.now.options.now) (said_of c.args.run.now.options.now) text
+    ends-seal g.R.Read.remaining (course c.args.run.now.options.now) text
     c.moments.recording c.advance.new.self _ _ c.moments.last (c.moments.invariant.way text recording)
     _ c.in-Ok-Seal.ensures.moment c.snapshot-snapshot.result.now c.snapshot-snapshot.ensures.finished c.in-Ok-Seal.field-0-is
     c.from_residual.result c.in_err-said-in-Ok-Seal.field-0.0 _ c.from_residual.ensures.1 c.in_err-said-in-Ok-Seal.ensures.said
 
 pub returns-in-Ok-End : goal.returns-in-Ok-End
 returns-in-Ok-End g c text recording within fresh =
-    says-end g.R.Read.remaining (course c.args.run.now.options.now) (said_of c.args.run.now.options.now) text
+    says-end g.R.Read.remaining (course c.args.run.now.options.now) text
     c.moments.recording c.advance.new.self _ _ c.moments.last (c.moments.invariant.way text recording)
     _ c.in-Ok-End.ensures.moment c.snapshot.result.now c.snapshot.ensures.finished c.in-Ok-End.field-0-is
-    (λ last. answer_in last.outcome) (λ last. (refl, refl)) _ c.say_last.result c.say_last.ensures.said c.say_last.ensures.due
+    _ c.say_last.result c.say_last.ensures.said c.say_last.ensures.due
 
 pub returns-in-Err : goal.returns-in-Err
 returns-in-Err g c text recording within fresh =
-    ends-fault g.R.Read.remaining (course c.args.run.now.options.now) (said_of c.args.run.now.options.now) text
+    ends-fault g.R.Read.remaining (course c.args.run.now.options.now) text
     c.moments.recording c.advance.new.self _ _ c.moments.last (c.moments.invariant.way text recording)
     c.in-Err.fault _ c.stop.result c.in-Err.ensures.moment (c.moments.invariant.within (records_of text) within)
     (c.in-Err.ensures.failed (c.moments.invariant.going fresh)) c.stop.ensures
 
 pub returns : goal.returns
 returns g c text recording within fresh =
-    wants_memory g.R.Read.remaining (course c.args.run.now.options.now) (said_of c.args.run.now.options.now) text
+    wants_memory g.R.Read.remaining (course c.args.run.now.options.now) text
     c.moments.recording c.moments.recording _ _ c.moments.last (c.moments.invariant.way text recording) _
     c.print_memory.result c.print_memory.ensures
 

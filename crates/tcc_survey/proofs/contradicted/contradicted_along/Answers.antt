@@ -3,7 +3,7 @@ use Rattle.std.specs.Prelude.{List}
 use Rattle.std.proofs.lemmas.List.{get_or_default}
 use Rattle.tcc_reads.specs.History.{count}
 use Rattle.tcc_graph.specs.Levels.{Judged, judged}
-use Rattle.tcc_survey.specs.declared.reading.Reading.{Reading}
+use Rattle.tcc_survey.specs.declared.external_reads.Reading.{Reading}
 use Rattle.tcc_survey.specs.private.Listed.{AreReadsUpTo}
 use Rattle.tcc_survey.specs.private.Settled.{AreFound, reading_of}
 use Rattle.tcc_survey.proofs.ChosenLemmas.{chosen_none, chosen_passed, chosen_more, chosen_all}

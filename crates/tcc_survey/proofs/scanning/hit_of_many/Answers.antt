@@ -8,12 +8,12 @@ use Rattle.tcc_survey.proofs.scanning.hit_of_many.Goals as goal
 pub returns : goal.returns
 returns c =
     let h = c.args.graph.now in
-    lanes_none (judged h c.args.level) c.requires.numbered c.args.owners.now c.requires.owners c.args.from c.args.first.now c.args.clock.now c.args.writers.now
+    lanes_none (judged h c.args.level) c.requires.numbered c.args.owners.now c.requires.owned c.args.from c.args.first.now c.args.clock.now c.args.writers.now
     c.args.c c.loop-lane.lane c.loop-lane.invariant (omega (arith, c.loop-lane-test.false))
 
 pub returns-then-found-gt0 : goal.returns-then-found-gt0
 returns-then-found-gt0 c =
     let h = c.args.graph.now in
-    lane_found (judged h c.args.level) c.requires.numbered c.args.owners.now c.requires.owners c.args.from c.args.first.now c.args.clock.now c.args.writers.now
+    lane_found (judged h c.args.level) c.requires.numbered c.args.owners.now c.requires.owned c.args.from c.args.first.now c.args.clock.now c.args.writers.now
     c.args.c c.loop-lane.lane c.loop-lane.invariant (λ b there. All-contains (λ (z : ℕ). z < count h) c.args.writers.now b c.requires.inside there)
     c.hit_in_session-found.result c.loop-lane-test.true (omega (arith, c.if-found-gt0.true)) c.hit_in_session-found.ensures

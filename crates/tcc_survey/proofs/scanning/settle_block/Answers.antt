@@ -1,6 +1,16 @@
 use Rattle.tcc_survey.proofs.FindLemmas.{spans_in}
 use Rattle.tcc_survey.proofs.scanning.settle_block.Goals as goal
 
+pub settle_each-requires-clause-block : goal.settle_each-requires-clause-block
+settle_each-requires-clause-block c = record {
+  numbered = c.requires.numbered;
+  room = c.requires.room;
+  acyclic = c.requires.acyclic;
+  owned = c.requires.owners;
+  first = c.requires.firsts;
+  clock = c.requires.clocks;
+}
+
 pub settle_each-requires-clause-spans : goal.settle_each-requires-clause-spans
 settle_each-requires-clause-spans c =
     rw c.deref.ensures.value

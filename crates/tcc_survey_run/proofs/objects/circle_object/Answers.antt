@@ -3,5 +3,5 @@ use Rattle.serde_json.specs.Written.{has_float}
 use Rattle.tcc_survey_run.proofs.NoFloats.{in_circle}
 use Rattle.tcc_survey_run.proofs.objects.circle_object.Goals as goal
 
-pub line-requires : goal.line-requires
-line-requires c = ap has_float c.in_ok-circle_json.ensures ∙ in_circle c.args.graph.now c.args.circle.now
+pub object_line-requires : goal.object_line-requires
+object_line-requires c = ap has_float c.in_ok-circle_json.ensures ∙ in_circle c.args.graph.now c.args.circle.now

@@ -24,11 +24,11 @@ returns-clause-whole g c =
     all_out c.args.json c.args.graph.now c.args.listing.now.told.items c.args.faults.now c.args.listing.now.names.items _ _ c.deref.ensures.value _ c.in_ok-write_reads.ensures.whole
     _ c.in_ok-write_faults.ensures.whole _ c.deref-2.ensures.value _ c.in_ok-write_names.ensures.whole _
     (λ i. total_line c.args.json ((c.len.ensures ∙ c.args.listing.now.told.ok.0) i) (c.requires.reads i) (length c.args.faults.now)) _
-    c.send_line.result (c.send_line.ensures.whole _ c.total_line-total.ensures)
+    c.send_made.result (c.send_made.ensures.whole _ c.total_line-total.ensures)
 
 pub returns-clause-ended : goal.returns-clause-ended
 returns-clause-ended g c =
     total_breaks c.args.json c.args.graph.now c.args.listing.now.told.items c.args.faults.now c.args.listing.now.names.items _ _ c.deref.ensures.value _ c.in_ok-write_reads.ensures.whole
     _ c.in_ok-write_faults.ensures.whole _ c.deref-2.ensures.value _ c.in_ok-write_names.ensures.whole _
     (λ i. total_line c.args.json ((c.len.ensures ∙ c.args.listing.now.told.ok.0) i) (c.requires.reads i) (length c.args.faults.now)) _
-    c.send_line.result (c.send_line.ensures.ended _ c.total_line-total.ensures)
+    c.send_made.result (c.send_made.ensures.ended _ c.total_line-total.ensures)

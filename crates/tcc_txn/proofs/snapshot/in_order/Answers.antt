@@ -24,10 +24,10 @@ returns c =
     record {
       made = (
         none,
-        ap shown (sorted_fill c.args.parts c.sort_by_name.new.parts moved)
+        ap (λ ps. shown (parts_of ps)) (sorted_fill c.args.parts c.sort_by_name.new.parts moved)
             ∙ shown_parts c.args.limits c.args.parts.items c.sort_by_name.new.parts none moved c.sort_by_name.ensures.sorted,
       );
       stored =
-          subst (IsStoredWithin c.args.limits) (sym (sorted_fill c.args.parts c.sort_by_name.new.parts moved))
+          subst (λ ps. IsStoredWithin c.args.limits (parts_of ps)) (sym (sorted_fill c.args.parts c.sort_by_name.new.parts moved))
           (stored_sorted c.args.limits c.args.parts.items c.sort_by_name.new.parts none moved c.sort_by_name.ensures.sorted);
     }

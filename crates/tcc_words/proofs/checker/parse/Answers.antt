@@ -16,14 +16,14 @@ returns-in_err-matches-clause-fails c =
 
 pub returns-clause-fails : goal.returns-clause-fails
 returns-clause-fails c =
-    only_memory _ c.files_of.result
+    only_memory _ c.asked_of.result
     (subst (λ a. is_simple_and_free a ≡ true → fault_of a (map string_bytes c.args.words.now) ≡ []) c.in_ok-command.ensures
     c.in_ok-matches.ensures.kinds is_exact)
-    c.files_of.ensures.fails
+    c.asked_of.ensures.fails
 
 pub returns-clause-asked : goal.returns-clause-asked
 returns-clause-asked c =
     let m = c.in_ok-matches.matches in
     let of_words = subst (λ a. HasMatchesOf a (map string_bytes c.args.words.now) m) c.in_ok-command.ensures c.in_ok-matches.ensures.matches in
-    IfOk-weaker c.files_of.result _ _ (λ files asks. subst (λ met. AsksFor met files) (of_words is_simple_command).1 asks)
-    c.files_of.ensures.asked
+    IfOk-weaker c.asked_of.result _ _ (λ files asks. subst (λ met. AsksFor met files) (of_words is_simple_command).1 asks)
+    c.asked_of.ensures.asked

@@ -13,7 +13,7 @@ explains : (met : Option (Text × List Row)) (request : Request) → option_map 
     → option_map (λ entered. entered.0) met ≢ Some (codes "survey") → AsksExplain met request → AsksBy met request
 explains met (Explain options history certificate large slice quiet full) no_check no_survey asks = (no_check, no_survey, asks)
 explains met (Survey level json large history) no_check no_survey asks = absurd asks
-explains met (Check history certificate large) no_check no_survey asks = absurd asks
+explains met (Check files) no_check no_survey asks = absurd asks
 
 pub returns-in_default-clause-asked : goal.returns-in_default-clause-asked
 returns-in_default-clause-asked c =

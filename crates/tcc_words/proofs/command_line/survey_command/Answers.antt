@@ -14,7 +14,7 @@ returns c =
     = c.in_ok-second.ensures.shape c.flag-json.ensures.own ∙ ap₂ with_rule first_is c.flag-json.ensures.rule in
     let third_is : app_of c.in_ok-third.third ≡ with_rule (with_rule (with_rule (new_app (codes "survey")) (level_option c.args.levels))
     (flag (codes "json"))) (flag (codes "large"))
-    = c.in_ok-third.ensures.shape c.flag-large.ensures.own ∙ ap₂ with_rule second_is c.flag-large.ensures.rule in
+    = c.in_ok-third.ensures.shape c.large_flag-large.ensures.own ∙ ap₂ with_rule second_is c.large_flag-large.ensures.rule in
     IfOk-weaker c.arg-4.result _ _
-    (λ made adds. adds.shape c.path-history.ensures.own ∙ ap₂ with_rule third_is c.path-history.ensures.rule)
+    (λ made adds. adds.shape c.records_path-history.ensures.own ∙ ap₂ with_rule third_is c.records_path-history.ensures.rule)
     c.arg-4.ensures

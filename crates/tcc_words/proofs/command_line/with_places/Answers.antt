@@ -12,5 +12,5 @@ returns c =
     let second_is : app_of c.in_ok-second.second ≡ with_rule (with_rule (app_of c.args.explain) certificate_option) require_option
     = c.in_ok-second.ensures.shape c.require_option-require.ensures.own ∙ ap₂ with_rule first_is c.require_option-require.ensures.rule in
     IfOk-weaker c.arg-3.result _ _
-    (λ made adds. adds.shape c.path-history.ensures.own ∙ ap₂ with_rule second_is c.path-history.ensures.rule)
+    (λ made adds. adds.shape c.records_path-history.ensures.own ∙ ap₂ with_rule second_is c.records_path-history.ensures.rule)
     c.arg-3.ensures

@@ -1,6 +1,6 @@
 -- the rows so far, capped
 use Rattle.std.proofs.Common.{◌≡◌, map, take}
-use Rattle.tcc_packed.specs.Packed.{at_most}
+use Rattle.tcc_bits.specs.Packed.{at_most}
 use Rattle.tcc_answer.proofs.capped.CappedRows.table.Given as goal
 
 abbrev pub invariant-loop-row : goal.invariant-loop-row

@@ -2,7 +2,7 @@
 use Rattle.std.proofs.Common.{◌≤◌, ◌∙◌, All, ap, arith, length, map, refl, subst, sym, take}
 use Rattle.std.proofs.lemmas.List.{length-map, take_all}
 use Rattle.tcc_txn.specs.declared.limits.TheConstants.{MAX_COUNT}
-use Rattle.tcc_packed.specs.Packed.{at_most}
+use Rattle.tcc_bits.specs.Packed.{at_most}
 use Rattle.tcc_cert.specs.Begun.{with_rows}
 use Rattle.tcc_cert.specs.Given.{HasTaken}
 use Rattle.tcc_sending.proofs.Failing.{on_err}

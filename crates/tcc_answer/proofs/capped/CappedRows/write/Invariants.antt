@@ -1,7 +1,7 @@
 -- the rows so far were given, capped
 use Rattle.std.proofs.Common.{◌≡◌, ℕ, List, Option, length, map, take}
 use Rattle.tcc_txn.specs.declared.limits.TheConstants.{MAX_COUNT}
-use Rattle.tcc_packed.specs.Packed.{at_most}
+use Rattle.tcc_bits.specs.Packed.{at_most}
 use Rattle.tcc_cert.specs.Begun.{MayTake, with_rows}
 use Rattle.tcc_cert.specs.declared.certificate.CycleClaim.{CycleClaim}
 use Rattle.tcc_cert.specs.Given.{HasTaken}

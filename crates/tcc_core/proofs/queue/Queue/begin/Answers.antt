@@ -14,14 +14,14 @@ invariant_of-result c =
     let long : length costs ≡ n = rw all (length-replicate n NO_WAY) in
     let listed_long : length listed ≡ n = rw zeros (length-replicate n 0) in (
       record {
-        long = omega (arith, long, c.in_ok-ring.ensures.long);
+        long = omega (arith, long, c.in_ok-buckets.ensures.long);
         window = omega arith;
         few = omega arith;
         each =
             λ v below. inl
             (record {
               none = inl (rw all (get_or-replicate n v NO_WAY 0 (omega (arith, long, below))));
-              out = c.in_ok-ring.ensures.none v (omega (arith, long, below, c.in_ok-ring.ensures.long));
+              out = c.in_ok-buckets.ensures.none v (omega (arith, long, below, c.in_ok-buckets.ensures.long));
             });
       },
       listed_none listed costs (omega (arith, long, listed_long)) (omega (arith, listed_long, c.requires))

@@ -16,7 +16,7 @@ shut-requires-clause-each c = rw (c.deref.ensures.value, c.deref_mut.ensures.val
 long : (c : After-shut) → length c.shut.new.costs ≡ length c.self.inside.costs.items
 long c = rw c.deref_mut.ensures.value at c.shut.ensures.long
 
-all_far : (c : After-shut) → (v : ℕ) → v < length c.shut.new.costs → IsFar c.shut.new.costs c.shut.new.ring v
+all_far : (c : After-shut) → (v : ℕ) → v < length c.shut.new.costs → IsFar c.shut.new.costs c.shut.new.buckets v
 all_far c v within = c.shut.ensures.shut v (rw c.deref_mut.ensures.value (omega (arith, long c)))
 
 -- the list of costs is as long as it was
@@ -30,7 +30,7 @@ invariant_of-self c =
     let after = (goal.at.invariant_of-self c).After-shut in
     let (filed, listed) = c.self.invariant in
     rw (take_at c.shut.new.costs _ c.self.inside.costs.len (whole after)) (
-      filed_none c.shut.new.costs c.shut.new.ring (omega (arith, long after, filed.long, c.shut.ensures.same)) (all_far after),
+      filed_none c.shut.new.costs c.shut.new.buckets (omega (arith, long after, filed.long, c.shut.ensures.same)) (all_far after),
       listed_none c.self.inside.listed.items c.shut.new.costs (omega (arith, long after, listed.long)) listed.few (λ v within. (all_far after v within).0),
     )
 

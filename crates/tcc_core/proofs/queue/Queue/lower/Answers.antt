@@ -1,7 +1,7 @@
 use Rattle.std.proofs.Common.{rules, ◌≡◌, ◌<◌, ◌+◌, ◌%◌, ◌∙◌, sym, max, length, slice_index, set, arith}
 use Rattle.std.proofs.lemmas.Grind.{common_steps}
 use Rattle.tcc_core.proofs.Filing.{one_set, two_set, filed_opened, listed_more, listed_kept, reached_below}
-use Rattle.tcc_core.specs.declared.ring.TheConstants.{BUCKETS, NOWHERE}
+use Rattle.tcc_core.specs.declared.bucket_queue.TheConstants.{BUCKETS, NOWHERE}
 use Rattle.tcc_core.proofs.queue.Queue.lower.Goals.{then-index, else-index}
 use Rattle.tcc_core.proofs.queue.Queue.lower.Goals as goal
 
@@ -32,20 +32,20 @@ invariant_of-self c =
     let above : q.floor < n = rw (← c.self.view_is) at c.requires.above in
     let window : n < q.floor + BUCKETS = rw (← c.self.view_is) at c.requires.window in
     let known : c.index.result.now ≡ slice_index costs v = grind (arith, common_steps, within) in
-    let inside : v < length q.ring = omega (arith, filed.long, within) in
+    let inside : v < length q.buckets = omega (arith, filed.long, within) in
     elim c.if-index.branch [
       | then-index w ↦
           let more : c.max-self-inside.result ≡ max q.most n = rw w.self-inside-is at c.max-self-inside.ensures in
-          let put : c.put.new.self ≡ set q.ring v (n % BUCKETS) = rw w.self-inside-is at c.put.ensures in
+          let put : c.put.new.self ≡ set q.buckets v (n % BUCKETS) = rw w.self-inside-is at c.put.ensures in
           rw (w.self-inside-is, put) (
-            filed_opened filed within above window c.requires.few more (one_set costs v n within) (one_set q.ring v (n % BUCKETS) inside),
+            filed_opened filed within above window c.requires.few more (one_set costs v n within) (one_set q.buckets v (n % BUCKETS) inside),
             listed_more listed v n within (sym known ∙ w.if-index.true) (omega (arith, c.requires.few)),
           )
       | else-index w ↦
           let more : c.max-self-inside.result ≡ max q.most n = rw w.self-inside-is at c.max-self-inside.ensures in
           let put : c.put.new.self ≡ set w.take.new.self v (n % BUCKETS) = rw w.self-inside-is at c.put.ensures in
           rw (w.self-inside-is, put, w.take.ensures) (
-            filed_opened filed within above window c.requires.few more (one_set costs v n within) (two_set q.ring v NOWHERE (n % BUCKETS) inside),
+            filed_opened filed within above window c.requires.few more (one_set costs v n within) (two_set q.buckets v NOWHERE (n % BUCKETS) inside),
             listed_kept listed v n within (λ e. w.if-index.false (known ∙ e)) (omega (arith, c.requires.few)),
           )
     ]

@@ -1,15 +1,23 @@
 use Rattle.std.proofs.Common.{◌<◌, length, sym, subst, ap, ◌∙◌}
 use Rattle.tcc_reads.specs.History.{History}
+use Rattle.tcc_graph.specs.KeyIndices.{name_of}
 use Rattle.tcc_graph.specs.Relations.{has_items}
-use Rattle.tcc_graph.proofs.GraphLemmas.{reads_at, causal_at}
+use Rattle.tcc_graph.specs.private.Grouped.{of_group}
+use Rattle.tcc_graph.specs.private.ReadTables.{entries_of, history_of}
+use Rattle.tcc_graph.proofs.GraphLemmas.{names_from, has_items-map, causal_at}
 use Rattle.tcc_graph.proofs.large_graph.LargeGraph.causal.Goals as goal
 
 pub returns-else-session : goal.returns-else-session
 returns-else-session c =
     rw (← c.self.view_is)
-    (let from = subst (λ (h : History). c.args.a < length h.entries) (sym c.self.view_is) c.requires.from in
+    (let names = c.self.inside.keys.items in
+    let indexed = c.self.inside.indexed.items in
+    let inv = c.self.invariant in
+    let row = c.index.result.now in
+    let from = subst (λ (h : History). c.args.a < length h.entries) (sym c.self.view_is) c.requires.from in
     let to = subst (λ (h : History). c.args.b < length h.entries) (sym c.self.view_is) c.requires.to in
-    causal_at (record { sessions = c.self.inside.sessions.items; entries = c.self.inside.transactions.items }) c.args.a c.args.b from to
+    causal_at (history_of c.self.inside.sessions.items names indexed) c.args.a c.args.b from to
     (rw (← c.self.view_is) at (sym c.session.ensures ∙ c.if-session.false)) c.has.result
-    (c.has.ensures ∙ ap has_items (reads_at c.self.inside.transactions.items c.self.inside.reads.items c.args.a c.args.b c.index.result.now
-    c.self.invariant.read from to c.index.ensures)))
+    (c.has.ensures ∙ sym (has_items-map (name_of names) (of_group row c.args.b))
+    ∙ ap has_items (names_from (entries_of names indexed) names indexed inv.sorted inv.indexed c.self.inside.key_indices.items inv.read_indexed c.args.a from row
+    c.index.ensures c.args.b to)))

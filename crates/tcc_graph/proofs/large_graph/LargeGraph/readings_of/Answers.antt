@@ -1,11 +1,12 @@
 use Rattle.std.proofs.Common.{◌∙◌, sym}
 use Rattle.std.proofs.lemmas.List.{length-map}
+use Rattle.tcc_graph.specs.private.ReadTables.{entries_of}
 use Rattle.tcc_graph.proofs.GraphLemmas.{key_order, key_readings}
 use Rattle.tcc_graph.proofs.large_graph.LargeGraph.readings_of.Goals as goal
 
 pub returns : goal.returns
 returns c =
-    let entries = c.self.inside.transactions.items in
+    let entries = entries_of c.self.inside.keys.items c.self.inside.indexed.items in
     let names = c.self.inside.keys.items in
     let indexed = c.self.inside.indexed.items in
     let rows = c.self.inside.rows.items in

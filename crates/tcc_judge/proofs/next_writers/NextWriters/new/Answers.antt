@@ -1,4 +1,4 @@
-use Rattle.std.proofs.Common.{rules, ◌≡◌, ℕ, List, ◌∷◌, [], replicate}
+use Rattle.std.proofs.Common.{rules, ◌≡◌, ◌∷◌, [], replicate}
 use Rattle.std.proofs.Common.{refl}
 use Rattle.tcc_clocks.specs.declared.latest.TheConstants.{WIDE}
 use Rattle.tcc_judge.specs.declared.least.TheConstants.{NONE}

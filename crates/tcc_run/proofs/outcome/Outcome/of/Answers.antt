@@ -1,5 +1,7 @@
-use Rattle.tcc_run.proofs.Earlier.{own_earlier}
+use Rattle.std.proofs.lemmas.Result.{IfOk-weaker}
+use Rattle.tcc_run.proofs.Runs.{told}
 use Rattle.tcc_run.proofs.outcome.Outcome.of.Goals as goal
 
-pub returns-in-Ok-clause-earlier : goal.returns-in-Ok-clause-earlier
-returns-in-Ok-clause-earlier g c = own_earlier c.args.run.now.options.now.level c.args.snapshot.now c.in-Ok.answer c.in-Ok.ensures.0 c.in-Ok.ensures.1
+pub returns-clause-told : goal.returns-clause-told
+returns-clause-told g c =
+    IfOk-weaker c.of_snapshot.result _ _ (λ outcome is. told c.args.run.now.options.now c.args.snapshot.now outcome is) c.of_snapshot.ensures.outcome

@@ -1,6 +1,0 @@
-use Rattle.std.proofs.Common.{take}
-use Rattle.tcc_derive.specs.private.Lowering.{Lowers}
-use Rattle.tcc_derive.proofs.pricing.lower.Given as goal
-
-abbrev pub invariant-loop-read : goal.invariant-loop-read
-invariant-loop-read l = Lowers (take l.read-index l.reads) l.steps l.initial.nearest l.nearest

@@ -1,4 +1,0 @@
-use Rattle.tcc_derive.proofs.tables.Prices.is_whole.Goals as goal
-
-pub returns : goal.returns
-returns c = rw (← c.self.view_is) c.self.invariant.2

@@ -1,0 +1,195 @@
+//! The edge weights of links between transactions at a level: a dense row of prices, and a sparse row of links, for each
+//! transaction. A price is a look at a cell, and a cost a binary search in a row, for N transactions log N steps.
+ghost use Rattle.std.specs.Prelude.{◌≡◌, ◌<◌, ◌≤◌, ◌+◌, ◌∷◌, ◌↔◌, true, [], length, All};
+ghost use Rattle.std.specs.List.{AllPairs};
+ghost use Rattle.tcc_near.specs.WalkLengths.{least_in};
+ghost use Rattle.tcc_derive.specs.Limits.{AreWithin};
+ghost use Rattle.tcc_derive.specs.Prices.{price_at, cost_at, cost_among, end_of, others_at};
+ghost use Rattle.tcc_derive.specs.private.Others.{IsShaped, tables_of};
+ghost use Rattle.tcc_derive.specs.ByClass.{IsByClass};
+ghost use Rattle.tcc_derive.specs.private.Classes.{HaveByClass};
+ghost use Rattle.tcc_txn.specs.declared.limits.TheConstants.{MAX_COUNT};
+ghost use Rattle.tcc_graph.specs.Tables.{row_of};
+
+use crate::ByClass;
+use std::marker::Model;
+use tcc_bits::Row;
+use tcc_graph::Level;
+use tcc_near::NONE;
+
+/// What derived links, and links of all kinds, cost at least between the transactions of a graph at a level.
+#[derive(Drop)]
+pub struct Prices {
+    level: Level,
+    prices: Vec<Row<u16>>,
+    ends: Vec<u32>,
+    others: Vec<Row<(u32, u32)>>,
+    limit: u16,
+    /// The links other than session links that cost at most the limit, a row for each row of others.
+    by_class: Vec<ByClass>,
+    /// Whether none costs more.
+    whole: bool,
+}
+
+impl Model for Prices {
+    ghost use Rattle.std.specs.Prelude.{◌≡◌, ◌↔◌, true, length};
+    ghost use Rattle.tcc_derive.specs.Limits.{AreWithin};
+    ghost use Rattle.tcc_derive.specs.Prices.{Tables};
+    ghost use Rattle.tcc_derive.specs.private.Others.{IsShaped, tables_of};
+    ghost use Rattle.tcc_derive.specs.private.Classes.{HaveByClass};
+
+    ghost Value = { Tables };
+
+    ghost view = { λ p. tables_of p.level p.prices.items p.ends.items p.others.items p.limit };
+
+    ghost invariant = { λ p. IsShaped (length p.prices.items)
+        (tables_of p.level p.prices.items p.ends.items p.others.items p.limit)
+        × HaveByClass (tables_of p.level p.prices.items p.ends.items p.others.items p.limit) p.by_class.items
+        × ((p.whole ≡ true) ↔ AreWithin p.limit p.others.items) };
+}
+
+impl Prices {
+    /// The tables of these rows, at this level.
+    pub(crate) fn new(
+        level: Level,
+        prices: Vec<Row<u16>>,
+        ends: Vec<u32>,
+        others: Vec<Row<(u32, u32)>>,
+        limit: u16,
+        by_class: Vec<ByClass>,
+        whole: bool,
+    ) -> Prices
+        requires shape { IsShaped (length prices.items)
+            (tables_of level prices.items ends.items others.items limit) }
+        requires by_class { HaveByClass (tables_of level prices.items ends.items others.items limit) by_class.items }
+        requires whole { (whole ≡ true) ↔ AreWithin limit others.items }
+        ensures { result ≡ tables_of level prices.items ends.items others.items limit }
+    {
+        Prices {
+            level,
+            prices,
+            ends,
+            others,
+            limit,
+            by_class,
+            whole,
+        }
+    }
+
+    /// The level at which links are judged.
+    pub fn level(&self) -> Level
+        ensures { result ≡ self.now.level }
+    {
+        self.level
+    }
+
+    /// How many transactions there are, `init` among them.
+    pub fn count(&self) -> u32
+        ensures value { result ≡ length self.now.prices }
+        ensures few { result ≤ MAX_COUNT }
+    {
+        self.prices.len() as u32
+    }
+
+    /// The least cost of a derived link from `b` to `a`, over all keys and readers; none where there is no reason. It is for
+    /// those who ask for one price: whoever goes through many takes `prices`.
+    pub fn price(&self, b: u32, a: u32) -> Option<u32>
+        requires from { b < length self.now.prices }
+        requires to { a < length self.now.prices }
+        ensures { result ≡ price_at self.now b a }
+    {
+        cell(self.prices[b as usize].as_slice()[a as usize])
+    }
+
+    /// The least cost of a link from `u` to `v`: 1 on a causal pair, else the price.
+    pub fn cost(&self, u: u32, v: u32) -> Option<u32>
+        requires from { u < length self.now.prices }
+        requires to { v < length self.now.prices }
+        ensures { result ≡ cost_at self.now u v }
+    {
+        let end = self.ends[u as usize];
+        if u < v && v < end {
+            return Some(1);
+        }
+        cost_among(self.others[u as usize].as_slice(), v)
+    }
+
+    /// The first number with a session pair from `u`, and one past the last one, all between them having one too; both
+    /// `u + 1` where there is none.
+    pub fn later(&self, u: u32) -> (u32, u32)
+        requires { u < length self.now.prices }
+        ensures first { result.0 ≡ u + 1 }
+        ensures end { result.1 ≡ end_of self.now u }
+        ensures order { result.0 ≤ result.1 }
+        ensures few { result.1 ≤ length self.now.prices }
+    {
+        let end = self.ends[u as usize];
+        (u + 1, end)
+    }
+
+    /// The transactions that links other than session links lead to from `u`, ascending, those with a reads-from pair from
+    /// `u` or a price: each with the least cost of a link there.
+    pub fn others(&self, u: u32) -> &[(u32, u32)]
+        requires { u < length self.now.prices }
+        ensures value { result.now ≡ others_at self.now u }
+        ensures within { All (λ p. p.0 < length self.now.prices) result.now }
+    {
+        self.others[u as usize].as_slice()
+    }
+
+    /// What links cost at most that `by_class` has: what the least of the cycles costs that a walk makes, or a walk and one
+    /// derived link back; 64 where there is none.
+    pub fn limit(&self) -> u16
+        ensures { result ≡ self.now.limit }
+    {
+        self.limit
+    }
+
+    /// Whether no link costs more than `limit()`, but for session links, which cost 1.
+    pub fn is_whole(&self) -> bool
+        ensures { (result ≡ true) ↔ AreWithin self.now.limit self.now.others }
+    {
+        self.whole
+    }
+
+    /// Of the links other than session links from `u`, those that cost at most `limit()`, by classes of cost: for a small
+    /// cost that many of them have, where they lead is marked in a row; the others stand one by one, in ascending cost.
+    pub fn by_class(&self, u: u32) -> &ByClass
+        requires { u < length self.now.prices }
+        ensures { IsByClass self.now u result.now }
+    {
+        &self.by_class[u as usize]
+    }
+
+    /// What derived links from `b` to each transaction cost, `NONE` where there is none.
+    pub fn prices(&self, b: u32) -> &[u16]
+        requires { b < length self.now.prices }
+        ensures value { result.now ≡ row_of self.now.prices b }
+        ensures long { length result.now ≡ length self.now.prices }
+    {
+        self.prices[b as usize].as_slice()
+    }
+}
+
+/// What stands beside a number, in a list of ascending numbers; none where it doesn't stand there.
+fn cost_among(others: &[(u32, u32)], v: u32) -> Option<u32>
+    requires { AllPairs (λ p q. p.0 < q.0) others.now }
+    ensures { result ≡ cost_among others.now v }
+{
+    let index = others.partition_point(|other| other.0 < v);
+    match others.get(index) {
+        Some(&(number, cost)) if number == v => Some(cost),
+        _ => None,
+    }
+}
+
+/// What stands in a row, as a number or none.
+fn cell(cost: u16) -> Option<u32>
+    ensures { result ≡ least_in (cost ∷ []) 0 }
+{
+    if cost == NONE {
+        None
+    } else {
+        Some(cost as u32)
+    }
+}

@@ -1,0 +1,10 @@
+use Rattle.std.proofs.Common.{◌<◌, sym, subst}
+use Rattle.tcc_reads.specs.History.{History, count}
+use Rattle.tcc_graph.proofs.NamedLemmas.{named_at}
+use Rattle.tcc_graph.proofs.graph.Graph.reads.Goals as goal
+
+pub returns-clause-sources : goal.returns-clause-sources
+returns-clause-sources c =
+    let below = subst (λ (h : History). c.args.c < count h) (sym c.self.view_is) c.requires in
+    let at = named_at c.self.inside.large (count c.self.inside.large) c.self.inside.names.items c.self.invariant.2 c.args.c below c.index.result.now c.index.ensures in
+    rw (c.reads.ensures, ← c.self.view_is) at.sources

@@ -1,5 +1,0 @@
-use Rattle.tcc_graph.proofs.Judged.{IsRestOf}
-use Rattle.tcc_graph.proofs.judging.leads.Given as goal
-
-abbrev pub invariant-loop-step : goal.invariant-loop-step
-invariant-loop-step l = IsRestOf l.graph l.from l.at l.to l.step-index l.steps

@@ -1,6 +1,0 @@
-use Rattle.tcc_large.proofs.Judged.{IsRestOf}
-use Rattle.tcc_large.proofs.judging.lead.Given as goal
-use Rattle.tcc_graph.specs.Levels.{judged}
-
-abbrev pub invariant-loop-link : goal.invariant-loop-link
-invariant-loop-link l = IsRestOf (judged l.graph l.level) l.start l.at l.end l.link-index l.links

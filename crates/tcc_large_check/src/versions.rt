@@ -1,0 +1,88 @@
+//! The verdict on a certificate, by the version that its first line says.
+ghost use Rattle.std.specs.Prelude.{◌≡◌, ℕ, List, IfSome, true};
+ghost use Rattle.tcc_cert.specs.Ahead.{IsAhead, is_new};
+ghost use Rattle.tcc_cert.specs.Parts.{parts_read};
+ghost use Rattle.tcc_cert.specs.Versions.{IsLargeAt};
+ghost use Rattle.tcc_txn.specs.Snapshots.{Sessions};
+ghost use Rattle.tcc_verdict.specs.private.Stages.{MayBeOfText};
+ghost use Rattle.tcc_large_check.specs.LargeChecks.{large_check};
+ghost use Rattle.tcc_large_check.specs.private.Stages.{IsJudgedLarge, IsJudgedParts, IsJudgedText, IsSizedHistory};
+
+use crate::LargeJudgement;
+use crate::judgement::claim_of;
+use crate::sized::SizedGraph;
+use std::alloc::Global;
+use std::io::Read;
+use tcc_cert::laws::no_first_line;
+use tcc_cert::{CertReader, LargeReader, VersionReader, reader_of};
+use tcc_check::{Judgement, Rule, StreamFault, Verdict, claim_in, judge_parts};
+use tcc_graph::LargeGraph;
+use tcc_judge::judge;
+use tcc_print::Halt;
+
+/// Judges a certificate of version 1 or 2. These are of histories within the small limits, so past them its sizes are wrong,
+/// whatever it claims; its text is read to the end, since a fault of it comes first.
+fn judged_parts<R: Read>(
+    alloc: Global,
+    graph: &SizedGraph,
+    parts: &mut CertReader<R>,
+) -> Result<Judgement, StreamFault>
+    requires { is_new parts.old ≡ true }
+    ensures { (bytes : List ℕ) → IsAhead R.remaining parts.old (parts_read bytes) → IsJudgedParts graph.now bytes result }
+{
+    match graph {
+        SizedGraph::Small(graph) => judge_parts(alloc, graph, parts),
+        SizedGraph::Large(_) => {
+            let claim = claim_in(alloc, parts)?;
+            let verdict = Verdict::Rejected {
+                rule: Rule::Sizes,
+                at: (0, 0),
+            };
+            Ok(Judgement { claim, verdict })
+        }
+    }
+}
+
+/// Judges a certificate of version 3.
+fn judged_large<R: Read + Drop>(
+    alloc: Global,
+    graph: &LargeGraph,
+    reader: LargeReader<R>,
+) -> Result<LargeJudgement, StreamFault>
+    ensures { (bytes : List ℕ) → IsLargeAt R.remaining reader bytes → IsJudgedLarge graph.now bytes result }
+{
+    let certificate = reader.read(alloc)?;
+    let verdict = judge(alloc, graph, &certificate)?;
+    let claim = claim_of(&certificate);
+    Ok(LargeJudgement::Large { claim, verdict })
+}
+
+/// Judges the certificate whose text the reader gives, by the rules for its version.
+fn judged_text<R: Read + Drop>(
+    alloc: Global,
+    graph: &SizedGraph,
+    reader: R,
+) -> Result<LargeJudgement, StreamFault>
+    ensures { IfSome (R.remaining reader) (λ bytes. IsJudgedText graph.now bytes result) }
+{
+    no_first_line();
+    match reader_of(reader)? {
+        VersionReader::Parts(mut parts) => {
+            let judgement = judged_parts(alloc, graph, &mut parts)?;
+            Ok(LargeJudgement::Small(judgement))
+        }
+        VersionReader::Large(reader) => judged_large(alloc, graph.large(), reader),
+    }
+}
+
+/// What the certificate claims whose text the reader gives, and the verdict on it.
+pub(crate) fn judged<R: Read + Drop>(
+    alloc: Global,
+    graph: &SizedGraph,
+    reader: R,
+) -> Result<LargeJudgement, Halt>
+    ensures { IfSome (R.remaining reader) (λ text. (s : Sessions) → IsSizedHistory s graph.now → MayBeOfText large_check s text result) }
+{
+    let judgement = judged_text(alloc, graph, reader)?;
+    Ok(judgement)
+}

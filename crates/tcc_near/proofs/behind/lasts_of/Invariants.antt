@@ -1,5 +1,0 @@
-use Rattle.tcc_near.specs.private.ClockRows.{AreLastsBelow}
-use Rattle.tcc_near.proofs.behind.lasts_of.Given as goal
-
-abbrev pub invariant-loop-b : goal.invariant-loop-b
-invariant-loop-b l = AreLastsBelow l.graph l.session l.b l.lasts.items

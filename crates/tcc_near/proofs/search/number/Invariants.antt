@@ -1,5 +1,0 @@
-use Rattle.tcc_near.proofs.FreshLemmas.{IsNumbered}
-use Rattle.tcc_near.proofs.search.number.Given as goal
-
-abbrev pub invariant-loop-number : goal.invariant-loop-number
-invariant-loop-number l = IsNumbered l.initial.steps l.steps l.fresh l.number-index l.distance

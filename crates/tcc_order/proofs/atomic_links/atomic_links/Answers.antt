@@ -1,0 +1,23 @@
+use Rattle.std.proofs.Common.{rules, ◌≡◌, ◌∙◌, ◌++◌, ◌∷◌, [], length, take, drop, sym, take_at}
+use Rattle.tcc_reads.specs.History.{count}
+use Rattle.tcc_order.proofs.Stepped.{atomic_links, below_more}
+use Rattle.tcc_order.proofs.atomic_links.atomic_links.Goals as goal
+
+pub loop-a-preserved : goal.loop-a-preserved
+loop-a-preserved c =
+    let new = c.links_into.new.places in
+    let old = c.loop-a.places.items in
+    let same : length new ≡ length old = rw c.deref_mut.ensures.value at c.links_into.ensures.same in
+    let long : c.loop-a.places.len ≡ length old = search rules in
+    let whole : take c.loop-a.places.len (new ++ drop (length new) old) ≡ new = take_at new (drop (length new) old) c.loop-a.places.len (same ∙ sym long) in
+    let pushed : c.push.new.self.items ≡ c.loop-a.kept.items ++ c.in_ok-into.into ∷ [] = search rules in
+    rw (whole, pushed) (
+      same ∙ c.loop-a.invariant.0,
+      below_more c.args.graph.now c.loop-a.a c.loop-a.kept.items c.in_ok-into.into c.loop-a.invariant.1 c.in_ok-into.ensures.kept,
+    )
+
+pub returns : goal.returns
+returns c =
+    let h = c.args.graph.now in
+    let all : c.loop-a.a ≡ count h = search rules in
+    atomic_links h c.loop-a.kept.items c.loop-a.a all c.loop-a.invariant.1

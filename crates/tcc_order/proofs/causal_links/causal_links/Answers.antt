@@ -1,0 +1,46 @@
+use Rattle.std.proofs.Common.{rules, ◌≡◌, ◌<◌, ◌≤◌, ◌*◌, ◌∙◌, ◌++◌, ℕ, length, take, drop, sym, arith, take_at}
+use Rattle.tcc_reads.specs.History.{count, owner}
+use Rattle.tcc_order.specs.private.CausalLinks.{Overwrites}
+use Rattle.tcc_clocks.specs.declared.latest.TheConstants.{WIDE}
+use Rattle.tcc_order.proofs.Finding.{none_derived, causal_links, blocks_cover}
+use Rattle.tcc_order.proofs.causal_links.causal_links.Goals as goal
+
+pub loop-block-init : goal.loop-block-init
+loop-block-init c =
+    let h = c.args.graph.now in
+    let kept = c.in_ok-kept.kept.items in
+    let long : length kept ≡ count h = search rules in
+    (search rules, long, none_derived (Overwrites h) kept c.in_ok-kept.ensures.none, λ a b over some less. absurd (omega (arith, less)))
+
+pub keep_block-requires-clause-derived : goal.keep_block-requires-clause-derived
+keep_block-requires-clause-derived c = rw c.deref_mut.ensures.value c.loop-block.invariant.2
+
+pub keep_block-requires-clause-enough : goal.keep_block-requires-clause-enough
+keep_block-requires-clause-enough c = rw c.deref_mut.ensures.value c.loop-block.invariant.3
+
+pub loop-block-preserved : goal.loop-block-preserved
+loop-block-preserved c =
+    let new = c.keep_block.new.kept in
+    let old = c.loop-block.kept.items in
+    let inv = c.loop-block.invariant in
+    let same : length new ≡ length old = rw c.deref_mut.ensures.value at c.in_ok-keep_block.ensures.same in
+    let long : c.loop-block.kept.len ≡ length old = search rules in
+    let whole : take c.loop-block.kept.len (new ++ drop (length new) old) ≡ new = take_at new (drop (length new) old) c.loop-block.kept.len (same ∙ sym long) in
+    rw whole (
+      c.in_ok-find_clocks.ensures.long,
+      same ∙ inv.1,
+      c.in_ok-keep_block.ensures.derived,
+      λ a b over some less. c.in_ok-keep_block.ensures.enough a b over some (omega (arith, less)),
+    )
+
+pub returns : goal.returns
+returns c =
+    let h = c.args.graph.now in
+    let inv = c.loop-block.invariant in
+    let owned : (b : ℕ) → 0 < b → b < count h → owner h b < length c.sessions-sessions.result.now = c.sessions-sessions.ensures.owners in
+    let cover : length c.sessions-sessions.result.now ≤ c.loop-block.block * WIDE
+    = blocks_cover (length c.sessions-sessions.result.now) c.loop-block.block (omega (arith, c.loop-block-test.false, c.div_ceil-block-end.ensures)) in
+    causal_links h c.loop-block.kept.items inv.1 inv.2 (λ a b over some t. inv.3 a b over some (omega (arith, owned b some over.1, cover)))
+
+pub find_clocks-requires-clause-long : goal.find_clocks-requires-clause-long
+find_clocks-requires-clause-long c = c.loop-block.invariant.0

@@ -1,0 +1,418 @@
+//! The links at `Causal` that are kept: of each transaction and each session the last one that has to stand before it, where
+//! it doesn't reach it. One that an earlier transaction of the same session has too is kept there alone; and where the readers of
+//! both are alike, the later one isn't looked at. For N transactions of S sessions, R reads, P pairs of a source and a key that is
+//! read from it, and W writers of a key that takes O(S (N + R + P log W)).
+ghost use Rattle.std.specs.Prelude.{◌≡◌, ◌≢◌, ◌<◌, ◌≤◌, ◌+◌, ◌-◌, ◌⊎◌, ◌↔◌, ℕ, length, slice_index, All, Contains, IfOk, OnOk};
+ghost use Rattle.tcc_reads.specs.History.{IsBySession, count, owner};
+ghost use Rattle.tcc_graph.specs.Relations.{IsReadsPair};
+ghost use Rattle.tcc_clocks.specs.Clocks.{AreOwners, AreClocks, LeadsOnward};
+ghost use Rattle.tcc_order.specs.private.CausalLinks.{IsOverwritten, IsLifted, AreDerived, AreEnough, AreLinks, Overwrites, HasNone, lifted_by};
+ghost use Rattle.tcc_graph.specs.Levels.{causally};
+ghost use Rattle.tcc_graph.specs.Keys.{keys};
+ghost use Rattle.tcc_graph.specs.Tables.{row_of};
+ghost use Rattle.tcc_graph.specs.Orders.{IsNumbering};
+ghost use Rattle.tcc_clocks.specs.Parents.{ArePrevious};
+ghost use Rattle.tcc_order.specs.private.CausalLinks.{AreOrdered, CanLift, IsLastUpTo, IsLastBut, AreLatestPast, TellsNothing, KeepsNews, IsBegun};
+ghost use Rattle.tcc_order.specs.private.ByKey.{AreReadingsFrom, AreReadingRows, IsTop, AreAlike, IsLikeBefore, key_index_in, reader_in};
+ghost use Rattle.tcc_clocks.specs.Spans.{AreSpans, AreBounds};
+ghost use Rattle.tcc_clocks.specs.declared.latest.TheConstants.{WIDE};
+ghost use Rattle.std.specs.List.Sorted.{IsNonDecreasing, IsPartitionPoint};
+ghost use Rattle.std.specs.Prelude.{nat_le, true, false, ◌∷◌, []};
+
+use crate::by_key::readings_by_key;
+use std::alloc::Global;
+use tcc_bits::Row;
+use tcc_clocks::{
+    Clock, SharedRows, WIDE, between, block_bounds, find_clocks, find_spans, owners, raise_each,
+    steps_along,
+};
+use tcc_graph::LargeGraph;
+use tcc_txn::NoMemory;
+
+/// Up to so many writers of a key are looked at one by one.
+const FEW: usize = 128;
+
+/// Raises the number of a session to that of a writer other than `a`, where the clock reaches it.
+fn lift_writer(need: &mut [u32], owners: &[u32], from: u32, clock: &[u32], b: u32, a: u32)
+    requires same { length need.old ≡ length clock.now }
+    requires inside { b < length owners.now }
+    ensures same { length need.new ≡ length need.old }
+    ensures each { (k : ℕ) → k < length need.old → slice_index need.new k ≡ lifted_by owners.now from clock.now a b k (slice_index need.old k) }
+{
+    let owner = owners[b as usize];
+    if b > 0 && b != a && owner >= from {
+        let column = (owner - from) as usize;
+        if column < need.len() && b <= clock[column] {
+            need[column] = b.max(need[column]);
+        }
+    }
+}
+
+/// Raises the number of a session to each of these writers in turn, where the clock reaches it.
+fn lift_each(need: &mut [u32], owners: &[u32], from: u32, clock: &[u32], writers: &[u32], a: u32)
+    requires same { length need.old ≡ length clock.now }
+    requires inside { All (λ b. b < length owners.now) writers.now }
+    ensures same { length need.new ≡ length need.old }
+    ensures each { (k : ℕ) → k < length need.old → IsLifted owners.now from clock.now writers.now a k (slice_index need.old k) (slice_index need.new k) }
+{
+    for writer in writers {
+        lift_writer(need, owners, from, clock, *writer, a);
+    }
+}
+
+/// How many of these, which rise, are no greater than `top`.
+fn count_up_to(numbers: &[u32], top: u32) -> usize
+    requires { IsNonDecreasing numbers.now }
+    ensures bound { result ≤ length numbers.now }
+    ensures point { IsPartitionPoint (λ b. nat_le b top ≡ true) (λ b. nat_le b top ≡ false) numbers.now result }
+{
+    numbers.partition_point(|number| *number <= top)
+}
+
+/// The last of these, which rise, that is no greater than `top`, or 0.
+pub(crate) fn last_up_to(numbers: &[u32], top: u32) -> u32
+    requires { IsNonDecreasing numbers.now }
+    ensures { IsLastUpTo numbers.now top result }
+{
+    let count = count_up_to(numbers, top);
+    if count == 0 {
+        return 0;
+    }
+    numbers[count - 1]
+}
+
+/// The last of these, which rise, that is no greater than `top` and is not `a`, or 0.
+fn last_but(numbers: &[u32], top: u32, a: u32) -> u32
+    requires { IsNonDecreasing numbers.now }
+    ensures { IsLastBut numbers.now top a result }
+{
+    let last = last_up_to(numbers, top);
+    if last == a && a > 0 {
+        return last_up_to(numbers, a - 1);
+    }
+    last
+}
+
+/// The number of a session, raised to that of the last writer other than `a` that its clock reaches.
+pub(crate) fn lift_session(
+    owners: &[u32],
+    session: usize,
+    top: u32,
+    writers: &[u32],
+    a: u32,
+    number: u32,
+) -> u32
+    requires ordered { AreOrdered owners.now }
+    requires rising { IsNonDecreasing writers.now }
+    requires inside { All (λ b. b < length owners.now) writers.now }
+    requires top { (top ≡ 0) ⊎ ((top < length owners.now) × (slice_index owners.now top ≡ session)) }
+    ensures { IsLifted owners.now session (top ∷ []) writers.now a 0 number result }
+{
+    if top <= number {
+        return number;
+    }
+    let last = last_but(writers, top, a);
+    if last > number && owners[last as usize] as usize == session {
+        return last;
+    }
+    number
+}
+
+/// Raises the number of each session to that of the last writer, other than `a`, that the clock reaches.
+fn lift_sessions(
+    need: &mut [u32],
+    owners: &[u32],
+    from: u32,
+    clock: &[u32],
+    writers: &[u32],
+    a: u32,
+)
+    requires { CanLift owners.now from clock.now writers.now need.old }
+    ensures same { length need.new ≡ length need.old }
+    ensures each { (k : ℕ) → k < length need.old → IsLifted owners.now from clock.now writers.now a k (slice_index need.old k) (slice_index need.new k) }
+{
+    for (column, number) in need.iter_mut().enumerate() {
+        let session = from as usize + column;
+        *number = lift_session(owners, session, clock[column], writers, a, *number);
+    }
+}
+
+/// Raises the numbers of the sessions to those of writers, other than `a`, that the clock reaches: writer by writer where they
+/// are few, and else session by session.
+fn lift_writers(need: &mut [u32], owners: &[u32], from: u32, clock: &[u32], writers: &[u32], a: u32)
+    requires { CanLift owners.now from clock.now writers.now need.old }
+    ensures same { length need.new ≡ length need.old }
+    ensures each { (k : ℕ) → k < length need.old → IsLifted owners.now from clock.now writers.now a k (slice_index need.old k) (slice_index need.new k) }
+{
+    if writers.len() <= FEW {
+        lift_each(need, owners, from, clock, writers, a);
+    } else {
+        lift_sessions(need, owners, from, clock, writers, a);
+    }
+}
+
+/// Where the readings of one key end that begin at `start`.
+fn end_of_key(readings: &[(u32, u32)], start: usize) -> usize
+    requires { start < length readings.now }
+    ensures past { start < result }
+    ensures within { result ≤ length readings.now }
+    ensures same { (k : ℕ) → start ≤ k → k < result → key_index_in readings.now k ≡ key_index_in readings.now start }
+{
+    let key_index = readings[start].1;
+    for index in start + 1..readings.len() {
+        if readings[index].1 != key_index {
+            return index;
+        }
+    }
+    readings.len()
+}
+
+/// Of each session of the block the greatest number that reaches one of the readers from `start` to below `end`. One with the
+/// clock of `a` is passed over.
+fn top_of(table: &SharedRows, readings: &[(u32, u32)], start: usize, end: usize, a: u32) -> Clock
+    requires upto { start ≤ end }
+    requires within { end ≤ length readings.now }
+    requires readers { (k : ℕ) → k < length readings.now → reader_in readings.now k < length table.now }
+    requires wide { (c : ℕ) → c < length table.now → length (row_of table.now c) ≡ WIDE }
+    requires below { a < length table.now }
+    ensures wide { length result ≡ WIDE }
+    ensures tops { (k : ℕ) → k < WIDE → IsTop table.now readings.now start end (row_of table.now a) k (slice_index result k) }
+{
+    let mut top = [0; WIDE];
+    for index in start..end {
+        let reader = readings[index].0;
+        if !table.are_same(reader, a) {
+            raise_each(&mut top, table.get(reader));
+        }
+    }
+    top
+}
+
+/// What has to stand before `a` by what was read from it: of each session of the block the last writer, past those that reach
+/// `a`, of a key that a transaction reads from `a`, where it reaches that reader. The readers of one key are taken together, so
+/// that its writers are gone through once.
+fn needed(
+    need: &mut [u32],
+    graph: &LargeGraph,
+    owners: &[u32],
+    from: u32,
+    bounds: (usize, usize),
+    spans: &[(usize, usize)],
+    table: &SharedRows,
+    readings: &[(u32, u32)],
+    a: u32,
+)
+    requires wide { length need.old ≡ WIDE }
+    requires numbered { IsBySession graph.now.entries }
+    requires owners { AreOwners graph.now owners.now }
+    requires bounds { AreBounds owners.now from bounds.0 bounds.1 }
+    requires clocks { AreClocks graph.now from table.now }
+    requires spans { AreSpans graph.now bounds.0 bounds.1 spans.now (length (keys graph.now)) }
+    requires readings { AreReadingsFrom graph.now a readings.now }
+    requires below { a < count graph.now }
+    ensures { AreLatestPast graph.now (IsOverwritten graph.now (IsReadsPair graph.now a) a) from (row_of table.now a) need.new }
+{
+    need.fill(0);
+    let mut start = 0;
+    while start < readings.len() {
+        let end = end_of_key(readings, start);
+        let top = top_of(table, readings, start, end, a);
+        let key_index = readings[start].1;
+        let writers = between(graph.writers_at(key_index), spans[key_index as usize]);
+        lift_writers(need, owners, from, &top, writers, a);
+        start = end;
+    }
+}
+
+/// Whether not all that read from `a` are known to have its row.
+fn has_news(graph: &LargeGraph, table: &SharedRows, a: u32) -> bool
+    requires long { length table.now ≡ count graph.now }
+    requires below { a < count graph.now }
+    ensures { result ≡ false → TellsNothing graph.now table.now a }
+{
+    let (readers, _key_indices) = graph.readings_at(a);
+    for reader in readers {
+        if !table.are_same(*reader, a) {
+            return true;
+        }
+    }
+    false
+}
+
+/// The number before `c`, if it is of the same session, or else 0.
+pub(crate) fn before_in_session(owners: &[u32], c: u32) -> u32
+    requires { c < length owners.now }
+    ensures low { result ≤ c }
+    ensures own { (result ≡ 0) ⊎ ((result ≡ c - 1) × (slice_index owners.now result ≡ slice_index owners.now c)) }
+    ensures first { result ≡ 0 → (c ≡ 0) ⊎ ((c ≡ 1) ⊎ (slice_index owners.now (c - 1) ≢ slice_index owners.now c)) }
+{
+    if c > 0 && owners[(c - 1) as usize] == owners[c as usize] {
+        c - 1
+    } else {
+        0
+    }
+}
+
+/// Begins the run anew where `a` is the first transaction of its session.
+fn begin_session(run: &mut [u32], owners: &[u32], a: u32)
+    requires { a < length owners.now }
+    ensures same { length run.new ≡ length run.old }
+    ensures begun { IsBegun owners.now a run.old run.new }
+{
+    if before_in_session(owners, a) > 0 {
+        return;
+    }
+    run.fill(0);
+}
+
+/// Whether these are readers of the same keys, and each known to have the row of the other at its index.
+fn are_alike(table: &SharedRows, readings: &[(u32, u32)], others: &[(u32, u32)]) -> bool
+    requires readers { All (λ reading. reading.0 < length table.now) readings.now }
+    requires others { All (λ reading. reading.0 < length table.now) others.now }
+    ensures { result ≡ true → AreAlike table.now readings.now others.now }
+{
+    if readings.len() != others.len() {
+        return false;
+    }
+    for index in 0..readings.len() {
+        if readings[index].1 != others[index].1 {
+            return false;
+        }
+        if !table.are_same(readings[index].0, others[index].0) {
+            return false;
+        }
+    }
+    true
+}
+
+/// Whether the readers of `a` are like those of the transaction before it in its session.
+fn is_like_before(owners: &[u32], table: &SharedRows, readings: &[Row<(u32, u32)>], a: u32) -> bool
+    requires below { a < length owners.now }
+    requires long { length readings.now ≡ length owners.now }
+    requires readers { All (λ row. All (λ reading. reading.0 < length table.now) row) readings.now }
+    ensures { result ≡ true → IsLikeBefore owners.now table.now readings.now a }
+{
+    let before = before_in_session(owners, a);
+    if before == 0 {
+        return false;
+    }
+    let from_a = readings[a as usize].as_slice();
+    let from_before = readings[before as usize].as_slice();
+    are_alike(table, from_a, from_before)
+}
+
+/// Whether more may have to stand before `a` than what its clock holds, and than what has to stand before the transaction before
+/// it in its session.
+fn has_more(
+    graph: &LargeGraph,
+    owners: &[u32],
+    table: &SharedRows,
+    readings: &[Row<(u32, u32)>],
+    a: u32,
+) -> bool
+    requires owners { AreOwners graph.now owners.now }
+    requires long { length table.now ≡ count graph.now }
+    requires readings { AreReadingRows graph.now readings.now }
+    requires below { a < count graph.now }
+    ensures { result ≡ false → TellsNothing graph.now table.now a ⊎ IsLikeBefore owners.now table.now readings.now a }
+{
+    if is_like_before(owners, table, readings, a) {
+        return false;
+    }
+    has_news(graph, table, a)
+}
+
+/// Keeps the numbers that are greater than those of the clock and those of the run: what the run holds is kept already, into an
+/// earlier transaction of the session.
+fn keep(kept: &mut Row<u32>, need: &[u32], clock: &[u32], run: &mut [u32]) -> Result<(), NoMemory>
+    requires long { length need.now ≡ length clock.now }
+    requires runs { length run.old ≡ length need.now }
+    ensures same { length run.new ≡ length run.old }
+    ensures kept { OnOk result (KeepsNews need.now clock.now run.old run.new kept.old kept.new (length need.now)) }
+{
+    for (session, number) in need.iter().enumerate() {
+        let known = clock[session].max(run[session]);
+        if *number > known {
+            kept.push(*number)?;
+            run[session] = *number;
+        }
+    }
+    Ok(())
+}
+
+/// Keeps the links from the sessions of a block.
+fn keep_block(
+    alloc: Global,
+    kept: &mut [Row<u32>],
+    graph: &LargeGraph,
+    owners: &[u32],
+    from: u32,
+    table: &SharedRows,
+    readings: &[Row<(u32, u32)>],
+) -> Result<(), NoMemory>
+    requires numbered { IsBySession graph.now.entries }
+    requires owners { AreOwners graph.now owners.now }
+    requires clocks { AreClocks graph.now from table.now }
+    requires readings { AreReadingRows graph.now readings.now }
+    requires long { length kept.old ≡ count graph.now }
+    requires derived { AreDerived (Overwrites graph.now) kept.old }
+    requires enough { AreEnough graph.now (Overwrites graph.now) (λ a b. owner graph.now b < from) kept.old }
+    ensures same { length kept.new ≡ length kept.old }
+    ensures derived { OnOk result (AreDerived (Overwrites graph.now) kept.new) }
+    ensures enough { OnOk result (AreEnough graph.now (Overwrites graph.now) (λ a b. owner graph.now b < from + WIDE) kept.new) }
+{
+    let mut need = [0; WIDE];
+    let mut run = [0; WIDE];
+    let bounds = block_bounds(owners, from);
+    let mut spans = Vec::new(alloc);
+    find_spans(&mut spans, graph, bounds)?;
+    for a in 0..graph.count() {
+        begin_session(&mut run, owners, a);
+        if has_more(graph, owners, table, readings, a) {
+            let from_a = readings[a as usize].as_slice();
+            needed(
+                &mut need, graph, owners, from, bounds, &spans, table, from_a, a,
+            );
+            keep(&mut kept[a as usize], &need, table.get(a), &mut run)?;
+        }
+    }
+    Ok(())
+}
+
+/// So many rows in which nothing stands.
+pub(crate) fn empty_rows(alloc: Global, count: u32) -> Result<Vec<Row<u32>>, NoMemory>
+    ensures long { IfOk result (λ rows. length rows.items ≡ count) }
+    ensures none { IfOk result (λ rows. HasNone rows.items) }
+{
+    let mut rows = Vec::new(alloc);
+    for _row in 0..count {
+        rows.push(Row::new(Vec::new(alloc)))?;
+    }
+    Ok(rows)
+}
+
+/// The links at `Causal` that are kept, by an order in which causal pairs lead onward.
+pub(crate) fn causal_links(
+    alloc: Global,
+    graph: &LargeGraph,
+    parents: &[u32],
+    order: &[u32],
+) -> Result<Vec<Row<u32>>, NoMemory>
+    requires parents { ArePrevious graph.now parents.now }
+    requires numbering { IsNumbering (count graph.now) order.now }
+    requires onward { LeadsOnward graph.now order.now }
+    ensures { IfOk result (λ kept. AreLinks (causally graph.now) kept.items) }
+{
+    let owners = owners(alloc, graph)?;
+    let mut kept = empty_rows(alloc, graph.count())?;
+    let mut table = SharedRows::new(alloc, graph.count())?;
+    let readings = readings_by_key(alloc, graph)?;
+    let steps = steps_along(alloc, graph, parents, order)?;
+    let sessions = graph.sessions().len();
+    for block in 0..sessions.div_ceil(WIDE) {
+        let from = (block * WIDE) as u32;
+        find_clocks(&mut table, graph, &owners, from, order, &steps)?;
+        keep_block(alloc, &mut kept, graph, &owners, from, &table, &readings)?;
+    }
+    Ok(kept)
+}

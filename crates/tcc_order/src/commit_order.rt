@@ -1,0 +1,118 @@
+//! The first commit order of a history at a level, or where it stops: the links that have to be kept (`causal_links`, by clocks
+//! along an order of the causal pairs, or `atomic_links`), and then Kahn's algorithm (`kahn`) over causal pairs and these links.
+//! For each other link there is a path of pairs and kept links, so that the order keeps it too. It costs what these three cost.
+ghost use Rattle.std.specs.Prelude.{ℕ, IfOk, MatchOption};
+ghost use Rattle.tcc_reads.specs.History.{IsBySession, count};
+ghost use Rattle.tcc_graph.specs.Orders.{IsFirstOrder, IsNumbering};
+ghost use Rattle.tcc_graph.specs.Routes.{HasCycle};
+ghost use Rattle.tcc_graph.specs.Walks.{IsReached};
+ghost use Rattle.tcc_graph.specs.Levels.{causally, judged};
+ghost use Rattle.tcc_graph.specs.declared.level.Level.{Level};
+ghost use Rattle.tcc_clocks.specs.Parents.{ArePrevious};
+ghost use Rattle.tcc_clocks.specs.Clocks.{LeadsOnward};
+ghost use Rattle.tcc_order.specs.Placements.{IsPlacement, IsPairPlacement};
+ghost use Rattle.tcc_order.specs.private.Found.{AreFound};
+
+use crate::atomic_links::atomic_links;
+use crate::causal_links::{causal_links, empty_rows};
+use crate::kahn::{Placed, first_placing};
+use crate::placement::{PairPlacement, Placement, Stuck};
+use std::alloc::Global;
+use tcc_bits::Row;
+use tcc_clocks::previous_of_each;
+use tcc_graph::{LargeGraph, Level};
+use tcc_txn::NoMemory;
+
+/// The links at a level that are kept, or where an order stops because causal pairs alone stand in a circle.
+#[derive(Drop)]
+enum Links {
+    Kept(Vec<Row<u32>>),
+    Circle(Stuck),
+}
+
+/// The links at `Causal` that are kept, by the first order of causal pairs alone.
+fn links_by_clocks(alloc: Global, graph: &LargeGraph, parents: &[u32]) -> Result<Links, NoMemory>
+    requires numbered { IsBySession graph.now.entries }
+    requires parents { ArePrevious graph.now parents.now }
+    ensures { IfOk result (AreFound (causally graph.now)) }
+{
+    let none = empty_rows(alloc, graph.count())?;
+    match first_placing(alloc, graph, parents, &none)? {
+        Placed::Order(order) => Ok(Links::Kept(causal_links(alloc, graph, parents, &order)?)),
+        Placed::Stuck(placed) => Ok(Links::Circle(Stuck { kept: none, placed })),
+    }
+}
+
+/// The links at a level that are kept.
+fn links_kept(
+    alloc: Global,
+    graph: &LargeGraph,
+    level: Level,
+    parents: &[u32],
+) -> Result<Links, NoMemory>
+    requires numbered { IsBySession graph.now.entries }
+    requires parents { ArePrevious graph.now parents.now }
+    ensures { IfOk result (AreFound (judged graph.now level)) }
+{
+    match level {
+        Level::Atomic => Ok(Links::Kept(atomic_links(alloc, graph, parents)?)),
+        Level::Causal => links_by_clocks(alloc, graph, parents),
+    }
+}
+
+/// The first commit order of a history at a level, compared as lists of numbers; or where it stops: links of the level, and
+/// transactions of which each is held back by another, by causal pairs and these links.
+pub fn place(alloc: Global, graph: &LargeGraph, level: Level) -> Result<Placement, NoMemory>
+    ensures { IfOk result (IsPlacement (judged graph.now level)) }
+{
+    graph.numbered();
+    let parents = previous_of_each(alloc, graph)?;
+    let kept = match links_kept(alloc, graph, level, &parents)? {
+        Links::Kept(kept) => kept,
+        Links::Circle(stuck) => return Ok(Placement::Stuck(stuck)),
+    };
+    match first_placing(alloc, graph, &parents, &kept)? {
+        Placed::Order(order) => Ok(Placement::Order(order)),
+        Placed::Stuck(placed) => Ok(Placement::Stuck(Stuck { kept, placed })),
+    }
+}
+
+/// The first commit order of a history at a level, compared as lists of numbers; none exactly where there is a cycle.
+pub fn order(alloc: Global, graph: &LargeGraph, level: Level) -> Result<Option<Vec<u32>>, NoMemory>
+    ensures { IfOk result (λ found. MatchOption found
+        (HasCycle (judged graph.now level))
+        (λ order. IsFirstOrder (judged graph.now level) order.items)) }
+{
+    graph.numbered();
+    match place(alloc, graph, level)? {
+        Placement::Order(order) => Ok(Some(order)),
+        Placement::Stuck(_stuck) => Ok(None),
+    }
+}
+
+/// An order of all transactions in which causal pairs lead onward, or where it stops: transactions of which each is held back by
+/// another, by a causal pair.
+pub fn place_pairs(alloc: Global, graph: &LargeGraph) -> Result<PairPlacement, NoMemory>
+    ensures { IfOk result (IsPairPlacement graph.now) }
+{
+    graph.numbered();
+    let parents = previous_of_each(alloc, graph)?;
+    let none = empty_rows(alloc, graph.count())?;
+    match first_placing(alloc, graph, &parents, &none)? {
+        Placed::Order(order) => Ok(PairPlacement::Order(order)),
+        Placed::Stuck(placed) => Ok(PairPlacement::Stuck(placed)),
+    }
+}
+
+/// An order of all transactions in which causal pairs lead onward; none exactly where a transaction reaches itself by them.
+pub fn order_of_pairs(alloc: Global, graph: &LargeGraph) -> Result<Option<Vec<u32>>, NoMemory>
+    ensures { IfOk result (λ found. MatchOption found
+        ((a : ℕ) × IsReached graph.now a a)
+        (λ order. IsNumbering (count graph.now) order.items × LeadsOnward graph.now order.items)) }
+{
+    graph.numbered();
+    match place_pairs(alloc, graph)? {
+        PairPlacement::Order(order) => Ok(Some(order)),
+        PairPlacement::Stuck(_placed) => Ok(None),
+    }
+}

@@ -1,0 +1,277 @@
+//! Kahn's algorithm (Kahn, Topological sorting of large networks, CACM 5, 1962), with the free ones in a heap: the first order of
+//! the transactions in which each stands behind all that holds it back. Each that was not placed is free, is to be looked at, or
+//! waits for one that holds it back, and is looked at again once that was placed; it then goes on behind that one, so that each
+//! pair and link is looked at twice at most. With N transactions and E pairs and links that takes O(E + N log N).
+ghost use Rattle.std.specs.Prelude.{◌≡◌, ◌<◌, ◌≤◌, ◌+◌, ◌⊎◌, ◌↔◌, ◌++◌, [], ℕ, true, false, length, slice_index, slice_index_or, Contains, IfOk, IfNone, IfSome, OnOk, MatchOption};
+ghost use Rattle.tcc_txn.specs.declared.limits.TheConstants.{LARGE_COUNT};
+ghost use Rattle.tcc_reads.specs.History.{count};
+ghost use Rattle.tcc_graph.specs.Tables.{row_of};
+ghost use Rattle.tcc_bits.specs.Bits.{is_marked, words_for};
+ghost use Rattle.tcc_order.specs.private.Placed.{IsPlaced};
+ghost use Rattle.tcc_clocks.specs.Parents.{ArePrevious, sources};
+ghost use Rattle.tcc_order.specs.private.Held.{holds, AreInside, AreRoots, onward};
+ghost use Rattle.tcc_order.specs.private.Queued.{AreQueued, AreSure, IsAny};
+
+use crate::causal_links::empty_rows;
+use crate::ready::Ready;
+use std::alloc::{AllocError, Global};
+use tcc_bits::{Row, is_marked, mark, words_for};
+use tcc_graph::LargeGraph;
+use tcc_txn::NoMemory;
+
+/// The order of all transactions; or, where none can be placed next, marks of those that were.
+#[derive(Drop)]
+pub(crate) enum Placed {
+    Order(Vec<u32>),
+    Stuck(Vec<u64>),
+}
+
+/// Transactions that are to be looked at, those that are free, those that wait for one that holds them back, and how far each
+/// was looked at: behind how many of its sources and of the links that are kept into it it goes on.
+#[derive(Drop)]
+struct Queue {
+    woken: Vec<u32>,
+    ready: Ready,
+    waiting: Vec<Row<u32>>,
+    seen: Vec<usize>,
+}
+
+/// Of the transactions that are read from, from this index on, the index of one that was not placed.
+fn missing_source(reads: &[(u32, u32)], placed: &[u64], from: usize) -> Option<usize>
+    ensures { MatchOption result
+        ((k : ℕ) → from ≤ k → k < length reads.now → is_marked placed.now (slice_index_or reads.now k (0, 0)).1 ≡ true)
+        (λ k. (k < length reads.now) × (is_marked placed.now (slice_index_or reads.now k (0, 0)).1 ≡ false)) }
+{
+    for index in from..reads.len() {
+        if !is_marked(placed, reads[index].1 as usize) {
+            return Some(index);
+        }
+    }
+    None
+}
+
+/// Of these numbers, from this index on, the index of one that was not placed.
+fn missing_of(numbers: &[u32], placed: &[u64], from: usize) -> Option<usize>
+    ensures { MatchOption result
+        ((k : ℕ) → from ≤ k → k < length numbers.now → is_marked placed.now (slice_index numbers.now k) ≡ true)
+        (λ k. (k < length numbers.now) × (is_marked placed.now (slice_index numbers.now k) ≡ false)) }
+{
+    for index in from..numbers.len() {
+        if !is_marked(placed, numbers[index] as usize) {
+            return Some(index);
+        }
+    }
+    None
+}
+
+/// The parent of a transaction, where it was not placed.
+fn missing_parent(parents: &[u32], placed: &[u64], x: u32) -> Option<u32>
+    requires { x < length parents.now }
+    ensures { MatchOption result
+        (0 < x → is_marked placed.now (slice_index parents.now x) ≡ true)
+        (λ b. (0 < x) × (b ≡ slice_index parents.now x) × (is_marked placed.now b ≡ false)) }
+{
+    let parent = parents[x as usize];
+    if x > 0 && !is_marked(placed, parent as usize) {
+        Some(parent)
+    } else {
+        None
+    }
+}
+
+/// Of the sources of a transaction and of the links that are kept into it, behind so many, one that was not placed, and how many
+/// stand before it.
+fn missing_behind(
+    graph: &LargeGraph,
+    kept: &[Row<u32>],
+    placed: &[u64],
+    x: u32,
+    seen: usize,
+) -> Option<(u32, usize)>
+    requires below { x < count graph.now }
+    requires long { length kept.now ≡ count graph.now }
+    requires inside { AreInside graph.now kept.now }
+    ensures { MatchOption result
+        (seen ≡ 0 → (b : ℕ) → Contains (sources graph.now x ++ row_of kept.now x) b → is_marked placed.now b ≡ true)
+        (λ found. (holds graph.now kept.now found.0 x ≡ true) × (is_marked placed.now found.0 ≡ false)) }
+{
+    let reads = graph.reads_at(x);
+    if let Some(index) = missing_source(reads, placed, seen) {
+        return Some((reads[index].1, index));
+    }
+    let row = kept[x as usize].as_slice();
+    let index = missing_of(row, placed, seen.saturating_sub(reads.len()))?;
+    Some((row[index], reads.len().saturating_add(index)))
+}
+
+/// Of what holds a transaction back one that was not placed, and how far it was looked for; first behind so many of its sources
+/// and links.
+fn missing(
+    graph: &LargeGraph,
+    parents: &[u32],
+    kept: &[Row<u32>],
+    placed: &[u64],
+    x: u32,
+    seen: usize,
+) -> Option<(u32, usize)>
+    requires below { x < count graph.now }
+    requires parents { ArePrevious graph.now parents.now }
+    requires long { length kept.now ≡ count graph.now }
+    requires inside { AreInside graph.now kept.now }
+    ensures { MatchOption result
+        ((b : ℕ) → holds graph.now kept.now b x ≡ true → is_marked placed.now b ≡ true)
+        (λ found. (holds graph.now kept.now found.0 x ≡ true) × (is_marked placed.now found.0 ≡ false)) }
+{
+    if let Some(parent) = missing_parent(parents, placed, x) {
+        return Some((parent, seen));
+    }
+    if seen > 0 {
+        if let Some(found) = missing_behind(graph, kept, placed, x, seen) {
+            return Some(found);
+        }
+    }
+    missing_behind(graph, kept, placed, x, 0)
+}
+
+/// Looks at each of those that were woken: it is free, or waits from now on for one that holds it back.
+fn look_at_woken(
+    graph: &LargeGraph,
+    parents: &[u32],
+    kept: &[Row<u32>],
+    placed: &[u64],
+    queue: &mut Queue,
+) -> Result<(), NoMemory>
+    requires parents { ArePrevious graph.now parents.now }
+    requires long { length kept.now ≡ count graph.now }
+    requires inside { AreInside graph.now kept.now }
+    requires seen { length queue.old.seen.items ≡ count graph.now }
+    requires queued { AreQueued (holds graph.now kept.now) parents.now placed.now IsAny (queue.old.woken.items ++ queue.old.ready) queue.old.waiting.items }
+    requires sure { AreSure (holds graph.now kept.now) placed.now queue.old.ready }
+    ensures seen { length queue.new.seen.items ≡ count graph.now }
+    ensures none { OnOk result (queue.new.woken.items ≡ []) }
+    ensures queued { OnOk result (AreQueued (holds graph.now kept.now) parents.now placed.now IsAny queue.new.ready queue.new.waiting.items) }
+    ensures sure { OnOk result (AreSure (holds graph.now kept.now) placed.now queue.new.ready) }
+{
+    while let Some(number) = queue.woken.pop() {
+        let seen = queue.seen[number as usize];
+        match missing(graph, parents, kept, placed, number, seen) {
+            Some((other, place)) => {
+                queue.seen[number as usize] = place;
+                queue.waiting[other as usize].push(number)?;
+            }
+            None => queue.ready.push(number)?,
+        }
+    }
+    Ok(())
+}
+
+/// Takes out the least of the numbers that are ready and were not placed.
+fn first_ready(placed: &[u64], ready: &mut Ready) -> Option<u32>
+    ensures none { IfNone result ((y : ℕ) → Contains ready.old y → is_marked placed.now y ≡ true) }
+    ensures one { IfSome result (λ x. Contains ready.old x × (is_marked placed.now x ≡ false)) }
+    ensures least { IfSome result (λ x. (y : ℕ) → Contains ready.old y → y < x → is_marked placed.now y ≡ true) }
+    ensures rest { IfSome result (λ x. (y : ℕ) → Contains ready.old y → is_marked placed.now y ≡ false → (y ≡ x) ⊎ Contains ready.new y) }
+    ensures still { IfSome result (λ x. (y : ℕ) → Contains ready.new y → Contains ready.old y) }
+{
+    while let Some(number) = ready.pop() {
+        if !is_marked(placed, number as usize) {
+            return Some(number);
+        }
+    }
+    None
+}
+
+/// The number after this one, if this is its parent, or else this one.
+fn onward(parents: &[u32], x: u32) -> u32
+    requires few { length parents.now ≤ LARGE_COUNT }
+    requires inside { x < length parents.now }
+    ensures { result ≡ onward parents.now x }
+{
+    let next = x + 1;
+    if x > 0 && (next as usize) < parents.len() && parents[next as usize] == x {
+        next
+    } else {
+        x
+    }
+}
+
+/// The numbers whose parent is 0.
+fn roots(alloc: Global, parents: &[u32]) -> Result<Vec<u32>, AllocError>
+    requires { length parents.now ≤ LARGE_COUNT }
+    ensures { IfOk result (λ roots. AreRoots parents.now (length parents.now) roots.items) }
+{
+    let mut roots = Vec::new(alloc);
+    for (number, parent) in parents.iter().enumerate() {
+        if *parent == 0 {
+            roots.push(number as u32)?;
+        }
+    }
+    Ok(roots)
+}
+
+/// Wakes what waits for a transaction, and the one after it.
+fn wake(
+    woken: &mut Vec<u32>,
+    waiting: &[Row<u32>],
+    parents: &[u32],
+    x: u32,
+) -> Result<(), AllocError>
+    requires few { length parents.now ≤ LARGE_COUNT }
+    requires inside { x < length parents.now }
+    requires long { length waiting.now ≡ length parents.now }
+    ensures { OnOk result ((y : ℕ) → Contains woken.new.items y
+        ↔ ((Contains woken.old.items y ⊎ Contains (row_of waiting.now x) y) ⊎ (y ≡ onward parents.now x))) }
+{
+    woken.extend_from_slice(waiting[x as usize].as_slice())?;
+    woken.push(onward(parents, x))?;
+    Ok(())
+}
+
+/// The queue before any transaction was placed.
+fn first_queue(alloc: Global, parents: &[u32], count: u32) -> Result<Queue, NoMemory>
+    requires { length parents.now ≤ LARGE_COUNT }
+    ensures woken { IfOk result (λ queue. AreRoots parents.now (length parents.now) queue.woken.items) }
+    ensures ready { IfOk result (λ queue. (x : ℕ) → Contains queue.ready x → ⊥) }
+    ensures long { IfOk result (λ queue. length queue.waiting.items ≡ count) }
+    ensures waiting { IfOk result (λ queue. (b x : ℕ) → Contains (row_of queue.waiting.items b) x → ⊥) }
+    ensures seen { IfOk result (λ queue. length queue.seen.items ≡ count) }
+{
+    let woken = roots(alloc, parents)?;
+    let waiting = empty_rows(alloc, count)?;
+    let seen = vec![in alloc; 0usize; count as usize]?;
+    Ok(Queue {
+        woken,
+        ready: Ready::new(alloc),
+        waiting,
+        seen,
+    })
+}
+
+/// The first order of the transactions in which each stands behind its parents and behind the sources of links that are kept;
+/// or, where these stand in a circle, which were placed until none could be placed next.
+pub(crate) fn first_placing(
+    alloc: Global,
+    graph: &LargeGraph,
+    parents: &[u32],
+    kept: &[Row<u32>],
+) -> Result<Placed, NoMemory>
+    requires parents { ArePrevious graph.now parents.now }
+    requires long { length kept.now ≡ count graph.now }
+    requires inside { AreInside graph.now kept.now }
+    ensures { IfOk result (IsPlaced (holds graph.now kept.now) (count graph.now)) }
+{
+    let count = graph.count();
+    let mut placed = vec![in alloc; 0; words_for(count as usize)]?;
+    let mut queue = first_queue(alloc, parents, count)?;
+    let mut order = Vec::new(alloc);
+    for _ in 0..count {
+        look_at_woken(graph, parents, kept, &placed, &mut queue)?;
+        let Some(next) = first_ready(&placed, &mut queue.ready) else {
+            return Ok(Placed::Stuck(placed));
+        };
+        mark(&mut placed, next as usize);
+        wake(&mut queue.woken, &queue.waiting, parents, next)?;
+        order.push(next)?;
+    }
+    Ok(Placed::Order(order))
+}

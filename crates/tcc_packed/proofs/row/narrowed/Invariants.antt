@@ -1,7 +1,0 @@
--- what stands for those so far
-use Rattle.std.proofs.Common.{◌≡◌, map, take}
-use Rattle.tcc_packed.specs.Packed.{value_in}
-use Rattle.tcc_packed.proofs.row.narrowed.Given as goal
-
-abbrev pub invariant-loop-value : goal.invariant-loop-value
-invariant-loop-value l = map value_in l.narrow.items ≡ take l.value-index l.values

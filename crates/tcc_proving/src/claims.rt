@@ -1,0 +1,38 @@
+//! The links of a claim, and how many steps they have.
+ghost use Rattle.std.specs.Prelude.{◌≡◌, ◌≤◌, IfOk};
+ghost use Rattle.tcc_graph.specs.Links.{cost};
+ghost use Rattle.tcc_cert.specs.declared.version_3.TheConstants.{V3_MAX_COST};
+
+use std::alloc::Global;
+use tcc_graph::Link;
+use tcc_txn::NoMemory;
+
+/// How many steps the links have together.
+pub fn steps_of(links: &[Link]) -> Result<u32, NoMemory>
+    ensures steps { IfOk result (λ steps. steps ≡ cost links.now) }
+    ensures room { IfOk result (λ _. cost links.now ≤ V3_MAX_COST) }
+{
+    let mut steps: usize = 0;
+    for link in links {
+        let Some(more) = steps.checked_add(link.cost()) else {
+            return Err(NoMemory);
+        };
+        steps = more;
+    }
+    // More steps are held by no memory.
+    let Ok(steps) = u32::try_from(steps) else {
+        return Err(NoMemory);
+    };
+    Ok(steps)
+}
+
+/// Equal links.
+pub fn copied(alloc: Global, links: &[Link]) -> Result<Vec<Link>, NoMemory>
+    ensures { IfOk result (λ copy. copy.items ≡ links.now) }
+{
+    let mut copy = Vec::new(alloc);
+    for link in links {
+        copy.push(link.copy(alloc)?)?;
+    }
+    Ok(copy)
+}

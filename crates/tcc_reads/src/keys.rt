@@ -1,0 +1,126 @@
+//! The keys that transactions write, each by its index.
+ghost use Rattle.std.specs.Prelude.{All, ◌≡◌, ◌<◌, ◌≤◌, ◌||◌, true, List, ℕ, length, IfOk, IfSome, OnOk};
+ghost use Rattle.std.specs.BTreeSet.{contains};
+ghost use Rattle.std.specs.List.{list_any};
+ghost use Rattle.std.specs.List.Sorted.{IsStrictlySortedBy};
+ghost use Rattle.tcc_reads.specs.Sources.{name_cmp, puts_at};
+ghost use Rattle.tcc_reads.specs.private.Numbers.{IsPlace, numbered};
+ghost use Rattle.tcc_reads.specs.private.KeyIndices.{has_key, index_of, key_index, writes_key, AreKeysOf};
+
+use crate::numbering::standing_at;
+use crate::standing::Place;
+use std::alloc::Global;
+use std::collections::BTreeSet;
+use std::marker::Model;
+use tcc_txn::{Bounds, Name, NoMemory, Op, SnapshotWithin};
+
+/// Names of keys in byte order, each once.
+#[derive(Drop)]
+pub(crate) struct Keys {
+    names: Vec<Name>,
+}
+
+impl Model for Keys {
+    ghost use Rattle.std.specs.Prelude.{◌≤◌, ℕ, List, length};
+    ghost use Rattle.std.specs.List.Sorted.{IsStrictlySortedBy};
+    ghost use Rattle.std.below.core.specs.declared.int.u32.TheConstants.{MAX};
+    ghost use Rattle.tcc_reads.specs.Sources.{name_cmp};
+
+    ghost Value = { List (List ℕ) };
+
+    ghost view = { λ k. k.names.items };
+
+    ghost invariant = { λ k. IsStrictlySortedBy name_cmp k.names.items × (length k.names.items ≤ MAX) };
+}
+
+/// Adds the key of a write.
+fn add_key(keys: &mut BTreeSet<Name>, op: &Op) -> Result<(), NoMemory>
+    ensures { OnOk result ((x : List ℕ) → contains name_cmp keys.new x ≡ (puts_at x op.now || contains name_cmp keys.old x)) }
+{
+    if let Op::Put { key, .. } = op {
+        keys.insert(*key)?;
+    }
+    Ok(())
+}
+
+/// Adds the keys that some operations write.
+fn add_keys(keys: &mut BTreeSet<Name>, ops: &[Op]) -> Result<(), NoMemory>
+    ensures { OnOk result ((x : List ℕ) → contains name_cmp keys.new x ≡ (list_any (puts_at x) ops.now || contains name_cmp keys.old x)) }
+{
+    for op in ops {
+        add_key(keys, op)?;
+    }
+    Ok(())
+}
+
+/// The keys that these transactions write.
+fn keys_written<B: Bounds>(
+    alloc: Global,
+    snapshot: &SnapshotWithin<B>,
+    places: &[Place],
+) -> Result<BTreeSet<Name>, NoMemory>
+    requires { All (IsPlace snapshot.now) places.now }
+    ensures { IfOk result (λ keys. (x : List ℕ) → contains name_cmp keys x ≡ list_any (writes_key x) (numbered snapshot.now places.now)) }
+{
+    let mut keys = BTreeSet::new(alloc);
+    let mut ops = Vec::new(alloc);
+    for place in places {
+        let standing = standing_at(snapshot, place);
+        standing.txn.fill(&mut ops)?;
+        add_keys(&mut keys, &ops)?;
+    }
+    Ok(keys)
+}
+
+/// The keys of a set in order.
+fn in_order(alloc: Global, keys: BTreeSet<Name>) -> Result<Vec<Name>, NoMemory>
+    ensures value { IfOk result (λ names. names.items ≡ keys.keys) }
+    ensures sorted { IfOk result (λ names. IsStrictlySortedBy name_cmp names.items) }
+{
+    Ok(keys.into_iter().collect(alloc)?)
+}
+
+impl Keys {
+    /// The keys that these transactions write. More than a number of 32 bits counts are answered as `NoMemory`.
+    pub fn of<B: Bounds>(
+        alloc: Global,
+        snapshot: &SnapshotWithin<B>,
+        places: &[Place],
+    ) -> Result<Keys, NoMemory>
+        requires { All (IsPlace snapshot.now) places.now }
+        ensures { IfOk result (λ keys. AreKeysOf (numbered snapshot.now places.now) keys) }
+    {
+        let names = in_order(alloc, keys_written(alloc, snapshot, places)?)?;
+        if names.len() > u32::MAX as usize {
+            return Err(NoMemory);
+        }
+        Ok(Keys { names })
+    }
+
+    /// How many there are.
+    pub fn len(&self) -> usize
+        ensures value { result ≡ length self.now }
+        ensures few { result ≤ u32.MAX }
+    {
+        self.names.len()
+    }
+
+    /// The index of a key; none where it isn't there.
+    pub fn find(&self, key: &Name) -> Option<u32>
+        ensures value { result ≡ index_of self.now key.now }
+        ensures within { IfSome result (λ k. k < length self.now) }
+    {
+        match self.names.binary_search(key) {
+            Ok(index) => Some(index as u32),
+            Err(_) => None,
+        }
+    }
+
+    /// The index of a key that is there.
+    pub fn index(&self, key: &Name) -> u32
+        requires { has_key self.now key.now ≡ true }
+        ensures { result ≡ key_index self.now key.now }
+    {
+        self.find(key).unwrap()
+    }
+}

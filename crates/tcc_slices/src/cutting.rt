@@ -1,0 +1,246 @@
+//! The cut of a snapshot by needs: of each transaction that has a need the operations that are needed, in their order.
+ghost use Rattle.std.specs.Prelude.{◌≡◌, ◌<◌, ◌++◌, ◌∷◌, [], if◌then◌else◌, List, None, Some, true, IfOk, IfSome, MatchOption, OnOk, length};
+ghost use Rattle.std.specs.List.{list_any};
+ghost use Rattle.tcc_reads.specs.Sources.{visible_write};
+ghost use Rattle.tcc_reads.specs.Sources.{history};
+ghost use Rattle.tcc_txn.specs.Transactions.{Transaction};
+ghost use Rattle.tcc_graph.specs.declared.link.Link.{Link};
+ghost use Rattle.tcc_slices.specs.Cuts.{IsCutOf};
+ghost use Rattle.tcc_slices.specs.Limits.{NeedTooMuch};
+ghost use Rattle.tcc_slices.specs.private.Carrying.{IsRising};
+ghost use Rattle.tcc_slices.specs.private.Cutting.{AreMetBy, IsCut, IsNamed, IsNameless, IsPartOf, is_free, is_wanted, kept_behind, own_needs, recorded_of, same_op, wanted_by, wanted_of};
+ghost use Rattle.tcc_slices.specs.private.Needing.{AreByNumber};
+
+use crate::needs::Need;
+use std::alloc::Global;
+use tcc_graph::LargeGraph;
+use tcc_operations::source_value;
+use tcc_txn::{GrowFault, LargeSnapshot, Name, NoMemory, Op, Recorded, Snapshot, Txn};
+
+/// The transaction of a number; none for `init` and past the last.
+fn recorded<'a>(
+    snapshot: &'a LargeSnapshot,
+    graph: &LargeGraph,
+    number: u32,
+) -> Option<Recorded<'a>>
+    ensures { result ≡ recorded_of snapshot.now graph.now number }
+{
+    let (session, place) = graph.at(number)?;
+    snapshot.recorded(session, (place as usize).checked_sub(1)?)
+}
+
+/// The value that operations write visibly at a key.
+fn visible_write(ops: &[Op], key: &Name) -> Option<u64>
+    ensures { result ≡ visible_write key.now ops.now }
+{
+    let mut visible = None;
+    for op in ops {
+        if let Op::Put {
+            key: written,
+            value,
+        } = op
+        {
+            if written == key {
+                visible = Some(*value);
+            }
+        }
+    }
+    visible
+}
+
+/// Adds the operation of the transaction of a number that a need is, if it doesn't only have to be there.
+fn add_wanted(
+    snapshot: &LargeSnapshot,
+    graph: &LargeGraph,
+    number: u32,
+    need: &Need,
+    wanted: &mut Vec<Op>,
+) -> Result<(), NoMemory>
+    ensures { OnOk result (wanted.new.items ≡ wanted.old.items ++ wanted_of snapshot.now graph.now number need.now) }
+{
+    match need {
+        Need::There => {}
+        Need::Write { key } => {
+            let value = source_value(snapshot, graph, number, key);
+            wanted.push(Op::Put { key: *key, value })?;
+        }
+        Need::Read { key, source } => {
+            let value = source_value(snapshot, graph, *source, key);
+            wanted.push(Op::Get { key: *key, value })?;
+        }
+    }
+    Ok(())
+}
+
+/// The operations of the transaction of a number that its needs are.
+fn wanted_ops(
+    alloc: Global,
+    snapshot: &LargeSnapshot,
+    graph: &LargeGraph,
+    own: &[(u32, Need)],
+    number: u32,
+) -> Result<Vec<Op>, NoMemory>
+    ensures { IfOk result (λ wanted. wanted.items ≡ wanted_by snapshot.now graph.now own.now number) }
+{
+    let mut wanted = Vec::new(alloc);
+    for one in own {
+        add_wanted(snapshot, graph, number, &one.1, &mut wanted)?;
+    }
+    Ok(wanted)
+}
+
+/// Whether two operations are the same.
+fn is_same(one: &Op, other: &Op) -> bool
+    ensures { result ≡ same_op one.now other.now }
+{
+    match (one, other) {
+        (
+            Op::Get { key, value },
+            Op::Get {
+                key: read,
+                value: seen,
+            },
+        ) => key == read && value == seen,
+        (
+            Op::Put { key, value },
+            Op::Put {
+                key: written,
+                value: put,
+            },
+        ) => key == written && value == put,
+        _ => false,
+    }
+}
+
+/// Whether an operation may be read from others: none before it writes its key.
+fn is_free(before: &[Op], op: &Op) -> bool
+    ensures { result ≡ is_free before.now op.now }
+{
+    match op {
+        Op::Get { key, .. } => visible_write(before, key).is_none(),
+        Op::Put { .. } => true,
+    }
+}
+
+/// Whether an operation is among the wanted ones.
+fn is_among(wanted: &[Op], op: &Op) -> bool
+    ensures { result ≡ list_any (λ one. same_op one op.now) wanted.now }
+{
+    wanted.iter().any(|one| is_same(one, op))
+}
+
+/// Whether an operation behind some others is a wanted one.
+fn is_wanted(wanted: &[Op], before: &[Op], op: &Op) -> bool
+    ensures { result ≡ is_wanted wanted.now before.now op.now }
+{
+    is_among(wanted, op) && is_free(before, op)
+}
+
+/// Keeps an operation, where that is so.
+fn keep_if(kept: &mut Vec<Op>, is_kept: bool, op: Op) -> Result<(), NoMemory>
+    ensures { OnOk result (kept.new.items ≡ kept.old.items ++ (if is_kept then op ∷ [] else [])) }
+{
+    if is_kept {
+        kept.push(op)?;
+    }
+    Ok(())
+}
+
+/// What is kept of some operations.
+fn kept(alloc: Global, wanted: &[Op], ops: &[Op]) -> Result<Vec<Op>, NoMemory>
+    ensures { IfOk result (λ kept. kept.items ≡ kept_behind (is_wanted wanted.now) [] ops.now) }
+{
+    let mut kept = Vec::new(alloc);
+    for (index, op) in ops.iter().enumerate() {
+        keep_if(&mut kept, is_wanted(wanted, &ops[..index], op), *op)?;
+    }
+    Ok(kept)
+}
+
+/// What is kept of the transaction of a number, by its needs; none where it isn't there or wasn't committed.
+fn part(
+    alloc: Global,
+    snapshot: &LargeSnapshot,
+    graph: &LargeGraph,
+    own: &[(u32, Need)],
+    number: u32,
+) -> Result<Option<Txn>, NoMemory>
+    ensures part { IfOk result (λ found. IfSome found (λ part. IsPartOf snapshot.now graph.now own.now number part)) }
+    ensures none { IfOk result (λ found. found ≡ None → (t : Transaction) → recorded_of snapshot.now graph.now number ≡ Some t → t.committed ≡ true → ⊥) }
+{
+    let Some(whole) = recorded(snapshot, graph, number) else {
+        return Ok(None);
+    };
+    if !whole.committed() {
+        return Ok(None);
+    }
+    let mut ops = Vec::new(alloc);
+    whole.fill(&mut ops)?;
+    let wanted = wanted_ops(alloc, snapshot, graph, own, number)?;
+    match Txn::new(kept(alloc, &wanted, &ops)?, true) {
+        Ok(part) => Ok(Some(part)),
+        Err(_) => unreachable!(),
+    }
+}
+
+/// The needs of the transaction of a number.
+fn own_needs(needs: &[(u32, Need)], number: u32) -> &[(u32, Need)]
+    requires { AreByNumber needs.now }
+    ensures { result.now ≡ own_needs needs.now number }
+{
+    let end = needs
+        .partition_point(|one| one.0 <= number)
+        .min(needs.len());
+    let start = needs.partition_point(|one| one.0 < number).min(end);
+    &needs[start..end]
+}
+
+/// The name of the session of the transaction of a number.
+fn session_of(snapshot: &LargeSnapshot, graph: &LargeGraph, number: u32) -> Option<Name>
+    ensures { MatchOption result (IsNameless snapshot.now graph.now number) (λ name. IsNamed snapshot.now graph.now number name) }
+{
+    let (session, _place) = graph.at(number)?;
+    match snapshot.name(session) {
+        Some(name) => Some(*name),
+        None => None,
+    }
+}
+
+/// The cut of a snapshot by needs, with what is kept of the transactions of these numbers but the first; none where one of them isn't
+/// committed, or where they are more than a snapshot takes.
+pub(crate) fn cut(
+    alloc: Global,
+    snapshot: &LargeSnapshot,
+    graph: &LargeGraph,
+    needs: &[(u32, Need)],
+    numbers: &[u32],
+) -> Result<Option<Snapshot>, NoMemory>
+    requires sorted { AreByNumber needs.now }
+    requires some { 0 < length numbers.now }
+    requires rising { IsRising numbers.now }
+    ensures cut { IfOk result (λ found. IfSome found (λ slice. IsCut snapshot.now graph.now needs.now numbers.now (length numbers.now) slice)) }
+    ensures left { IfOk result (λ found. IfSome found (λ slice. IsCutOf slice snapshot.now)) }
+    ensures none { IfOk result (λ found. found ≡ None → (links : List Link) → graph.now ≡ history snapshot.now → AreMetBy graph.now links numbers.now
+        → NeedTooMuch graph.now links) }
+{
+    graph.numbered();
+    let mut slice = Snapshot::empty(alloc);
+    for index in 1..numbers.len() {
+        let number = numbers[index];
+        let Some(name) = session_of(snapshot, graph, number) else {
+            return Ok(None);
+        };
+        let Some(part) = part(alloc, snapshot, graph, own_needs(needs, number), number)? else {
+            return Ok(None);
+        };
+        match slice.add(alloc, name, part) {
+            Ok(()) => {}
+            Err(fault) => match fault {
+                GrowFault::NoMemory => return Err(NoMemory),
+                GrowFault::TooManySessions => return Ok(None),
+                GrowFault::TooManyTransactions => return Ok(None),
+            },
+        }
+    }
+    Ok(Some(slice))
+}

@@ -1,0 +1,45 @@
+use Rattle.std.proofs.Common.{rules, ◌≡◌, ◌≤◌, ◌*◌, ◌+◌, ◌∙◌, ◌++◌, ℕ, length, take, drop, sym, subst, arith, take_at}
+use Rattle.tcc_graph.specs.Levels.{Judged, judged}
+use Rattle.tcc_clocks.specs.declared.latest.TheConstants.{WIDE}
+use Rattle.tcc_survey.specs.private.Settled.{AreSettled, reading_of}
+use Rattle.tcc_survey.proofs.FindLemmas.{acyclic, reversed_before, reversed_numbering, settled_found, blocks_cover}
+use Rattle.tcc_survey.proofs.ScanLemmas.{against_some}
+use Rattle.tcc_survey.proofs.clock_sweep.find_least.Goals as goal
+
+pub find_firsts-requires-clause-numbering : goal.find_firsts-requires-clause-numbering
+find_firsts-requires-clause-numbering c =
+    rw (c.deref-in-loop-block-3.ensures.value, c.in_ok-backward.ensures) (reversed_numbering c.args.graph.now c.args.order.now c.requires.numbering)
+
+pub find_firsts-requires-clause-backward : goal.find_firsts-requires-clause-backward
+find_firsts-requires-clause-backward c =
+    rw (c.deref-in-loop-block-3.ensures.value, c.in_ok-backward.ensures)
+    (λ a b pair. reversed_before c.args.graph.now c.args.order.now c.requires.numbering a b (c.requires.onward a b pair))
+
+pub settle_block-requires-clause-acyclic : goal.settle_block-requires-clause-acyclic
+settle_block-requires-clause-acyclic c = acyclic c.args.graph.now c.args.order.now c.requires.numbering c.requires.onward
+
+pub loop-block-preserved : goal.loop-block-preserved
+loop-block-preserved c =
+    let j : Judged = judged c.args.graph.now c.args.level in
+    let all = c.args.reads.now in
+    let new = c.settle_block.new.found in
+    let old = c.loop-block.found.items in
+    let inv = c.loop-block.invariant in
+    let same : length new ≡ length old = rw c.deref_mut.ensures.value at c.in_ok-settle_block.ensures.same in
+    let long : c.loop-block.found.len ≡ length old = search rules in
+    let whole : take c.loop-block.found.len (new ++ drop (length new) old) ≡ new = take_at new (drop (length new) old) c.loop-block.found.len (same ∙ sym long) in
+    let bound : c.loop-block.block * WIDE + WIDE ≡ (c.loop-block.block + 1) * WIDE = omega arith in
+    let settled : AreSettled j all ((c.loop-block.block + 1) * WIDE) new = subst (λ (z : ℕ). AreSettled j all z new) bound c.in_ok-settle_block.ensures.settled in
+    rw whole (c.in_ok-find_clocks.ensures.long, c.in_ok-find_firsts.ensures.long, settled)
+
+pub returns : goal.returns
+returns c =
+    let h = c.args.graph.now in
+    let j : Judged = judged h c.args.level in
+    let all = c.args.reads.now in
+    let sessions : ℕ = length c.sessions-sessions.result.now in
+    let cover : length c.sessions-sessions.result.now ≤ c.loop-block.block * WIDE
+    = blocks_cover (length c.sessions-sessions.result.now) c.loop-block.block (omega (arith, c.loop-block-test.false, c.div_ceil-block-end.ensures)) in
+    settled_found j all (c.loop-block.block * WIDE) (length c.sessions-sessions.result.now) c.loop-block.found.items c.loop-block.invariant.2 cover
+    c.sessions-sessions.ensures.owners
+    (λ k l b w. against_some j (acyclic h c.args.order.now c.requires.numbering c.requires.onward) (reading_of all k) (c.requires.reads k l) b w)

@@ -1,0 +1,12 @@
+use Rattle.std.proofs.Common.{◌≡◌, ◌*◌, length}
+use Rattle.tcc_reads.specs.History.{count}
+use Rattle.tcc_graph.specs.Levels.{judged}
+use Rattle.tcc_clocks.specs.declared.latest.TheConstants.{WIDE}
+use Rattle.tcc_survey.specs.private.Settled.{AreSettled}
+use Rattle.tcc_survey.proofs.clock_sweep.find_least.Given as goal
+
+abbrev pub invariant-loop-block : goal.invariant-loop-block
+invariant-loop-block l =
+    (length l.clocks ≡ count l.graph)
+    × (length l.firsts ≡ count l.graph)
+    × AreSettled (judged l.graph l.level) l.reads (l.block * WIDE) l.found.items

@@ -1,0 +1,7 @@
+use Rattle.std.proofs.Common.{take}
+use Rattle.std.specs.Prelude.{Contains}
+use Rattle.tcc_survey.specs.private.Firsts.{HasFirst}
+use Rattle.tcc_survey.proofs.reverse_clocks.find_firsts.Given as goal
+
+abbrev pub invariant-loop-number : goal.invariant-loop-number
+invariant-loop-number l = HasFirst l.graph l.from (Contains (take l.number-index l.backward)) l.table

@@ -1,0 +1,30 @@
+use Rattle.std.proofs.Common.{◌<◌, ℕ, replicate, sym, subst, arith}
+use Rattle.std.specs.Prelude.{List, Contains}
+use Rattle.std.proofs.lemmas.List.{get_or-replicate, length-replicate}
+use Rattle.std.proofs.lemmas.Result.{on_ok_weaker}
+use Rattle.tcc_clocks.specs.declared.latest.TheConstants.{WIDE}
+use Rattle.tcc_survey.specs.private.Firsts.{AreFirstOf, IsAfter, IsFrom}
+use Rattle.tcc_survey.proofs.FirstLemmas.{first_all, from_children, rows_same}
+use Rattle.tcc_survey.proofs.reverse_clocks.put_first.Goals as goal
+
+pub returns-then-a-eq0 : goal.returns-then-a-eq0
+returns-then-a-eq0 c =
+    let h = c.args.graph.now in
+    let zeros : List ℕ = replicate WIDE 0 in
+    let all : AreFirstOf h (IsAfter h 0) c.args.from zeros =
+    first_all h c.args.from zeros (length-replicate {A = ℕ} WIDE 0) (λ k l. get_or-replicate {A = ℕ} WIDE k 0 0 (omega (arith, l, length-replicate {A = ℕ} WIDE 0))) in
+    let mine : AreFirstOf h (IsAfter h c.args.a) c.args.from zeros =
+    subst (λ (z : ℕ). AreFirstOf h (IsAfter h z) c.args.from zeros) (sym c.if-a-eq0.true) all in
+    on_ok_weaker c.put_like.result (λ e. (zeros, e, mine)) c.put_like.ensures
+
+pub returns : goal.returns
+returns c =
+    let h = c.args.graph.now in
+    let a = c.args.a in
+    let some : 0 < a = omega (arith, c.if-a-eq0.false) in
+    let children = c.args.children.now in
+    on_ok_weaker c.put_row.result (λ w. (
+      w.0,
+      w.1,
+      rows_same h (IsFrom h (Contains children)) (IsAfter h a) c.args.from w.0 (from_children h c.requires.numbered a children some c.requires.children) w.2,
+    )) c.put_row.ensures

@@ -1,0 +1,57 @@
+//! The least that contradicts each read: by vector clocks both ways (Fidge, Mattern), for a block of 64 sessions at a time. For
+//! N transactions, S sessions and R reads that takes at most S (N + R) steps, and for each block and each read whose clock differs
+//! from that of its source a look at the writers of its key in the block, one by one where they are few and else by halving for
+//! each session; and two tables of 64 N numbers.
+ghost use Rattle.std.specs.Prelude.{◌≡◌, IfOk, reverse};
+ghost use Rattle.tcc_reads.specs.History.{count};
+ghost use Rattle.tcc_graph.specs.Levels.{judged};
+ghost use Rattle.tcc_graph.specs.Orders.{IsNumbering};
+ghost use Rattle.tcc_clocks.specs.Clocks.{LeadsOnward};
+ghost use Rattle.tcc_survey.specs.private.Settled.{AreReads, AreFound};
+
+use crate::external_reads::Reading;
+use crate::reverse_clocks::find_firsts;
+use crate::scanning::settle_block;
+use std::alloc::{AllocError, Global};
+use tcc_clocks::{SharedRows, WIDE, find_clocks, owners, previous_of_each, steps_along};
+use tcc_graph::{LargeGraph, Level};
+use tcc_txn::NoMemory;
+
+/// The order turned round.
+fn reversed(alloc: Global, order: &[u32]) -> Result<Vec<u32>, AllocError>
+    ensures { IfOk result (λ found. found.items ≡ reverse order.now) }
+{
+    order.iter().rev().copied().collect(alloc)
+}
+
+/// Of each read the least number that contradicts it, 0 for none; by an order in which causal pairs lead onward.
+pub(crate) fn find_least(
+    alloc: Global,
+    graph: &LargeGraph,
+    level: Level,
+    order: &[u32],
+    reads: &[Reading],
+) -> Result<Vec<u32>, NoMemory>
+    requires numbering { IsNumbering (count graph.now) order.now }
+    requires onward { LeadsOnward graph.now order.now }
+    requires reads { AreReads graph.now reads.now }
+    ensures { IfOk result (λ found. AreFound (judged graph.now level) reads.now found.items) }
+{
+    let sessions = graph.sessions().len();
+    let parents = previous_of_each(alloc, graph)?;
+    let steps = steps_along(alloc, graph, &parents, order)?;
+    let backward = reversed(alloc, order)?;
+    let owners = owners(alloc, graph)?;
+    let mut clocks = SharedRows::new(alloc, graph.count())?;
+    let mut firsts = SharedRows::new(alloc, graph.count())?;
+    let mut found = vec![in alloc; 0; reads.len()]?;
+    for block in 0..sessions.div_ceil(WIDE) {
+        let from = (block * WIDE) as u32;
+        find_clocks(&mut clocks, graph, &owners, from, order, &steps)?;
+        find_firsts(alloc, &mut firsts, graph, &owners, from, &backward)?;
+        settle_block(
+            alloc, &mut found, level, graph, &owners, from, &firsts, &clocks, reads,
+        )?;
+    }
+    Ok(found)
+}

@@ -1,0 +1,78 @@
+use Rattle.std.proofs.Common.{◌≡◌, ◌<◌, ◌++◌, ◌∷◌, [], List, ℕ, get_or, length, ap, inr, sym, subst, ◌∙◌, arith}
+use Rattle.std.proofs.lemmas.List.Elements.{All-set}
+use Rattle.tcc_txn.specs.Transactions.{Transaction}
+use Rattle.tcc_txn.specs.private.Packing.{AllPacked, ArePacked, Names, txns_in}
+use Rattle.tcc_txn.proofs.Growing.{err-then, found-here, inserted, missing, ok-always, ok-then, index_in-within, unwritten, written}
+use Rattle.tcc_txn.proofs.GrownSnapshot.{grown}
+use Rattle.tcc_txn.proofs.PackedOps.{Part, all-on, sessions-on, txns-on}
+use Rattle.tcc_txn.proofs.packed.add_packed.Goals as goal
+
+part_packed : (keys : Names) (parts : List Part) (at : ℕ) (part : Part) → AllPacked keys parts → at < length parts → part ≡ get_or parts at part
+    → ArePacked keys part.1
+part_packed keys parts at part all within is = subst (λ (p : Part). ArePacked keys p.1) (sym is) (all at part within)
+
+pub push_packed-requires : goal.push_packed-requires
+push_packed-requires c =
+    let found = rw c.deref.ensures.value at c.in-Ok.ensures in
+    part_packed c.args.keys.now c.args.parts.now.items c.in-Ok.at c.index_mut.result.now c.requires.packed found.1.0 c.index_mut.ensures.value
+
+pub returns-then-len-sessions-clause-refused : goal.returns-then-len-sessions-clause-refused
+returns-then-len-sessions-clause-refused c =
+    let absent = rw c.deref.ensures.value at c.in-Err.ensures in
+    inr (
+      omega (arith, c.if-len-sessions.true, c.sessions.ensures, c.len.ensures, c.args.parts.now.ok.0),
+      missing (txns_in c.args.keys.now) c.args.parts.now.items c.args.session c.in-Err.at absent.0 c.requires.sorted absent.1,
+    )
+
+pub insert_packed-requires-clause-within : goal.insert_packed-requires-clause-within
+insert_packed-requires-clause-within c =
+    let absent = rw c.deref.ensures.value at c.in-Err.ensures in
+    omega (arith, absent.0, index_in-within c.args.session c.args.parts.now.items)
+
+pub returns-in-Ok-clause-added : goal.returns-in-Ok-clause-added
+returns-in-Ok-clause-added c =
+    let names = c.args.keys.now in
+    let all = c.push_packed.new.keys in
+    let parts = c.args.parts.now.items in
+    let part : Part = c.index_mut.result.now in
+    let found = rw c.deref.ensures.value at c.in-Ok.ensures in
+    let kept : txns_in all part.1 ≡ txns_in names part.1 = txns-on names all c.push_packed.ensures.more part.1
+    (part_packed names parts c.in-Ok.at part c.requires.packed found.1.0 c.index_mut.ensures.value) in
+    ok-then c.push_packed.result (λ added.
+    written (txns_in all) parts c.args.session c.in-Ok.at c.args.txn.now part c.push_packed.new.txns found.0 found.1 c.index_mut.ensures.value
+    (added ∙ ap (λ (z : List Transaction). z ++ c.args.txn.now ∷ []) (sym kept))
+    ∙ ap (grown c.args.session c.args.txn.now) (sessions-on names all c.push_packed.ensures.more parts c.requires.packed)) c.push_packed.ensures.added
+
+pub returns-in-Ok-clause-kept : goal.returns-in-Ok-clause-kept
+returns-in-Ok-clause-kept c =
+    let names = c.args.keys.now in
+    let all = c.push_packed.new.keys in
+    let parts = c.args.parts.now.items in
+    let part : Part = c.index_mut.result.now in
+    let found = rw c.deref.ensures.value at c.in-Ok.ensures in
+    let kept : txns_in all part.1 ≡ txns_in names part.1 = txns-on names all c.push_packed.ensures.more part.1
+    (part_packed names parts c.in-Ok.at part c.requires.packed found.1.0 c.index_mut.ensures.value) in
+    err-then c.push_packed.result (λ same.
+    unwritten (txns_in all) parts c.args.session c.in-Ok.at part c.push_packed.new.txns c.index_mut.ensures.value (same ∙ sym kept)
+    ∙ sessions-on names all c.push_packed.ensures.more parts c.requires.packed) c.push_packed.ensures.kept
+
+pub returns-in-Ok-clause-few : goal.returns-in-Ok-clause-few
+returns-in-Ok-clause-few c =
+    let found = rw c.deref.ensures.value at c.in-Ok.ensures in
+    ok-always c.push_packed.result (λ none.
+    absurd (found-here (txns_in c.args.keys.now) c.args.parts.now.items c.args.session c.in-Ok.at found.0 found.1 none))
+
+pub returns-in-Ok-clause-packed : goal.returns-in-Ok-clause-packed
+returns-in-Ok-clause-packed c =
+    let all = c.push_packed.new.keys in
+    let parts = c.args.parts.now.items in
+    let part : Part = c.index_mut.result.now in
+    All-set (λ (p : Part). ArePacked all p.1) parts c.in-Ok.at (part.0, c.push_packed.new.txns) c.push_packed.ensures.packed
+    (all-on c.args.keys.now all c.push_packed.ensures.more parts c.requires.packed)
+
+pub returns-else-len-sessions-clause-added : goal.returns-else-len-sessions-clause-added
+returns-else-len-sessions-clause-added c =
+    let absent = rw c.deref.ensures.value at c.in-Err.ensures in
+    ok-then c.insert_packed.result (λ new.
+    new ∙ inserted (txns_in c.args.keys.now) c.args.parts.now.items c.args.session c.in-Err.at c.args.txn.now absent.0 c.requires.sorted absent.1)
+    c.insert_packed.ensures.inserted

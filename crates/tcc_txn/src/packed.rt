@@ -1,0 +1,297 @@
+//! Sessions as a large snapshot holds them. Each key stands once in a symbol table, an operation has its number there
+//! and takes 16 bytes, and the operations of a session stand one behind the other, as the edges of an adjacency list in
+//! compressed rows. One more transaction costs a look-up for each of its operations.
+ghost use Rattle.std.specs.Prelude.{◌≡◌, ◌≤◌, ◌<◌, ◌⊎◌, ◌++◌, ◌∷◌, [], T, List, None, IfErr, IfOk, OnErr, OnOk, length, option_map, slice_get};
+ghost use Rattle.std.specs.Prelude.{unwrap_or};
+ghost use Rattle.std.specs.Cmp.Lexicographic.{slice_cmp};
+ghost use Rattle.std.specs.FinMap.Entries.{find, is_sorted, put};
+ghost use Rattle.std.specs.List.{insert};
+ghost use Rattle.std.specs.Ordering.{nat_cmp};
+ghost use Rattle.tcc_txn.specs.Limits.{most_sessions};
+ghost use Rattle.tcc_txn.specs.Nested.{IsPrefix};
+ghost use Rattle.tcc_txn.specs.Snapshots.{listed_at};
+ghost use Rattle.tcc_txn.specs.private.Packing.{AllPacked, ArePacked, PacksOps, op_in, sessions_in, txns_in};
+ghost use Rattle.tcc_txn.specs.declared.packed.PackedOp.{PackedOp};
+
+use crate::by_name::part_of;
+use crate::symbols::{SymbolTable, number_of};
+use crate::{GrowFault, Limits, Name, NoMemory, Op, Recorded, Txn};
+use std::alloc::Global;
+use std::marker::Model;
+
+/// An operation that has the number of its key.
+#[derive(Clone, Copy)]
+pub(crate) struct PackedOp {
+    key: u32,
+    is_put: bool,
+    value: u64,
+}
+
+const _: () = prove!(size_of::<PackedOp>() == 16);
+
+/// Where the operations of a transaction stand among those of its session, and how it ended.
+#[derive(Clone, Copy)]
+pub(crate) struct Span {
+    start: u32,
+    len: u16,
+    committed: bool,
+}
+
+const _: () = prove!(size_of::<Span>() == 8);
+
+/// The transactions of a session.
+#[derive(Drop)]
+pub(crate) struct PackedTxns {
+    ops: Vec<PackedOp>,
+    spans: Vec<Span>,
+}
+
+/// Sessions with their transactions.
+#[derive(Drop)]
+pub(crate) struct PackedSessions {
+    keys: SymbolTable,
+    sessions: Vec<(Name, PackedTxns)>,
+}
+
+impl Model for PackedSessions {
+    ghost use Rattle.std.specs.Prelude.{ℕ, List};
+    ghost use Rattle.std.specs.Coded.{coded×, coded_list, coded_ℕ};
+    ghost use Rattle.tcc_txn.specs.Transactions.{Transaction};
+    ghost use Rattle.tcc_txn.specs.private.SnapshotStorage.{transaction_code};
+    ghost use Rattle.tcc_txn.specs.private.Packing.{AllPacked, sessions_in};
+
+    ghost Value = { List (List ℕ × List Transaction) };
+
+    ghost coded = { coded_list (coded× (coded_list coded_ℕ) (coded_list transaction_code)) };
+
+    ghost view = { λ p. sessions_in p.keys p.sessions.items };
+
+    ghost invariant = { λ p. AllPacked p.keys p.sessions.items };
+}
+
+impl PackedOp {
+    /// The operation, with the name of its key.
+    pub(crate) fn named(&self, keys: &[Name]) -> Op
+        requires { self.now.key < length keys.now }
+        ensures { result ≡ op_in keys.now self.now }
+    {
+        let key = keys[self.key as usize];
+        let value = self.value;
+        if self.is_put {
+            Op::Put { key, value }
+        } else {
+            Op::Get { key, value }
+        }
+    }
+}
+
+/// The operation with the number of its key, which is named if it isn't yet.
+fn pack(keys: &mut SymbolTable, op: &Op) -> Result<PackedOp, NoMemory>
+    ensures within { IfOk result (λ packed. packed.key < length keys.new) }
+    ensures same { IfOk result (λ packed. op_in keys.new packed ≡ op.now) }
+    ensures more { IsPrefix keys.old keys.new }
+{
+    let key = keys.number(op.key())?;
+    Ok(PackedOp {
+        key,
+        is_put: matches!(op, Op::Put { .. }),
+        value: op.value(),
+    })
+}
+
+/// Operations, packed behind those that there are.
+fn pack_each(keys: &mut SymbolTable, packed: &mut Vec<PackedOp>, ops: &[Op]) -> Result<(), NoMemory>
+    ensures packed { OnOk result ((more : List PackedOp) × (packed.new.items ≡ packed.old.items ++ more) × PacksOps keys.new more ops.now) }
+    ensures behind { IsPrefix packed.old.items packed.new.items }
+    ensures more { IsPrefix keys.old keys.new }
+{
+    for op in ops {
+        let op = pack(keys, op)?;
+        packed.push(op)?;
+    }
+    Ok(())
+}
+
+/// One more transaction of a session. Where memory is refused, some of its operations may stand behind those that there were.
+fn pack_behind(keys: &mut SymbolTable, txns: &mut PackedTxns, txn: &Txn) -> Result<(), NoMemory>
+    requires { ArePacked keys.old txns.old }
+    ensures added { OnOk result (txns_in keys.new txns.new ≡ txns_in keys.old txns.old ++ txn.now ∷ []) }
+    ensures packed { OnOk result (ArePacked keys.new txns.new) }
+    ensures behind { IsPrefix txns.old.ops.items txns.new.ops.items }
+    ensures spans { OnErr result (txns.new.spans.items ≡ txns.old.spans.items) }
+    ensures more { IsPrefix keys.old keys.new }
+{
+    let ops = txn.ops();
+    let start = number_of(txns.ops.len())?;
+    pack_each(keys, &mut txns.ops, ops)?;
+    txns.spans.push(Span {
+        start,
+        len: ops.len() as u16,
+        committed: txn.committed(),
+    })?;
+    Ok(())
+}
+
+/// One more transaction of a session; refused, they are as they were.
+fn push_packed(keys: &mut SymbolTable, txns: &mut PackedTxns, txn: &Txn) -> Result<(), GrowFault>
+    requires { ArePacked keys.old txns.old }
+    ensures added { OnOk result (txns_in keys.new txns.new ≡ txns_in keys.old txns.old ++ txn.now ∷ []) }
+    ensures kept { OnErr result (txns_in keys.new txns.new ≡ txns_in keys.old txns.old) }
+    ensures packed { ArePacked keys.new txns.new }
+    ensures more { IsPrefix keys.old keys.new }
+    ensures refused { IfErr result (λ k. k ≡ GrowFault.NoMemory) }
+{
+    let count = txns.ops.len();
+    match pack_behind(keys, txns, txn) {
+        Ok(()) => Ok(()),
+        Err(_) => {
+            txns.ops.truncate(count);
+            Err(GrowFault::NoMemory)
+        }
+    }
+}
+
+/// The first transaction of a session, whose part goes to the index.
+fn insert_packed(
+    keys: &mut SymbolTable,
+    parts: &mut Vec<(Name, PackedTxns)>,
+    alloc: Global,
+    at: usize,
+    session: Name,
+    txn: &Txn,
+) -> Result<(), GrowFault>
+    requires within { at ≤ length parts.old.items }
+    requires packed { AllPacked keys.old parts.old.items }
+    ensures inserted { OnOk result (sessions_in keys.new parts.new.items ≡ insert (sessions_in keys.old parts.old.items) at (session, txn.now ∷ [])) }
+    ensures kept { OnErr result (sessions_in keys.new parts.new.items ≡ sessions_in keys.old parts.old.items) }
+    ensures packed { AllPacked keys.new parts.new.items }
+    ensures refused { IfErr result (λ k. k ≡ GrowFault.NoMemory) }
+{
+    let mut txns = PackedTxns {
+        ops: Vec::new(alloc),
+        spans: Vec::new(alloc),
+    };
+    push_packed(keys, &mut txns, txn)?;
+    parts.insert(at, (session, txns))?;
+    Ok(())
+}
+
+/// The session has one more transaction.
+fn add_packed(
+    keys: &mut SymbolTable,
+    parts: &mut Vec<(Name, PackedTxns)>,
+    limits: Limits,
+    alloc: Global,
+    session: Name,
+    txn: &Txn,
+) -> Result<(), GrowFault>
+    requires sorted { T (is_sorted (slice_cmp nat_cmp) parts.old.items) }
+    requires packed { AllPacked keys.old parts.old.items }
+    ensures added { OnOk result (sessions_in keys.new parts.new.items ≡ put (slice_cmp nat_cmp) session
+        (unwrap_or (find (slice_cmp nat_cmp) session (sessions_in keys.old parts.old.items)) [] ++ txn.now ∷ []) (sessions_in keys.old parts.old.items)) }
+    ensures kept { OnErr result (sessions_in keys.new parts.new.items ≡ sessions_in keys.old parts.old.items) }
+    ensures few { OnOk result ((find (slice_cmp nat_cmp) session (sessions_in keys.old parts.old.items) ≡ None) → length parts.old.items < most_sessions limits) }
+    ensures refused { IfErr result
+        (λ k. (k ≡ GrowFault.NoMemory) ⊎ ((most_sessions limits ≤ length parts.old.items)
+        × (find (slice_cmp nat_cmp) session (sessions_in keys.old parts.old.items) ≡ None))) }
+    ensures packed { AllPacked keys.new parts.new.items }
+{
+    match part_of(parts, &session) {
+        Ok(at) => push_packed(keys, &mut parts[at].1, txn),
+        Err(at) => {
+            if parts.len() >= limits.sessions() {
+                return Err(GrowFault::TooManySessions);
+            }
+            insert_packed(keys, parts, alloc, at, session, txn)
+        }
+    }
+}
+
+/// The transaction at the index.
+fn packed_at<'a>(keys: &'a [Name], txns: &'a PackedTxns, index: usize) -> Option<Recorded<'a>>
+    requires { ArePacked keys.now txns.now }
+    ensures { result ≡ slice_get (txns_in keys.now txns.now) index }
+{
+    match txns.spans.get(index) {
+        Some(span) => {
+            let start = span.start as usize;
+            let ops = &txns.ops[start..start + span.len as usize];
+            Some(Recorded::packed(keys, ops, span.committed))
+        }
+        None => None,
+    }
+}
+
+impl PackedSessions {
+    /// No sessions.
+    pub(crate) fn new(alloc: Global) -> PackedSessions
+        ensures { result ≡ [] }
+    {
+        PackedSessions {
+            keys: SymbolTable::new(alloc),
+            sessions: Vec::new(alloc),
+        }
+    }
+
+    /// How many sessions there are.
+    pub(crate) fn len(&self) -> usize
+        ensures { result ≡ length self.now }
+    {
+        self.sessions.len()
+    }
+
+    /// The name of the session at the index.
+    pub(crate) fn name(&self, i: u32) -> Option<&Name>
+        ensures { option_map (λ name. name.now) result ≡ option_map (λ named. named.0) (slice_get self.now i) }
+    {
+        match self.sessions.get(i as usize) {
+            Some(part) => Some(&part.0),
+            None => None,
+        }
+    }
+
+    /// How many transactions the session at the index has; none past the last session.
+    pub(crate) fn finished(&self, i: u32) -> usize
+        ensures { result ≡ length (listed_at self.now i) }
+    {
+        match self.sessions.get(i as usize) {
+            Some(part) => part.1.spans.len(),
+            None => 0,
+        }
+    }
+
+    /// The transaction at an index, from 0, of the session at this one.
+    pub(crate) fn recorded(&self, i: u32, index: usize) -> Option<Recorded<'_>>
+        ensures { result ≡ slice_get (listed_at self.now i) index }
+    {
+        match self.sessions.get(i as usize) {
+            Some(part) => packed_at(self.keys.names(), &part.1, index),
+            None => None,
+        }
+    }
+
+    /// The session has one more transaction.
+    pub(crate) fn add(
+        &mut self,
+        limits: Limits,
+        alloc: Global,
+        session: Name,
+        txn: &Txn,
+    ) -> Result<(), GrowFault>
+        requires { T (is_sorted (slice_cmp nat_cmp) self.old) }
+        ensures added { OnOk result (self.new ≡ put (slice_cmp nat_cmp) session (unwrap_or (find (slice_cmp nat_cmp) session self.old) [] ++ txn.now ∷ []) self.old) }
+        ensures kept { OnErr result (self.new ≡ self.old) }
+        ensures few { OnOk result ((find (slice_cmp nat_cmp) session self.old ≡ None) → length self.old < most_sessions limits) }
+        ensures refused { IfErr result
+            (λ k. (k ≡ GrowFault.NoMemory) ⊎ ((most_sessions limits ≤ length self.old) × (find (slice_cmp nat_cmp) session self.old ≡ None))) }
+    {
+        add_packed(
+            &mut self.keys,
+            &mut self.sessions,
+            limits,
+            alloc,
+            session,
+            txn,
+        )
+    }
+}

@@ -1,0 +1,152 @@
+//! Transactions as a snapshot holds them.
+ghost use Rattle.std.specs.Prelude.{◌≡◌, ◌≤◌, None, IfOk, OnOk, length, map, slice_get};
+ghost use Rattle.tcc_txn.specs.Transactions.{txn_fault};
+ghost use Rattle.tcc_txn.specs.private.Packing.{AreNamed, op_in};
+ghost use Rattle.tcc_txn.specs.declared.limits.TheConstants.{MAX_OPERATIONS};
+
+use crate::packed::PackedOp;
+use crate::{Name, NoMemory, Op, Txn};
+use std::alloc::Global;
+use std::marker::Model;
+
+/// A transaction where it lies, or its operations with a table of the names of their keys.
+#[derive(Drop)]
+pub(crate) enum Form<'a> {
+    Plain(&'a Txn),
+    Packed {
+        keys: &'a [Name],
+        ops: &'a [PackedOp],
+        committed: bool,
+    },
+}
+
+/// A transaction as a snapshot holds it. Contracts see it as the transaction.
+#[derive(Drop)]
+pub struct Recorded<'a> {
+    form: Form<'a>,
+}
+
+impl<'a> Model for Recorded<'a> {
+    ghost use Rattle.tcc_txn.specs.Transactions.{Transaction};
+    ghost use Rattle.tcc_txn.specs.private.SnapshotStorage.{transaction_code};
+
+    ghost Value = { Transaction };
+
+    ghost coded = { transaction_code };
+
+    ghost use Rattle.tcc_txn.specs.private.Forms.{IsLawfulForm, transaction_of};
+
+    ghost view = { λ r. transaction_of r.form };
+
+    ghost invariant = { λ r. IsLawfulForm r.form };
+}
+
+/// Puts packed operations in place of those that a vector held.
+fn fill_packed(keys: &[Name], packed: &[PackedOp], ops: &mut Vec<Op>) -> Result<(), NoMemory>
+    requires { AreNamed keys.now packed.now }
+    ensures { OnOk result (ops.new.items ≡ map (op_in keys.now) packed.now) }
+{
+    ops.clear();
+    for op in packed {
+        ops.push(op.named(keys))?;
+    }
+    Ok(())
+}
+
+impl<'a> Recorded<'a> {
+    /// The transaction, as a snapshot would hold it.
+    pub(crate) fn of(txn: &'a Txn) -> Recorded<'a>
+        ensures { result ≡ txn.now }
+    {
+        Recorded {
+            form: Form::Plain(txn),
+        }
+    }
+
+    /// The transaction of packed operations.
+    pub(crate) fn packed(keys: &'a [Name], ops: &'a [PackedOp], committed: bool) -> Recorded<'a>
+        requires named { AreNamed keys.now ops.now }
+        requires lawful { txn_fault (map (op_in keys.now) ops.now) ≡ None }
+        ensures { result ≡ record { ops = map (op_in keys.now) ops.now; committed = committed } }
+    {
+        Recorded {
+            form: Form::Packed {
+                keys,
+                ops,
+                committed,
+            },
+        }
+    }
+
+    /// Whether it was committed.
+    pub fn committed(&self) -> bool
+        ensures { result ≡ self.now.committed }
+    {
+        match &self.form {
+            Form::Plain(txn) => txn.committed(),
+            Form::Packed { committed, .. } => *committed,
+        }
+    }
+
+    /// How many operations it has.
+    pub fn len(&self) -> usize
+        ensures value { result ≡ length self.now.ops }
+        ensures few { result ≤ MAX_OPERATIONS }
+    {
+        match &self.form {
+            Form::Plain(txn) => txn.ops().len(),
+            Form::Packed { ops, .. } => ops.len(),
+        }
+    }
+
+    /// The operation at an index, from 0.
+    pub fn op(&self, index: usize) -> Option<Op>
+        ensures { result ≡ slice_get self.now.ops index }
+    {
+        match &self.form {
+            Form::Plain(txn) => txn.ops().get(index).copied(),
+            Form::Packed { keys, ops, .. } => match ops.get(index) {
+                Some(op) => Some(op.named(keys)),
+                None => None,
+            },
+        }
+    }
+
+    /// Puts its operations in place of those that a vector held.
+    pub fn fill(&self, ops: &mut Vec<Op>) -> Result<(), NoMemory>
+        ensures value { OnOk result (ops.new.items ≡ self.now.ops) }
+        ensures few { length self.now.ops ≤ MAX_OPERATIONS }
+        ensures lawful { txn_fault self.now.ops ≡ None }
+    {
+        match &self.form {
+            Form::Plain(txn) => {
+                ops.clear();
+                ops.extend_from_slice(txn.ops())?;
+                Ok(())
+            }
+            Form::Packed {
+                keys,
+                ops: packed,
+                ..
+            } => fill_packed(keys, packed, ops),
+        }
+    }
+
+    /// An equal transaction of its own.
+    pub fn to_txn(&self, alloc: Global) -> Result<Txn, NoMemory>
+        ensures { IfOk result (λ txn. txn ≡ self.now) }
+    {
+        match &self.form {
+            Form::Plain(txn) => txn.copy(alloc),
+            Form::Packed {
+                keys,
+                ops: packed,
+                committed,
+            } => {
+                let mut ops = Vec::new(alloc);
+                fill_packed(keys, packed, &mut ops)?;
+                Ok(Txn::new(ops, *committed).unwrap())
+            }
+        }
+    }
+}
