@@ -298,12 +298,13 @@ fn makes_large_snapshots(rt: HostRuntime) -> Result<(), Fail> {
 fn assert_recorded(rt: &impl Abort, alloc: Global, recorded: &Recorded<'_>) -> Result<(), Fail> {
     assert!(rt; recorded.committed());
     assert_eq!(rt; recorded.len(), 2);
-    let written = put(name(rt, "x"), 1);
-    assert!(rt; recorded.op(0).is_some_and(|op| op.is_same(&written)));
+    let first = put(name(rt, "x"), 1);
+    let wanted = [put(name(rt, "x"), 1), get(name(rt, "y"), 0)];
+    assert!(rt; recorded.op(0).is_some_and(|op| op.is_same(&first)));
     assert!(rt; recorded.op(2).is_none());
-    let mut ops = vec![in alloc; written]?;
+    let mut ops = vec![in alloc; put(name(rt, "z"), 3)]?;
     recorded.fill(&mut ops)?;
-    assert!(rt; are_same(&ops, &[written, get(name(rt, "y"), 0)]));
+    assert!(rt; are_same(&ops, &wanted));
     let txn = recorded.to_txn(alloc)?;
     assert!(rt; are_same(txn.ops(), &ops));
     assert!(rt; txn.recorded().is_same(recorded));
