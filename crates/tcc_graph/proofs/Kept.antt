@@ -30,9 +30,21 @@ pub record IsKept (h : History) (k : History) (f : ℕ → ℕ) : Type 0 where
   pub written : (n : ℕ) (x : List ℕ) → 0 < n → n < count h → has_name (entry_at h n).writes x ≡ true → has_name (entry_at k (f n)).writes x ≡ true
   pub read : (a : ℕ) (b : ℕ) (x : List ℕ) → IsReadsPair h a b x → IsReadsPair k (f a) (f b) x
 
--- ---- links in other numbers
+-- ---- steps and links in other numbers
 
 module _ (f : ℕ → ℕ) where
+  pub from_step : (s : Step) → step_from (step_by f s) ≡ f (step_from s)
+  from_step (step.Session a b) = refl
+  from_step (step.Reads a b x) = refl
+
+  pub to_step : (s : Step) → step_to (step_by f s) ≡ f (step_to s)
+  to_step (step.Session a b) = refl
+  to_step (step.Reads a b x) = refl
+
+  pub allowed_by : (l : Level) (walk : List Step) → IsAllowed l walk → IsAllowed l (map (step_by f) walk)
+  allowed_by level.Causal walk is = tt
+  allowed_by level.Atomic walk is = length-map walk (step_by f) ∙ is
+
   from_link : (l : Link) → link_from (link_by f l) ≡ f (link_from l)
   from_link (link.Session a b) = refl
   from_link (link.Reads a b x) = refl
@@ -111,14 +123,6 @@ module _ (h k : History) (f : ℕ → ℕ) (kept : IsKept h k f) where
 
   -- ---- steps and walks
 
-  from_step : (s : Step) → step_from (step_by f s) ≡ f (step_from s)
-  from_step (step.Session a b) = refl
-  from_step (step.Reads a b x) = refl
-
-  to_step : (s : Step) → step_to (step_by f s) ≡ f (step_to s)
-  to_step (step.Session a b) = refl
-  to_step (step.Reads a b x) = refl
-
   pub kept_step : (s : Step) → IsStep h s → IsStep k (step_by f s)
   kept_step (step.Session a b) p = kept_session a b p
   kept_step (step.Reads a b x) p = kept.read a b x p
@@ -126,17 +130,13 @@ module _ (h k : History) (f : ℕ → ℕ) (kept : IsKept h k f) where
   pub kept_leads : (a b : ℕ) (steps : List Step) → Leads h a b steps → Leads k (f a) (f b) (map (step_by f) steps)
   kept_leads a b [] p = ap f p
   kept_leads a b (s ∷ steps) p = (
-    from_step s ∙ ap f p.0,
+    from_step f s ∙ ap f p.0,
     kept_step s p.1,
-    subst (λ (z : ℕ). Leads k z (f b) (map (step_by f) steps)) (sym (to_step s)) (kept_leads (step_to s) b steps p.2),
+    subst (λ (z : ℕ). Leads k z (f b) (map (step_by f) steps)) (sym (to_step f s)) (kept_leads (step_to s) b steps p.2),
   )
 
   pub kept_walk : (a b : ℕ) (walk : List Step) → IsWalk h a b walk → IsWalk k (f a) (f b) (map (step_by f) walk)
   kept_walk a b walk w = (omega (arith, length-map walk (step_by f), w.0), kept_leads a b walk w.1)
-
-  kept_allowed : (l : Level) (walk : List Step) → IsAllowed l walk → IsAllowed l (map (step_by f) walk)
-  kept_allowed level.Causal walk is = tt
-  kept_allowed level.Atomic walk is = length-map walk (step_by f) ∙ is
 
   -- ---- reasons and links
 
@@ -144,7 +144,7 @@ module _ (h k : History) (f : ℕ → ℕ) (kept : IsKept h k f) where
       → IsReason (judged k l) (f b) (f a) x (f c) (map (step_by f) walk)
   kept_reason l b a x c walk is = (
     (λ same. is.0.0 (kept.once b a is.0.2.0 is.0.1.0 same), kept.read a c x is.0.1, kept_writer b x is.0.2),
-    (kept_walk b c walk is.1.0, kept_allowed l walk is.1.1),
+    (kept_walk b c walk is.1.0, allowed_by f l walk is.1.1),
   )
 
   pub kept_link : (v : Level) (l : Link) → IsLink (judged h v) l → IsLink (judged k v) (link_by f l)

@@ -33,14 +33,13 @@ impl Step {
     fn renumbered<N: Renumbering>(&self, numbers: &N) -> Step
         ensures { result ≡ step_by (N.by numbers.now) self.now }
     {
+        let from = numbers.number(self.from());
+        let to = numbers.number(self.to());
         match self {
-            Step::Session { from, to } => Step::Session {
-                from: numbers.number(*from),
-                to: numbers.number(*to),
-            },
-            Step::Reads { from, to, key } => Step::Reads {
-                from: numbers.number(*from),
-                to: numbers.number(*to),
+            Step::Session { .. } => Step::Session { from, to },
+            Step::Reads { key, .. } => Step::Reads {
+                from,
+                to,
                 key: *key,
             },
         }
@@ -67,32 +66,24 @@ impl Link {
     pub fn renumbered<N: Renumbering>(&self, alloc: Global, numbers: &N) -> Result<Link, NoMemory>
         ensures { IfOk result (λ link. link ≡ link_by (N.by numbers.now) self.now) }
     {
+        let from = numbers.number(self.from());
+        let to = numbers.number(self.to());
         match self {
-            Link::Session { from, to } => Ok(Link::Session {
-                from: numbers.number(*from),
-                to: numbers.number(*to),
-            }),
-            Link::Reads { from, to, key } => Ok(Link::Reads {
-                from: numbers.number(*from),
-                to: numbers.number(*to),
+            Link::Session { .. } => Ok(Link::Session { from, to }),
+            Link::Reads { key, .. } => Ok(Link::Reads {
+                from,
+                to,
                 key: *key,
             }),
             Link::Derived {
+                key, reader, walk, ..
+            } => Ok(Link::Derived {
                 from,
                 to,
-                key,
-                reader,
-                walk,
-            } => {
-                let walk = renumbered_walk(alloc, walk, numbers)?;
-                Ok(Link::Derived {
-                    from: numbers.number(*from),
-                    to: numbers.number(*to),
-                    key: *key,
-                    reader: numbers.number(*reader),
-                    walk,
-                })
-            }
+                key: *key,
+                reader: numbers.number(*reader),
+                walk: renumbered_walk(alloc, walk, numbers)?,
+            }),
         }
     }
 }

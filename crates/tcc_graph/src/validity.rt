@@ -105,15 +105,12 @@ fn is_reason(
 pub(crate) fn is_link(graph: &LargeGraph, level: Level, link: &Link) -> bool
     ensures { IsTrue result ↔ IsLink (judged graph.now level) link.now }
 {
+    let (from, to) = (link.from(), link.to());
     match link {
-        Link::Session { from, to } => is_session(graph, *from, *to),
-        Link::Reads { from, to, key } => is_read(graph, *from, *to, key),
+        Link::Session { .. } => is_session(graph, from, to),
+        Link::Reads { key, .. } => is_read(graph, from, to, key),
         Link::Derived {
-            from,
-            to,
-            key,
-            reader,
-            walk,
-        } => is_reason(graph, level, *from, *to, key, *reader, walk.as_slice()),
+            key, reader, walk, ..
+        } => is_reason(graph, level, from, to, key, *reader, walk.as_slice()),
     }
 }

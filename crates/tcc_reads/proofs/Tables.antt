@@ -1,5 +1,5 @@
 -- The resolver's look-ups, one operation at a time.
-use Rattle.std.proofs.Common.{◌≡◌, ℕ, ◌+◌, cond, Bool, true, false, ◌&&◌, List, [], ◌∷◌, ◌++◌, length, Option, None, Some, refl, ap, sym, ◌∙◌}
+use Rattle.std.proofs.Common.{◌≡◌, ℕ, ◌+◌, cond, Bool, true, false, ◌&&◌, List, [], ◌∷◌, ◌++◌, ◌<◌, length, get_or, take, drop, Option, None, Some, refl, ap, sym, ◌∙◌}
 use Rattle.std.specs.Option.{option_or}
 use Rattle.std.specs.Str.{bytes_eq}
 use Rattle.std.specs.Prelude.{◌==◌}
@@ -13,7 +13,7 @@ use Rattle.tcc_reads.specs.declared.judging.OpJudgement.TheVariants.{Faulty, Sil
 use Rattle.tcc_reads.specs.private.Numbers.{Numbered}
 use Rattle.tcc_reads.specs.Sources.{name_cmp, value_put, visible_write}
 use Rattle.tcc_reads.specs.private.Verdicts.{Writes, AreOwnIn, IsOwn, AreVisibleWrites, write_judgement}
-use Rattle.tcc_reads.proofs.Ties.{names_tie, numbers_same}
+use Rattle.tcc_reads.proofs.Ties.{names_tie, numbers_same, read_at}
 
 option_or-none : (o : Option ℕ) → option_or None o ≡ option_or o None
 option_or-none None = refl
@@ -52,7 +52,17 @@ own_is_silent table n before after (Put key value) position counted own =
     ∙ (λ i. cond ((numbers_same n.stand.session i && numbers_same n.stand.place i) && ((ap (λ k. k == position) counted ∙ numbers_same position) i)) Silent
     (Faulty Duplicate))
 
-pub own_after : (table : Writes) (n : Numbered) (before after : List Op) (op : Op)
+own_after : (table : Writes) (n : Numbered) (before after : List Op) (op : Op)
     → AreOwnIn table n before (op ∷ after) → AreOwnIn table n (before ++ op ∷ []) after
 own_after table n before after (Get key value) own = own
 own_after table n before after (Put key value) own = own.1
+
+-- the operation at an index taken in: what is known of those before the index and from there on
+module _ (ops : List Op) (index : ℕ) (op : Op) (within : index < length ops) (is : get_or ops index op ≡ op) where
+  pub own_on : (own : BTreeMap (List ℕ) ℕ) → AreVisibleWrites own (take index ops ++ op ∷ []) → AreVisibleWrites own (take (index + 1) ops)
+  own_on own known = rw (read_at ops index op op within is).behind known
+
+  pub own_ahead : (table : Writes) (n : Numbered) → AreOwnIn table n (take index ops) (drop index ops) → AreOwnIn table n (take (index + 1) ops) (drop (index + 1) ops)
+  own_ahead table n own =
+      let read = read_at ops index op op within is in
+      rw read.behind (own_after table n (take index ops) (drop (index + 1) ops) op (rw read.ahead at own))

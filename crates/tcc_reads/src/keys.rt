@@ -7,7 +7,7 @@ ghost use Rattle.tcc_reads.specs.Sources.{name_cmp, puts_at};
 ghost use Rattle.tcc_reads.specs.private.Numbers.{IsPlace, numbered};
 ghost use Rattle.tcc_reads.specs.private.KeyIndices.{has_key, index_of, key_index, writes_key, AreKeysOf};
 
-use crate::numbering::standing_at;
+use crate::numbering::visit;
 use crate::standing::Place;
 use std::alloc::Global;
 use std::collections::BTreeSet;
@@ -65,8 +65,7 @@ fn keys_written<B: Bounds>(
     let mut keys = BTreeSet::new(alloc);
     let mut ops = Vec::new(alloc);
     for place in places {
-        let standing = standing_at(snapshot, place);
-        standing.txn.fill(&mut ops)?;
+        visit(snapshot, place, &mut ops)?;
         add_keys(&mut keys, &ops)?;
     }
     Ok(keys)

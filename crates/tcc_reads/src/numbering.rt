@@ -4,13 +4,13 @@ ghost use Rattle.std.specs.FinMap.{entries};
 ghost use Rattle.tcc_txn.specs.Finished.{transaction_count};
 ghost use Rattle.tcc_txn.specs.Limits.{most_sessions, most_transactions};
 ghost use Rattle.tcc_txn.specs.Snapshots.{finished_at};
-ghost use Rattle.tcc_txn.specs.declared.limits.TheConstants.{LARGE_COUNT};
+ghost use Rattle.tcc_txn.specs.declared.limits.TheConstants.{LARGE_COUNT, MAX_OPERATIONS};
 ghost use Rattle.tcc_reads.specs.Sites.{Stand, stands_in, stands};
 ghost use Rattle.tcc_reads.specs.private.Numbers.{IsPlace, name_in, numbered, numbered_at, numbered_from};
 
 use crate::standing::{Place, Standing};
 use std::alloc::{AllocError, Global};
-use tcc_txn::{Bounds, Name, Recorded, SnapshotWithin};
+use tcc_txn::{Bounds, Name, NoMemory, Op, Recorded, SnapshotWithin};
 
 /// The name of a session that is there.
 fn name_at<B: Bounds>(snapshot: &SnapshotWithin<B>, session: u32) -> &Name
@@ -30,10 +30,7 @@ fn recorded_at<B: Bounds>(snapshot: &SnapshotWithin<B>, session: u32, before: us
 }
 
 /// The transaction at a place.
-pub(crate) fn standing_at<'a, B: Bounds>(
-    snapshot: &'a SnapshotWithin<B>,
-    place: &Place,
-) -> Standing<'a>
+fn standing_at<'a, B: Bounds>(snapshot: &'a SnapshotWithin<B>, place: &Place) -> Standing<'a>
     requires { IsPlace snapshot.now place.now }
     ensures { result ≡ numbered_at snapshot.now place.now }
 {
@@ -44,6 +41,22 @@ pub(crate) fn standing_at<'a, B: Bounds>(
         number: place.number,
         txn: recorded_at(snapshot, place.session, place.before as usize),
     }
+}
+
+/// The transaction at a place; its operations come in place of those that a vector held.
+pub(crate) fn visit<'a, B: Bounds>(
+    snapshot: &'a SnapshotWithin<B>,
+    place: &Place,
+    ops: &mut Vec<Op>,
+) -> Result<Standing<'a>, NoMemory>
+    requires { IsPlace snapshot.now place.now }
+    ensures standing { IfOk result (λ standing. standing ≡ numbered_at snapshot.now place.now) }
+    ensures ops { IfOk result (λ standing. ops.new.items ≡ standing.stand.txn.ops) }
+    ensures few { IfOk result (λ _. length ops.new.items ≤ MAX_OPERATIONS) }
+{
+    let standing = standing_at(snapshot, place);
+    standing.txn.fill(ops)?;
+    Ok(standing)
 }
 
 /// The number that comes after a transaction.

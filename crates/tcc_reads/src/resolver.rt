@@ -11,7 +11,7 @@ ghost use Rattle.tcc_reads.specs.private.Numbers.{IsPlace, numbered};
 ghost use Rattle.tcc_reads.specs.private.Verdicts.{writers_in, AreOwn, AreOwnIn, faults_found, entries_found};
 
 use crate::judging::judge;
-use crate::numbering::{self, session_names, standing_at};
+use crate::numbering::{self, session_names, visit};
 use crate::sorting::sorted_once;
 use crate::standing::{Place, Standing};
 use crate::writers::{FirstWrites, first_writes};
@@ -124,8 +124,7 @@ pub(crate) fn examine<B: Bounds>(
     let mut ops = Vec::new(alloc);
     transactions.push(initial_transaction(alloc))?;
     for place in places {
-        let standing = standing_at(snapshot, place);
-        standing.txn.fill(&mut ops)?;
+        let standing = visit(snapshot, place, &mut ops)?;
         examine_one(
             alloc,
             first,

@@ -12,7 +12,7 @@ ghost use Rattle.tcc_reads.specs.private.Verdicts.{writers_in, entries_found};
 ghost use Rattle.tcc_reads.specs.private.Tracings.{entries_traced, is_outside};
 
 use crate::judging::trace;
-use crate::numbering::{self, session_names, standing_at};
+use crate::numbering::{self, session_names, visit};
 use crate::resolver::{Findings, examine, initial_transaction, places, transaction};
 use crate::standing::{Place, Standing};
 use crate::writers::{FirstWrites, first_writes};
@@ -104,8 +104,7 @@ fn trace_all<B: Bounds>(
     let mut ops = Vec::new(alloc);
     transactions.push(initial_transaction(alloc))?;
     for place in places {
-        let standing = standing_at(snapshot, place);
-        standing.txn.fill(&mut ops)?;
+        let standing = visit(snapshot, place, &mut ops)?;
         trace_one(
             alloc,
             first,

@@ -131,7 +131,7 @@ module _ (names all : Names) (front : IsPrefix names all) (old new : PackedTxns)
 module _ (names all : Names) (front : IsPrefix names all) (old new : PackedTxns) (packed : ArePacked names old) (more : List PackedOp) (txn : Transaction)
     (behind : new.ops.items ≡ old.ops.items ++ more) (packs : PacksOps all more txn.ops) (span : Span)
     (spans : new.spans.items ≡ old.spans.items ++ span ∷ []) (start : span.start ≡ length old.ops.items) (len : span.len ≡ length txn.ops)
-    (committed : span.committed ≡ txn.committed) where
+    (committed : span.committed ≡ txn.committed) (faultless : txn_fault txn.ops ≡ None) where
   begins : IsPrefix old.ops.items new.ops.items
   begins = (more, behind)
 
@@ -146,14 +146,14 @@ module _ (names all : Names) (front : IsPrefix names all) (old new : PackedTxns)
       ∙ (ap (take span.len) (drop-append_seam old.ops.items more) ∙ take_all span.len more (omega (arith, many, len)))) in
       λ i. record { ops = (ap (map (op_in all)) there ∙ packs.same) i; committed = committed i }
 
-  pub txns-added : txns_in all new ≡ txns_in names old ++ txn ∷ []
+  txns-added : txns_in all new ≡ txns_in names old ++ txn ∷ []
   txns-added =
       ap (map (txn_in all new.ops.items)) spans
       ∙ (map-append (txn_in all new.ops.items) old.spans.items (span ∷ [])
       ∙ (λ i. txns_in-on names all front old.ops.items new.ops.items packed.named begins old.spans.items packed.spanned i ++ last i ∷ []))
 
-  pub packed-added : txn_fault txn.ops ≡ None → ArePacked all new
-  packed-added faultless = record {
+  packed-added : ArePacked all new
+  packed-added = record {
     named =
         subst (AreNamed all) (sym behind)
         (All-append (λ (o : PackedOp). o.key < length all) old.ops.items more (named-on names all front old.ops.items packed.named) packs.named);
@@ -170,6 +170,9 @@ module _ (names all : Names) (front : IsPrefix names all) (old new : PackedTxns)
         (All-cons (λ (s : Span). txn_fault (txn_in all new.ops.items s).ops ≡ None) span []
         (subst (λ (t : Transaction). txn_fault t.ops ≡ None) (sym last) faultless) (λ k d inside. absurd (omega (arith, inside)))));
   }
+
+  pub one-added : (txns_in all new ≡ txns_in names old ++ txn ∷ []) × ArePacked all new
+  one-added = (txns-added, packed-added)
 
 -- ---- sessions
 

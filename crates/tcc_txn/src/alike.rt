@@ -24,15 +24,13 @@ impl Alike for Txn {
     }
 }
 
-/// Whether there is one operation and the other, and they are equal, or neither.
-fn is_same_op(one: Option<Op>, other: Option<Op>) -> bool
-    ensures same { result ≡ true → one ≡ other }
-    ensures other { result ≡ false → one ≡ other → ⊥ }
-{
-    match (one, other) {
-        (Some(one), Some(other)) => one.is_same(&other),
-        (None, None) => true,
-        _ => false,
+impl<T: Alike> Alike for Option<T> {
+    fn is_same(&self, other: &Option<T>) -> bool {
+        match (self, other) {
+            (Some(one), Some(other)) => one.is_same(other),
+            (None, None) => true,
+            _ => false,
+        }
     }
 }
 
@@ -45,7 +43,7 @@ fn are_same_ops(one: &Recorded<'_>, other: &Recorded<'_>) -> bool
         return false;
     }
     for index in 0..one.len() {
-        if !is_same_op(one.op(index), other.op(index)) {
+        if !one.op(index).is_same(&other.op(index)) {
             return false;
         }
     }

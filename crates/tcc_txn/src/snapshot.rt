@@ -296,18 +296,6 @@ fn is_same_name(one: Option<&Name>, other: Option<&Name>) -> bool
     }
 }
 
-/// Whether there is one transaction and the other, and they are equal, or neither.
-fn is_same_txn(one: Option<Recorded<'_>>, other: Option<Recorded<'_>>) -> bool
-    ensures same { result ≡ true → one ≡ other }
-    ensures other { result ≡ false → one ≡ other → ⊥ }
-{
-    match (one, other) {
-        (Some(one), Some(other)) => one.is_same(&other),
-        (None, None) => true,
-        _ => false,
-    }
-}
-
 /// Whether the sessions at the index have equal transactions.
 fn are_same_lists<B: Bounds>(one: &SnapshotWithin<B>, other: &SnapshotWithin<B>, i: u32) -> bool
     ensures same { result ≡ true → finished_at one.now i ≡ finished_at other.now i }
@@ -317,7 +305,7 @@ fn are_same_lists<B: Bounds>(one: &SnapshotWithin<B>, other: &SnapshotWithin<B>,
         return false;
     }
     for index in 0..one.finished(i) {
-        if !is_same_txn(one.recorded(i, index), other.recorded(i, index)) {
+        if !one.recorded(i, index).is_same(&other.recorded(i, index)) {
             return false;
         }
     }

@@ -5,6 +5,7 @@ use Rattle.tcc_txn.specs.private.Packing.{AllPacked, ArePacked, Names, txns_in}
 use Rattle.tcc_txn.proofs.Growing.{err-then, found-here, inserted, missing, ok-always, ok-then, index_in-within, unwritten, written}
 use Rattle.tcc_txn.proofs.GrownSnapshot.{grown}
 use Rattle.tcc_txn.proofs.PackedOps.{Part, all-on, sessions-on, txns-on}
+use Rattle.tcc_txn.proofs.packed.add_packed.Goals.{After-push_packed}
 use Rattle.tcc_txn.proofs.packed.add_packed.Goals as goal
 
 part_packed : (keys : Names) (parts : List Part) (at : ℕ) (part : Part) → AllPacked keys parts → at < length parts → part ≡ get_or parts at part
@@ -29,32 +30,33 @@ insert_packed-requires-clause-within c =
     let absent = rw c.deref.ensures.value at c.in-Err.ensures in
     omega (arith, absent.0, index_in-within c.args.session c.args.parts.now.items)
 
+-- with the names that there are now the part has the transactions that it had
+kept_part : (c : After-push_packed) → txns_in c.push_packed.new.keys c.index_mut.result.now.1 ≡ txns_in c.args.keys.now c.index_mut.result.now.1
+kept_part c =
+    let found = rw c.deref.ensures.value at c.in-Ok.ensures in
+    txns-on c.args.keys.now c.push_packed.new.keys c.push_packed.ensures.more c.index_mut.result.now.1
+    (part_packed c.args.keys.now c.args.parts.now.items c.in-Ok.at c.index_mut.result.now c.requires.packed found.1.0 c.index_mut.ensures.value)
+
 pub returns-in-Ok-clause-added : goal.returns-in-Ok-clause-added
 returns-in-Ok-clause-added c =
-    let names = c.args.keys.now in
     let all = c.push_packed.new.keys in
     let parts = c.args.parts.now.items in
-    let part : Part = c.index_mut.result.now in
     let found = rw c.deref.ensures.value at c.in-Ok.ensures in
-    let kept : txns_in all part.1 ≡ txns_in names part.1 = txns-on names all c.push_packed.ensures.more part.1
-    (part_packed names parts c.in-Ok.at part c.requires.packed found.1.0 c.index_mut.ensures.value) in
     ok-then c.push_packed.result (λ added.
-    written (txns_in all) parts c.args.session c.in-Ok.at c.args.txn.now part c.push_packed.new.txns found.0 found.1 c.index_mut.ensures.value
-    (added ∙ ap (λ (z : List Transaction). z ++ c.args.txn.now ∷ []) (sym kept))
-    ∙ ap (grown c.args.session c.args.txn.now) (sessions-on names all c.push_packed.ensures.more parts c.requires.packed)) c.push_packed.ensures.added
+    written (txns_in all) parts c.args.session c.in-Ok.at c.args.txn.now c.index_mut.result.now c.push_packed.new.txns found.0 found.1
+    c.index_mut.ensures.value
+    (added ∙ ap (λ (z : List Transaction). z ++ c.args.txn.now ∷ []) (sym (kept_part (goal.at.returns-in-Ok-clause-added c).After-push_packed)))
+    ∙ ap (grown c.args.session c.args.txn.now) (sessions-on c.args.keys.now all c.push_packed.ensures.more parts c.requires.packed))
+    c.push_packed.ensures.added
 
 pub returns-in-Ok-clause-kept : goal.returns-in-Ok-clause-kept
 returns-in-Ok-clause-kept c =
-    let names = c.args.keys.now in
     let all = c.push_packed.new.keys in
     let parts = c.args.parts.now.items in
-    let part : Part = c.index_mut.result.now in
-    let found = rw c.deref.ensures.value at c.in-Ok.ensures in
-    let kept : txns_in all part.1 ≡ txns_in names part.1 = txns-on names all c.push_packed.ensures.more part.1
-    (part_packed names parts c.in-Ok.at part c.requires.packed found.1.0 c.index_mut.ensures.value) in
     err-then c.push_packed.result (λ same.
-    unwritten (txns_in all) parts c.args.session c.in-Ok.at part c.push_packed.new.txns c.index_mut.ensures.value (same ∙ sym kept)
-    ∙ sessions-on names all c.push_packed.ensures.more parts c.requires.packed) c.push_packed.ensures.kept
+    unwritten (txns_in all) parts c.args.session c.in-Ok.at c.index_mut.result.now c.push_packed.new.txns c.index_mut.ensures.value
+    (same ∙ sym (kept_part (goal.at.returns-in-Ok-clause-kept c).After-push_packed))
+    ∙ sessions-on c.args.keys.now all c.push_packed.ensures.more parts c.requires.packed) c.push_packed.ensures.kept
 
 pub returns-in-Ok-clause-few : goal.returns-in-Ok-clause-few
 returns-in-Ok-clause-few c =
