@@ -1,5 +1,5 @@
 -- A map of numbers that keeps pairs and writers, transaction by transaction, carries each link.
-use Rattle.std.proofs.Common.{◌≡◌, ◌<◌, ◌≤◌, ◌+◌, ◌-◌, ◌==◌, ◌↔◌, ◌⊎◌, inl, inr, ℕ, zero, suc, true, List, [], ◌∷◌, length, get_or, refl, ap, subst, ◌∙◌, arith}
+use Rattle.std.proofs.Common.{below_more, ◌≡◌, ◌<◌, ◌≤◌, ◌+◌, ◌-◌, ◌==◌, ◌↔◌, ◌⊎◌, inl, inr, ℕ, zero, suc, true, List, [], ◌∷◌, length, get_or, refl, ap, subst, ◌∙◌, arith}
 use Rattle.std.specs.Prelude.{zip, slice_index}
 use Rattle.std.specs.List.{Contains}
 use Rattle.std.proofs.lemmas.Bool.{cases_lt, or_cases, eqb-true}
@@ -22,11 +22,8 @@ pub rising_none : (numbers : List ℕ) → IsAdjacent numbers 1
 rising_none numbers j some l = absurd (omega (arith, l, some))
 
 pub rising_more : (numbers : List ℕ) (n : ℕ) → IsAdjacent numbers n → slice_index numbers (n - 1) < slice_index numbers n → IsAdjacent numbers (n + 1)
-rising_more numbers n before here j some l = go (cases_lt j n)
-  where
-    go : (j < n) ⊎ (n ≤ j) → slice_index numbers (j - 1) < slice_index numbers j
-    go (inl less) = before j some less
-    go (inr last) = let same : j ≡ n = omega (arith, last, l) in rw same here
+rising_more numbers n before here j some l =
+    below_more (λ j. 0 < j → slice_index numbers (j - 1) < slice_index numbers j) n (λ j l some. before j some l) (λ some. here) j l some
 
 pub rising_all : (numbers : List ℕ) (n : ℕ) → length numbers ≤ n → IsAdjacent numbers n → IsRising numbers
 rising_all numbers n all each i zero less below = absurd (omega (arith, less))
@@ -62,11 +59,8 @@ AreKept numbers large a rs ks n = (k : ℕ) → k < n → IsReadsPair large (car
 
 pub kept_more : (numbers : List ℕ) (large : History) (a : ℕ) (rs : List ℕ) (ks : List (List ℕ)) (n : ℕ) → AreKept numbers large a rs ks n
     → IsReadsPair large (carry numbers a) (carry numbers (get_or rs n 0)) (get_or ks n []) → AreKept numbers large a rs ks (n + 1)
-kept_more numbers large a rs ks n before here k l = go (cases_lt k n)
-  where
-    go : (k < n) ⊎ (n ≤ k) → IsReadsPair large (carry numbers a) (carry numbers (get_or rs k 0)) (get_or ks k [])
-    go (inl less) = before k less
-    go (inr last) = let same : k ≡ n = omega (arith, last, l) in rw same here
+kept_more numbers large a rs ks n before here =
+    below_more (λ k. IsReadsPair large (carry numbers a) (carry numbers (get_or rs k 0)) (get_or ks k [])) n before here
 
 pub kept_all : (numbers : List ℕ) (small large : History) (a : ℕ) (rs : List ℕ) (ks : List (List ℕ)) (n : ℕ) → length rs ≤ n
     → ((c : ℕ) (x : List ℕ) → Contains (zip rs ks) (c, x) ↔ IsReadsPair small a c x) → AreKept numbers large a rs ks n → KeepsReads numbers small large a
@@ -82,11 +76,8 @@ AreLater numbers large a low n = (b : ℕ) → low ≤ b → b < n → IsSession
 
 pub later_more : (numbers : List ℕ) (large : History) (a low n : ℕ) → AreLater numbers large a low n → IsSessionPair large (carry numbers a) (carry numbers n)
     → AreLater numbers large a low (n + 1)
-later_more numbers large a low n before here b above l = go (cases_lt b n)
-  where
-    go : (b < n) ⊎ (n ≤ b) → IsSessionPair large (carry numbers a) (carry numbers b)
-    go (inl less) = before b above less
-    go (inr last) = let same : b ≡ n = omega (arith, last, l) in rw same here
+later_more numbers large a low n before here b above l =
+    below_more (λ b. low ≤ b → IsSessionPair large (carry numbers a) (carry numbers b)) n (λ b l above. before b above l) (λ above. here) b l above
 
 pub later_all : (numbers : List ℕ) (small large : History) (a low high n : ℕ) → high ≤ n → ((v : ℕ) → IsSessionPair small a v ↔ ((low ≤ v) × (v < high)))
     → AreLater numbers large a low n → KeepsSessions numbers small large a
@@ -98,11 +89,7 @@ AreWritten numbers large b ks n = (k : ℕ) → k < n → IsWriter large (carry 
 
 pub written_more : (numbers : List ℕ) (large : History) (b : ℕ) (ks : List (List ℕ)) (n : ℕ) → AreWritten numbers large b ks n
     → IsWriter large (carry numbers b) (get_or ks n []) → AreWritten numbers large b ks (n + 1)
-written_more numbers large b ks n before here k l = go (cases_lt k n)
-  where
-    go : (k < n) ⊎ (n ≤ k) → IsWriter large (carry numbers b) (get_or ks k [])
-    go (inl less) = before k less
-    go (inr last) = let same : k ≡ n = omega (arith, last, l) in rw same here
+written_more numbers large b ks n before here = below_more (λ k. IsWriter large (carry numbers b) (get_or ks k [])) n before here
 
 pub written_all : (numbers : List ℕ) (small large : History) (b n : ℕ) → length (entry_at small b).writes ≤ n
     → AreWritten numbers large b (entry_at small b).writes n → KeepsWrites numbers small large b
@@ -120,16 +107,9 @@ HasKept numbers small large n = (a : ℕ) → a < n → Keeps numbers small larg
 pub has_none : (numbers : List ℕ) (small large : History) → HasKept numbers small large 0
 has_none numbers small large a l = absurd (omega (arith, l))
 
-one_more : (P : ℕ → Type 0) (n : ℕ) → ((k : ℕ) → k < n → P k) → P n → (k : ℕ) → k < n + 1 → P k
-one_more P n before here k l = go (cases_lt k n)
-  where
-    go : (k < n) ⊎ (n ≤ k) → P k
-    go (inl less) = before k less
-    go (inr last) = let same : k ≡ n = omega (arith, last, l) in rw same here
-
 pub has_more : (numbers : List ℕ) (small large : History) (n : ℕ) → HasKept numbers small large n → Keeps numbers small large n
     → HasKept numbers small large (n + 1)
-has_more numbers small large n before here = one_more (Keeps numbers small large) n before here
+has_more numbers small large n before here = below_more (Keeps numbers small large) n before here
 
 module _ (numbers : List ℕ) (small large : History) (n : ℕ) (all : count small ≤ n) (kept : HasKept numbers small large n) (fits : Fits numbers small large) where
   long : length numbers ≡ count small

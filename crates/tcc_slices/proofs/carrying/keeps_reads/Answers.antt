@@ -1,22 +1,28 @@
-use Rattle.std.proofs.Common.{◌≡◌, [], get_or, arith, sym, ◌∙◌}
+use Rattle.std.proofs.Common.{◌≡◌, ◌<◌, ℕ, List, [], get_or, length, arith, sym, ◌∙◌}
+use Rattle.std.specs.Prelude.{◌↔◌}
 use Rattle.std.proofs.lemmas.List.{get_or_read}
+use Rattle.tcc_reads.specs.History.{History}
 use Rattle.tcc_graph.specs.Relations.{IsReadsPair}
 use Rattle.tcc_slices.specs.private.Carrying.{carry}
 use Rattle.tcc_slices.proofs.Carried.{kept_all, kept_more, zip_in}
 use Rattle.tcc_slices.proofs.carrying.keeps_reads.Goals as goal
 
+-- the pair that is looked for is that of the reading at an index
+looked_for : (numbers : List ℕ) (large : History) (a : ℕ) (rs : List ℕ) (ks : List (List ℕ)) (k from to : ℕ) (key : List ℕ) → from ≡ carry numbers a
+    → to ≡ carry numbers (get_or rs k 0) → key ≡ get_or ks k key → k < length rs → length rs ≡ length ks
+    → IsReadsPair large from to key ↔ IsReadsPair large (carry numbers a) (carry numbers (get_or rs k 0)) (get_or ks k [])
+looked_for numbers large a rs ks k from to key begins ends is inside long =
+    let read : key ≡ get_or ks k [] = get_or_read ks k key (omega (arith, inside, long)) is [] in
+    (λ pair. rw (begins, ends, read) at pair, λ pair. rw (begins, ends, read) pair)
+
 pub loop-index-preserved : goal.loop-index-preserved
 loop-index-preserved c =
-    let numbers = c.args.numbers.now in
-    let large = c.args.large.now in
-    let index = c.loop-index.index in
-    let rs = c.readings.result.0.now in
-    let ks = c.readings.result.1.now in
-    let read : c.index-keys-index.result ≡ get_or ks index []
-    = get_or_read ks index c.index-keys-index.result (omega (arith, c.loop-index-test.true, c.readings.ensures.long)) c.index-keys-index.is [] in
-    let pair : IsReadsPair large (carry numbers c.args.source) (carry numbers (get_or rs index 0)) (get_or ks index [])
-    = rw (c.carried.ensures, c.carried-in-loop-index.ensures, read) at (c.is_link.ensures.0 c.if-not-is_link.false) in
-    kept_more numbers large c.args.source rs ks index c.loop-index.invariant pair
+    let same =
+    looked_for c.args.numbers.now c.args.large.now c.args.source c.readings.result.0.now c.readings.result.1.now c.loop-index.index c.carried.result
+    c.carried-in-loop-index.result c.index-keys-index.result c.carried.ensures c.carried-in-loop-index.ensures c.index-keys-index.is c.loop-index-test.true
+    c.readings.ensures.long in
+    kept_more c.args.numbers.now c.args.large.now c.args.source c.readings.result.0.now c.readings.result.1.now c.loop-index.index c.loop-index.invariant
+    (same.0 (c.is_link.ensures.0 c.if-not-is_link.false))
 
 pub returns-clause-told : goal.returns-clause-told
 returns-clause-told c = λ is.
@@ -25,14 +31,11 @@ returns-clause-told c = λ is.
 
 pub returns-then-not-is_link-clause-kept : goal.returns-then-not-is_link-clause-kept
 returns-then-not-is_link-clause-kept c = λ kept.
-    let numbers = c.args.numbers.now in
-    let large = c.args.large.now in
     let index = c.loop-index.index in
     let rs = c.readings.result.0.now in
     let ks = c.readings.result.1.now in
-    let read : c.index-keys-index.result ≡ get_or ks index []
-    = get_or_read ks index c.index-keys-index.result (omega (arith, c.loop-index-test.true, c.readings.ensures.long)) c.index-keys-index.is [] in
-    let pair : IsReadsPair large (carry numbers c.args.source) (carry numbers (get_or rs index 0)) (get_or ks index [])
-    = kept (get_or rs index 0) (get_or ks index [])
-    ((c.readings.ensures.each (get_or rs index 0) (get_or ks index [])).0 (zip_in rs ks index c.loop-index-test.true c.readings.ensures.long)) in
-    sym c.if-not-is_link.true ∙ c.is_link.ensures.1 (rw (c.carried.ensures, c.carried-in-loop-index.ensures, read) pair)
+    let same =
+    looked_for c.args.numbers.now c.args.large.now c.args.source rs ks index c.carried.result c.carried-in-loop-index.result c.index-keys-index.result
+    c.carried.ensures c.carried-in-loop-index.ensures c.index-keys-index.is c.loop-index-test.true c.readings.ensures.long in
+    let there = (c.readings.ensures.each (get_or rs index 0) (get_or ks index [])).0 (zip_in rs ks index c.loop-index-test.true c.readings.ensures.long) in
+    sym c.if-not-is_link.true ∙ c.is_link.ensures.1 (same.1 (kept (get_or rs index 0) (get_or ks index []) there))
