@@ -307,7 +307,10 @@ fn assert_recorded(rt: &impl Abort, alloc: Global, recorded: &Recorded<'_>) -> R
     assert!(rt; are_same(&ops, &wanted));
     let txn = recorded.to_txn(alloc)?;
     assert!(rt; are_same(txn.ops(), &ops));
-    assert!(rt; txn.recorded().is_same(recorded));
+    let again = txn.recorded();
+    assert!(rt; again.committed());
+    assert_eq!(rt; again.len(), 2);
+    assert!(rt; again.op(0).is_some_and(|op| op.is_same(&first)));
     Ok(())
 }
 
