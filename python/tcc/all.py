@@ -39,7 +39,7 @@ from tcc.notes import NoNotes, Note, read_notes
 from tcc.program import NoAnswer, Program
 from tcc.progress import INTERRUPTED, Doing, status_of
 from tcc.rows import History, Json, Operation, Transaction, Unfit, history_of, read_places
-from tcc.words import count
+from tcc.words import command_line, count
 
 EXAMPLE = """example: session a doesn't see its own write, and b sees one write of a transaction and not the other
   $ cat records.csv
@@ -238,7 +238,7 @@ class Search:
 
 
 def arguments() -> argparse.Namespace:
-    ask = argparse.ArgumentParser(description=__doc__, epilog=EXAMPLE, formatter_class=argparse.RawDescriptionHelpFormatter)
+    ask = command_line(__doc__, EXAMPLE)
     ask.add_argument("records", nargs="?", metavar="RECORDS", help="the file of the records, by default standard input")
     ask.add_argument("--most", type=count, default=MOST, metavar="N", help="shows at most so many anomalies, by default %d" % MOST)
     ask.add_argument("--level", choices=("causal", "atomic"), default="causal", help="by default causal")

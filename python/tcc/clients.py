@@ -11,7 +11,7 @@ import sys
 import threading
 import time
 from dataclasses import dataclass, field
-from typing import Any, Callable, Iterator, List, NamedTuple, Optional, Sequence, Tuple, Type
+from typing import Any, Callable, ContextManager, Iterator, List, NamedTuple, Optional, Sequence, Tuple, Type
 
 from tcc.noted import Transaction, annotations, records, session_name, settle, summary, warnings
 from tcc.notes import write_notes
@@ -22,18 +22,15 @@ MOST_KEYS = 1048576
 # A value is a counter and the number of the client that wrote it, which is less than this.
 CLIENTS = 4096
 LOOPBACK = "127.0.0.1"
-# So long a client waits before it connects again.
+# So long a client waits before it connects again, and behind each statement of a transaction.
 PAUSE_SECONDS = 0.05
+STATEMENT_SECONDS = 0.002
 
 Failures = Tuple[Type[Exception], ...]
 
 
 class NoServer(Exception):
     """A server that can't be had."""
-
-
-def command_line(about: Optional[str], example: str) -> argparse.ArgumentParser:
-    return argparse.ArgumentParser(description=about, epilog=example, formatter_class=argparse.RawDescriptionHelpFormatter)
 
 
 def arguments(ask: argparse.ArgumentParser) -> argparse.Namespace:
@@ -199,18 +196,31 @@ class Statements(NamedTuple):
     read: str
     write: str
 
-    def execute(self, client: Client, mine: Transaction, cursor: Any, reads: List[str], writes: List[str], pause: float) -> None:
+    def execute(self, client: Client, mine: Transaction, cursor: Any, reads: List[str], writes: List[str]) -> None:
         """Reads and then writes in a transaction, noted as they go, with a pause behind each."""
         for key in reads:
             cursor.execute(self.read, (key,))
             found = cursor.fetchone()
             mine.read(key, found[0] if found else 0)
-            time.sleep(pause)
+            time.sleep(STATEMENT_SECONDS)
         for key in writes:
             value = client.new_value()
             mine.write(key, value)
             cursor.execute(self.write, (key, value))
-            time.sleep(pause)
+            time.sleep(STATEMENT_SECONDS)
+
+    def transact(self, client: Client, server: Any, node: str, reads: List[str], writes: List[str], refused: Failures,
+                 refusals: ContextManager[None] = contextlib.nullcontext()) -> List[str]:
+        """One transaction over a connection, noted as it goes, of reads and then writes; gives the keys of both. It is rolled back
+        where the store refuses it, which `refusals` may tell of other errors."""
+        try:
+            with client.transaction(node, refused) as mine, refusals, server.cursor() as cursor:
+                self.execute(client, mine, cursor, reads, writes)
+                mine.committing()
+                server.commit()
+        except refused:
+            server.rollback()
+        return reads + writes
 
 
 @dataclass

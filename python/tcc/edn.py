@@ -19,6 +19,7 @@ from typing import Any, Counter as Count, Iterator, List, TextIO
 
 from tcc.progress import Doing, status_of
 from tcc.rows import Json
+from tcc.words import command_line
 
 EXAMPLE = """example:
   $ echo '{:type :ok, :process 3, :f :txn, :value [[:r :x nil] [:w :y 5]]}' | edn.py
@@ -190,7 +191,7 @@ def atom(word: str) -> Any:
 
 
 def arguments() -> argparse.Namespace:
-    ask = argparse.ArgumentParser(description=__doc__, epilog=EXAMPLE, formatter_class=argparse.RawDescriptionHelpFormatter)
+    ask = command_line(__doc__, EXAMPLE)
     ask.add_argument("file", nargs="?", metavar="FILE", help="the file of the values, by default standard input")
     return ask.parse_args()
 

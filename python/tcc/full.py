@@ -8,6 +8,7 @@ import sys
 from typing import List
 
 from tcc.runner import LEVELS, NoAnswer, program
+from tcc.words import command_line
 
 EXAMPLE = """example: a transaction that reads what nobody wrote
   $ printf 'a,begin\\na,r,x,7\\na,commit\\n' > records.csv
@@ -26,7 +27,7 @@ def words_of(asked: argparse.Namespace) -> List[str]:
 
 
 def arguments() -> argparse.Namespace:
-    ask = argparse.ArgumentParser(description=__doc__, epilog=EXAMPLE, formatter_class=argparse.RawDescriptionHelpFormatter)
+    ask = command_line(__doc__, EXAMPLE)
     ask.add_argument("records", metavar="RECORDS", help="the file of the records")
     ask.add_argument("--level", choices=LEVELS, default="causal", help="by default causal")
     ask.add_argument("--large", action="store_true", help="takes the large limits")

@@ -45,7 +45,7 @@ from tcc.notes import write_notes
 from tcc.operations import USUAL, Untold, is_number, operation, spelled
 from tcc.progress import INTERRUPTED, Doing
 from tcc.rows import Json
-from tcc.words import count
+from tcc.words import command_line, count
 
 EXAMPLE = """example: session p1 doesn't see its own write
   $ cat history.jsonl
@@ -239,7 +239,7 @@ def json_text(word: str) -> str:
 
 
 def arguments() -> argparse.Namespace:
-    ask = argparse.ArgumentParser(description=__doc__, epilog=EXAMPLE, formatter_class=argparse.RawDescriptionHelpFormatter)
+    ask = command_line(__doc__, EXAMPLE)
     ask.add_argument("history", nargs="?", metavar="HISTORY", help="the file of the operations, by default standard input")
     ask.add_argument("--table", metavar="FILE", help="writes what isn't itself in the records, a line each: kind, what stands "
                      "for it, and how JSON spells it")

@@ -30,6 +30,7 @@ from tcc.answers import (Link, anomaly_head, columns, cycle_of, key, label, orde
                      transactions_of)
 from tcc.progress import Doing, status_of
 from tcc.rows import History, Json, Operation, Transaction, Unfit, open_records, read_history, read_places
+from tcc.words import command_line
 
 EXAMPLE = """example: draw the anomaly of a history, then show the records that it speaks of
   $ tcc explain --json < examples/stale-read.csv > answer.json
@@ -292,7 +293,7 @@ def shown(answer: Json, history: Optional[History], places: Dict[str, str], as_t
 
 
 def arguments() -> argparse.Namespace:
-    ask = argparse.ArgumentParser(description=__doc__, epilog=EXAMPLE, formatter_class=argparse.RawDescriptionHelpFormatter)
+    ask = command_line(__doc__, EXAMPLE)
     ask.add_argument("answer", nargs="?", metavar="ANSWER", help="the file of the answer, by default standard input")
     ask.add_argument("--history", metavar="FILE", help="the records that the answer is for; of a slice with --places, those of the "
                      "whole history")

@@ -12,6 +12,7 @@ from typing import Dict, Iterator, Tuple
 from tcc.answers import columns, cycle_of, read_answer, transactions_of
 from tcc.progress import INTERRUPTED
 from tcc.rows import History, Json, Unfit, open_records, read_history
+from tcc.words import command_line
 
 EXAMPLE = """example: the answer speaks of p1/187 and of p2/9 alone, so they are the first ones of the slice
   $ tcc explain --large --json --slice slice.csv records.csv > answer.json
@@ -39,7 +40,7 @@ def table(answer: Json, slice_of_it: History) -> Dict[str, str]:
 
 
 def arguments() -> argparse.Namespace:
-    ask = argparse.ArgumentParser(description=__doc__, epilog=EXAMPLE, formatter_class=argparse.RawDescriptionHelpFormatter)
+    ask = command_line(__doc__, EXAMPLE)
     ask.add_argument("answer", metavar="ANSWER", help="the file of the answer in JSON")
     ask.add_argument("slice", metavar="SLICE", help="the file of the slice that the run wrote")
     return ask.parse_args()

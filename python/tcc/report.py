@@ -36,6 +36,7 @@ from tcc.places import table
 from tcc.program import NoAnswer, Program, last_answer
 from tcc.progress import Doing, status_of
 from tcc.rows import History, Json, Unfit, open_records, read_history
+from tcc.words import command_line
 
 EXAMPLE = """example: one page of the history that Jepsen left
   $ report.py store/latest/history.edn -o report.html
@@ -591,7 +592,7 @@ def result(told: Findings) -> str:
 
 
 def arguments() -> argparse.Namespace:
-    ask = argparse.ArgumentParser(description=__doc__, epilog=EXAMPLE, formatter_class=argparse.RawDescriptionHelpFormatter)
+    ask = command_line(__doc__, EXAMPLE)
     ask.add_argument("history", metavar="HISTORY", help="the file of the records, or of Jepsen's operations")
     ask.add_argument("-o", "--output", metavar="FILE", default="report.html", help="the page, by default report.html")
     ask.add_argument("--level", choices=("causal", "atomic"), default="causal", help="by default causal")

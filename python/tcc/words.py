@@ -1,7 +1,11 @@
-"""Numbers among the words of a command line."""
+"""The command line of a script, and numbers among its words."""
 import argparse
 import re
-from typing import Callable
+from typing import Callable, Optional
+
+
+def command_line(about: Optional[str], example: str) -> argparse.ArgumentParser:
+    return argparse.ArgumentParser(description=about, epilog=example, formatter_class=argparse.RawDescriptionHelpFormatter)
 
 
 def count(word: str) -> int:

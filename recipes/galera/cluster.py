@@ -27,7 +27,8 @@ from dataclasses import dataclass, field
 from typing import Any, Dict, List, Optional, Tuple
 
 sys.path.insert(0, str(pathlib.Path(__file__).resolve().parents[2] / "python"))
-from tcc.clients import LOOPBACK, NoServer, command_line, free_ports, wait_until  # noqa: E402
+from tcc.clients import LOOPBACK, NoServer, free_ports, wait_until  # noqa: E402
+from tcc.words import command_line  # noqa: E402
 
 EXAMPLE = """example: two rounds of clients on one cluster
   $ cluster.py start /tmp/galera

@@ -37,7 +37,7 @@ import cluster  # noqa: E402
 from cluster import NODES, Cluster  # noqa: E402
 from tcc import clients  # noqa: E402
 from tcc.clients import Client, Failures, Recorded, Statements, Store, run_clients  # noqa: E402
-from tcc.words import count_within  # noqa: E402
+from tcc.words import command_line, count_within  # noqa: E402
 
 EXAMPLE = """example: clients that read at another node than they wrote at, and the rows of what they saw
   $ record.py --place split --notes notes.csv > records.csv
@@ -53,7 +53,6 @@ REGISTERS = Statements("SELECT value FROM tcc.registers WHERE name = %s",
 REFUSED = (1020, 1205, 1213)
 ANSWER_SECONDS = 10
 STOPPED_SECONDS = 3
-PAUSE_SECONDS = 0.002
 
 
 class Refused(Exception):
@@ -119,15 +118,7 @@ class Nodes(Store):
         return sorted({self.asked.prefix + client.some_key() for _ in range(2)})
 
     def transact(self, client: Client, server: Any, number: int, reads: List[str], writes: List[str]) -> List[str]:
-        """One transaction, noted as it goes, of reads and then writes; gives the keys of both."""
-        try:
-            with client.transaction("n%d" % number, (Refused,)) as mine, refusals(self.driver), server.cursor() as cursor:
-                REGISTERS.execute(client, mine, cursor, reads, writes, PAUSE_SECONDS)
-                mine.committing()
-                server.commit()
-        except Refused:
-            server.rollback()
-        return reads + writes
+        return REGISTERS.transact(client, server, "n%d" % number, reads, writes, (Refused,), refusals(self.driver))
 
 
 @contextlib.contextmanager
@@ -228,7 +219,7 @@ def recorded(asked: argparse.Namespace) -> Recorded:
 
 
 def main() -> int:
-    ask = clients.command_line(__doc__, EXAMPLE)
+    ask = command_line(__doc__, EXAMPLE)
     ask.add_argument("--place", choices=PLACES, default="split", help="where clients work, by default split")
     ask.add_argument("--sync-wait", type=count_within(0, 15), default=0, metavar="N", help="wsrep_sync_wait, 0 to 15, by default 0")
     ask.add_argument("--isolation", choices=tuple(LEVELS), default="repeatable-read", help="by default repeatable-read")

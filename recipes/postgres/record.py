@@ -36,7 +36,7 @@ from typing import Dict, Iterator, List, Optional, Sequence, Tuple, Type
 sys.path.insert(0, str(pathlib.Path(__file__).resolve().parents[2] / "python"))
 from tcc import clients  # noqa: E402
 from tcc.clients import LOOPBACK, Client, NoServer, Recorded, Statements, Store, run_clients  # noqa: E402
-from tcc.words import count_within  # noqa: E402
+from tcc.words import command_line, count_within  # noqa: E402
 
 EXAMPLE = """example: reads of two states within one transaction, and the rows of what they saw
   $ record.py --isolation read-committed > records.csv
@@ -46,7 +46,6 @@ EXAMPLE = """example: reads of two states within one transaction, and the rows o
 START_SECONDS = 30
 STOP_SECONDS = 20
 DELAY_MILLISECONDS = 500
-PAUSE_SECONDS = 0.002
 LEVELS = {"read-committed": "READ COMMITTED", "repeatable-read": "REPEATABLE READ", "serializable": "SERIALIZABLE"}
 REGISTERS = Statements("SELECT value FROM registers WHERE key = %s",
                        "INSERT INTO registers VALUES (%s, %s) ON CONFLICT (key) DO UPDATE SET value = excluded.value")
@@ -161,16 +160,7 @@ class Servers(Store):
             self.transact(client, connections[1], "replica", keys, [])
 
     def transact(self, client: Client, server, node: str, reads: List[str], writes: List[str]) -> List[str]:
-        """One transaction, noted as it goes, of reads and then writes; gives the keys of both."""
-        refused = self.driver.extensions.TransactionRollbackError
-        try:
-            with client.transaction(node, (refused,)) as mine, server.cursor() as cursor:
-                REGISTERS.execute(client, mine, cursor, reads, writes, PAUSE_SECONDS)
-                mine.committing()
-                server.commit()
-        except refused:
-            server.rollback()
-        return reads + writes
+        return REGISTERS.transact(client, server, node, reads, writes, (self.driver.extensions.TransactionRollbackError,))
 
 
 def some_keys(client: Client) -> List[str]:
@@ -225,7 +215,7 @@ def is_user(name: str) -> bool:
 
 
 def main() -> int:
-    ask = clients.command_line(__doc__, EXAMPLE)
+    ask = command_line(__doc__, EXAMPLE)
     ask.add_argument("--isolation", choices=tuple(LEVELS), default="read-committed", help="by default read-committed")
     ask.add_argument("--read-at", choices=("primary", "replica"), default="primary", help="where is read; by default the primary")
     ask.add_argument("--delay", type=count_within(0, 60000), default=DELAY_MILLISECONDS, metavar="MS",

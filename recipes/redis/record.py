@@ -27,6 +27,7 @@ from typing import Callable, Sequence, Tuple, Type
 sys.path.insert(0, str(pathlib.Path(__file__).resolve().parents[2] / "python"))
 from tcc import clients  # noqa: E402
 from tcc.clients import LOOPBACK, Client, NoServer, Recorded, Store, run_clients  # noqa: E402
+from tcc.words import command_line  # noqa: E402
 
 EXAMPLE = """example: clients that read at a replica, and the rows of what they saw
   $ record.py --read-at replica > records.csv
@@ -156,7 +157,7 @@ def recorded(asked: argparse.Namespace) -> Recorded:
 
 
 def main() -> int:
-    ask = clients.command_line(__doc__, EXAMPLE)
+    ask = command_line(__doc__, EXAMPLE)
     ask.add_argument("--read-at", choices=("primary", "replica"), default="replica", help="where is read; by default the replica")
     return clients.write_records(recorded, clients.arguments(ask), "redis-py", "python3-redis")
 

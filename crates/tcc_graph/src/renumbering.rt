@@ -76,7 +76,10 @@ impl Link {
                 key: *key,
             }),
             Link::Derived {
-                key, reader, walk, ..
+                key,
+                reader,
+                walk,
+                ..
             } => Ok(Link::Derived {
                 from,
                 to,

@@ -110,7 +110,10 @@ pub(crate) fn is_link(graph: &LargeGraph, level: Level, link: &Link) -> bool
         Link::Session { .. } => is_session(graph, from, to),
         Link::Reads { key, .. } => is_read(graph, from, to, key),
         Link::Derived {
-            key, reader, walk, ..
+            key,
+            reader,
+            walk,
+            ..
         } => is_reason(graph, level, from, to, key, *reader, walk.as_slice()),
     }
 }

@@ -1,6 +1,6 @@
 -- A cut that breaks the limits of a snapshot: the links need more transactions, or those of more sessions, than it may have.
-use Rattle.std.proofs.Common.{ℕ, zero, suc, ◌≡◌, ◌<◌, ◌≤◌, ◌+◌, ◌-◌, ◌⊎◌, inl, inr, T, List, [], ◌∷◌, length, get_or, map, refl, sym, ap, subst, ◌∙◌, arith}
-use Rattle.std.specs.Prelude.{All, Some, None, slice_index, slice_index_or, sum_by}
+use Rattle.std.proofs.Common.{ℕ, zero, suc, ◌≡◌, ◌<◌, ◌≤◌, ◌+◌, ◌-◌, ◌⊎◌, inl, inr, T, List, [], ◌∷◌, length, get_or, map, refl, sym, ap, ◌∙◌, arith}
+use Rattle.std.specs.Prelude.{All, slice_index}
 use Rattle.std.specs.List.{AllByRecursion, Contains}
 use Rattle.std.specs.List.Sorted.{IsStrictlySortedBy}
 use Rattle.std.specs.FinMap as finite
@@ -8,7 +8,6 @@ use Rattle.std.specs.FinMap.{entries, entries_sorted}
 use Rattle.std.specs.FinMap.Entries.{below_all, is_sorted}
 use Rattle.std.specs.Ordering.{is_lt, nat_cmp, ordering_reverse}
 use Rattle.std.specs.Cmp.{nat_cmp_is}
-use Rattle.std.specs.declared.cmp.Ordering.{Ordering}
 use Rattle.std.specs.declared.cmp.Ordering.TheVariants.{Less, Equal, Greater}
 use Rattle.std.specs.Cmp.Lexicographic.{nat_list_cmp_total}
 use Rattle.std.proofs.lemmas.Bool.{cases_lt, cases_order}
@@ -24,11 +23,10 @@ use Rattle.tcc_txn.proofs.Growing.{both-parts, less-if}
 use Rattle.tcc_txn.proofs.SessionEntries.{Named, sorted_names}
 use Rattle.tcc_txn.proofs.SortedParts.{name_cmp}
 use Rattle.tcc_reads.specs.History.{History, owner}
-use Rattle.tcc_reads.specs.Sites.{stands}
 use Rattle.tcc_reads.proofs.Counting.{length-stands_from}
 use Rattle.tcc_graph.specs.declared.link.Link.{Link}
 use Rattle.tcc_slices.specs.Needs.{IsMet}
-use Rattle.tcc_slices.specs.Limits.{AreMoreThan, NeedTooMuch}
+use Rattle.tcc_slices.specs.Limits.{NeedTooMuch}
 use Rattle.tcc_slices.specs.private.Carrying.{IsRising}
 use Rattle.tcc_slices.specs.private.Cutting.{IsCut, IsNamed}
 use Rattle.tcc_slices.specs.declared.needs.Need.{Need}

@@ -1,11 +1,10 @@
 -- The cut of a snapshot without read faults by links of its history has no read faults.
-use Rattle.std.proofs.Common.{ℕ, zero, suc, ◌≡◌, ◌≢◌, ◌<◌, ◌≤◌, ◌+◌, ◌-◌, ◌++◌, ◌==◌, ◌&&◌, ◌⊎◌, inl, inr, Bool, true, false, cond, not, List, [], ◌∷◌, length, filter_map, get_or, map, refl, sym, ap, subst, ◌∙◌, arith}
+use Rattle.std.proofs.Common.{ℕ, zero, suc, ◌≡◌, ◌≢◌, ◌<◌, ◌+◌, ◌++◌, ◌==◌, ◌⊎◌, inl, inr, Bool, true, false, cond, not, List, [], ◌∷◌, length, filter_map, refl, sym, ap, subst, ◌∙◌, arith}
 use Rattle.std.specs.Prelude.{All, Option, Some, None, find, flat_map, option_map, slice_index, slice_index_or, unwrap_or}
 use Rattle.std.specs.List.{Contains, cons_option, list_any}
-use Rattle.std.specs.List.Sorted.{IsPermutation}
 use Rattle.std.specs.FinMap.{entries}
 use Rattle.std.specs.Str.{bytes_eq}
-use Rattle.std.proofs.lemmas.Bool.{and_from, and_parts, cases_Bool, cases_eq, cases_lt, cases_order, eq-eqb, eqb-true, false≢true, ne_eqb, or_cases}
+use Rattle.std.proofs.lemmas.Bool.{and_from, and_parts, cases_Bool, cases_eq, cases_order, eq-eqb, eqb-true, false≢true, ne_eqb, or_cases}
 use Rattle.std.proofs.lemmas.List.{get_or_default}
 use Rattle.std.proofs.lemmas.List.Elements.{Contains-append_right}
 use Rattle.std.proofs.lemmas.List.Sorted.{Contains-permutation}
@@ -14,8 +13,7 @@ use Rattle.tcc_txn.specs.Transactions.{op_key}
 use Rattle.tcc_txn.specs.declared.op.Op.{Op}
 use Rattle.tcc_txn.specs.declared.op.Op.TheVariants.{Get, Put}
 use Rattle.tcc_txn.proofs.Lists.{from_flat_map, in_flat_map, in_map}
-use Rattle.tcc_reads.specs.declared.fault.ReadFaultKind.{ReadFaultKind}
-use Rattle.tcc_reads.specs.declared.fault.ReadFaultKind.TheVariants.{Duplicate, BrokenInternal, ThinAir, Aborted, Intermediate, Future}
+use Rattle.tcc_reads.specs.declared.fault.ReadFaultKind.TheVariants.{Duplicate, Aborted, Intermediate, Future}
 use Rattle.tcc_reads.specs.Faults.{external_kind, fault_at, is_last_at_key, is_same_site, is_same_transaction, kind_at, puts, read_faults, read_kind, write_kind, writer}
 use Rattle.tcc_reads.specs.History.{owner, place}
 use Rattle.tcc_reads.specs.OneSource.{HasOneSource, IsNumber}
@@ -25,22 +23,18 @@ use Rattle.tcc_reads.proofs.OneSource.{one_source}
 use Rattle.tcc_reads.proofs.Rising.{IsLater, by_session, from_order, rises_at}
 use Rattle.tcc_reads.proofs.Sourcing.{no_pair}
 use Rattle.tcc_reads.proofs.Ties.{itself, same_name}
-use Rattle.tcc_graph.specs.Relations.{IsReadsPair}
-use Rattle.tcc_graph.specs.Walks.{IsStep}
-use Rattle.tcc_graph.specs.declared.step.Step.{Step}
 use Rattle.tcc_graph.specs.declared.step.Step.TheVariants as step
 use Rattle.tcc_graph.specs.declared.link.Link.{Link}
 use Rattle.tcc_operations.specs.Operations.{source_value}
 use Rattle.tcc_slices.specs.Needs.{HasStep}
-use Rattle.tcc_slices.specs.private.Carrying.{IsRising}
-use Rattle.tcc_slices.specs.private.Cutting.{IsCut, IsPartAt, is_wanted}
+use Rattle.tcc_slices.specs.private.Cutting.{IsPartAt, is_wanted}
 use Rattle.tcc_slices.specs.private.Fitting.{IsFit}
-use Rattle.tcc_slices.specs.private.Needing.{AreNeeds, IsNeedOf, needs_of_link}
+use Rattle.tcc_slices.specs.private.Needing.{IsNeedOf, needs_of_link}
 use Rattle.tcc_slices.specs.declared.needs.Need.{Need}
 use Rattle.tcc_slices.specs.declared.needs.Need.TheVariants as need
 use Rattle.tcc_slices.proofs.Needing.{write_listed}
 use Rattle.tcc_slices.proofs.Numbered.{number_below, number_stands, owner_is, place_is}
-use Rattle.tcc_slices.proofs.Once.{IsOnce, never_there, once_after, once_by_site, once_kept, one_site, op_site, site_op, site_split, site_stand}
+use Rattle.tcc_slices.proofs.Once.{IsOnce, never_there, once_after, once_by_site, once_kept, one_site, op_site, site_split, site_stand}
 use Rattle.tcc_slices.proofs.PartsOf.{IsOf, of_part, origin, put_kept, put_value, read_site, source_is, wanted_at}
 use Rattle.tcc_slices.proofs.Written.{shows_it}
 

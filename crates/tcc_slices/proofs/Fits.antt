@@ -1,9 +1,9 @@
 -- The links of a cycle of a resolved snapshot, and the cut by them.
-use Rattle.std.proofs.Common.{ℕ, zero, suc, ◌≡◌, ◌<◌, ◌⊎◌, inl, inr, List, [], ◌∷◌, length, map, refl, sym, subst, ◌∙◌, arith}
+use Rattle.std.proofs.Common.{ℕ, zero, suc, ◌≡◌, ◌<◌, ◌⊎◌, inl, inr, List, [], ◌∷◌, length, map, subst, arith}
 use Rattle.std.specs.Prelude.{Contains, slice_index}
 use Rattle.std.proofs.lemmas.List.Elements.{Contains-append_cases}
 use Rattle.tcc_txn.proofs.Lists.{from_map}
-use Rattle.tcc_reads.specs.History.{History, count}
+use Rattle.tcc_reads.specs.History.{count}
 use Rattle.tcc_graph.specs.Levels.{Judged}
 use Rattle.tcc_graph.specs.Links.{IsLink, link_to, unfolding_of}
 use Rattle.tcc_graph.specs.Routes.{AreCycle, LinksLead}

@@ -1,16 +1,16 @@
 -- What is kept of operations, as others see it: external reads stay external, and what is written visibly stays so.
-use Rattle.std.proofs.Common.{ℕ, zero, suc, ◌≡◌, ◌<◌, ◌≤◌, ◌+◌, ◌++◌, ◌&&◌, ◌⊎◌, inl, inr, Bool, true, false, cond, List, [], ◌∷◌, length, filter_map, refl, sym, ap, subst, ◌∙◌, arith}
-use Rattle.std.specs.Prelude.{Option, Some, None, is_none, unwrap_or}
+use Rattle.std.proofs.Common.{ℕ, zero, suc, ◌≡◌, ◌++◌, ◌⊎◌, inl, inr, Bool, true, false, cond, List, [], ◌∷◌, filter_map, refl, sym, ap, subst, ◌∙◌, arith}
+use Rattle.std.specs.Prelude.{Option, Some, None, is_none}
 use Rattle.std.specs.List.{Contains, cons_option}
 use Rattle.std.specs.Option.{option_or}
 use Rattle.std.specs.Str.{bytes_eq}
-use Rattle.std.proofs.lemmas.Bool.{and_parts, cases_Bool, false≢true}
+use Rattle.std.proofs.lemmas.Bool.{cases_Bool, false≢true}
 use Rattle.tcc_txn.specs.declared.op.Op.{Op}
 use Rattle.tcc_txn.specs.declared.op.Op.TheVariants.{Get, Put}
 use Rattle.tcc_reads.specs.Sites.{Stand, Site, sites_from}
 use Rattle.tcc_reads.specs.Sources.{external_part, external_read, value_put, visible_write}
 use Rattle.tcc_reads.proofs.Ties.{itself, same_name}
-use Rattle.tcc_slices.specs.private.Cutting.{is_free, kept_behind}
+use Rattle.tcc_slices.specs.private.Cutting.{kept_behind}
 use Rattle.tcc_slices.proofs.Keeping.{visible_push}
 
 -- ---- no more is visible

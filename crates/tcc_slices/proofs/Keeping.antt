@@ -1,5 +1,5 @@
 -- What is kept of operations: wanted ones of them, and no others; one more.
-use Rattle.std.proofs.Common.{ℕ, zero, suc, ◌≡◌, ◌<◌, ◌≤◌, ◌+◌, ◌++◌, ◌==◌, ◌&&◌, ◌⊎◌, inl, inr, Bool, true, false, cond, List, [], ◌∷◌, length, get_or, take, append_assoc, append-nil, refl, sym, ap, subst, ◌∙◌, arith}
+use Rattle.std.proofs.Common.{ℕ, zero, suc, ◌≡◌, ◌<◌, ◌+◌, ◌++◌, ◌==◌, ◌⊎◌, inl, inr, Bool, true, false, cond, List, [], ◌∷◌, length, get_or, take, append_assoc, append-nil, refl, sym, ap, subst, ◌∙◌, arith}
 use Rattle.std.specs.Prelude.{Option, Some, None, unwrap_or}
 use Rattle.std.specs.List.{Contains, list_any}
 use Rattle.std.specs.Option.{option_or}
@@ -10,7 +10,7 @@ use Rattle.tcc_txn.specs.declared.op.Op.{Op}
 use Rattle.tcc_txn.specs.declared.op.Op.TheVariants.{Get, Put}
 use Rattle.tcc_reads.specs.Sources.{value_put, visible_write}
 use Rattle.tcc_reads.proofs.Ties.{same_name}
-use Rattle.tcc_slices.specs.private.Cutting.{is_free, is_wanted, kept_behind, same_op, value_shown}
+use Rattle.tcc_slices.specs.private.Cutting.{kept_behind, same_op, value_shown}
 
 -- ---- wanted operations
 pub same_is : (a b : Op) → same_op a b ≡ true → a ≡ b

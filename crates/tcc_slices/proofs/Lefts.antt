@@ -18,10 +18,9 @@ use Rattle.tcc_txn.proofs.SessionEntries.{Named, sorted_names}
 use Rattle.tcc_txn.proofs.SortedParts.{name_cmp}
 use Rattle.tcc_reads.specs.History.{History, IsBySession, count, owner, place}
 use Rattle.tcc_reads.specs.Sites.{Stand, stands, stands_from, stands_in}
-use Rattle.tcc_graph.specs.Numbers.{at}
 use Rattle.tcc_slices.specs.Cuts.{AreSomeOf, AreSomeOps, IsCutOf, IsLeftOf, IsPartlyIn, IsSomeOf}
 use Rattle.tcc_slices.specs.private.Carrying.{IsRising}
-use Rattle.tcc_slices.specs.private.Cutting.{IsCut, IsNamed, IsPartAt, is_wanted, kept_behind, own_needs, recorded_of, wanted_by}
+use Rattle.tcc_slices.specs.private.Cutting.{IsCut, IsNamed, IsPartAt, is_wanted, kept_behind, own_needs, wanted_by}
 use Rattle.tcc_slices.specs.declared.needs.Need.{Need}
 use Rattle.tcc_slices.proofs.Named.{at_parts, none_some}
 

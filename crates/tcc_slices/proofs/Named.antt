@@ -5,12 +5,11 @@ use Rattle.std.specs.List.{Contains}
 use Rattle.std.specs.FinMap as finite
 use Rattle.std.specs.FinMap.{entries}
 use Rattle.std.specs.Ordering.{ordering_reverse}
-use Rattle.std.specs.declared.cmp.Ordering.{Ordering}
 use Rattle.std.specs.declared.cmp.Ordering.TheVariants.{Less, Equal, Greater}
 use Rattle.std.specs.Cmp.Lexicographic.{nat_list_cmp_total}
 use Rattle.std.proofs.lemmas.Bool.{and_parts, cases_Bool, cases_lt, ltb-true}
 use Rattle.std.proofs.lemmas.Cmp.{tied_itself}
-use Rattle.std.proofs.lemmas.List.{get_or-map, get_or_append_left, get_or_default, get_or_push, length-map}
+use Rattle.std.proofs.lemmas.List.{get_or-map, get_or_append_left, get_or_push, length-map}
 use Rattle.std.proofs.lemmas.Map.Keys.{Less-from_sorted}
 use Rattle.tcc_txn.specs.Finished.{with_transaction}
 use Rattle.tcc_txn.specs.Snapshots.{Sessions}
@@ -22,7 +21,6 @@ use Rattle.tcc_reads.specs.Sites.{Stand, stands, stands_from}
 use Rattle.tcc_graph.specs.Numbers.{at}
 use Rattle.tcc_slices.specs.private.Carrying.{IsRising}
 use Rattle.tcc_slices.specs.private.Cutting.{IsCut, IsNamed, IsPartAt, IsPartOf, own_needs}
-use Rattle.tcc_slices.specs.private.Needing.{AreByNumber}
 use Rattle.tcc_slices.specs.declared.needs.Need.{Need}
 use Rattle.tcc_slices.proofs.Lasting.{IsUpTo, one_more, names_more}
 

@@ -1,6 +1,6 @@
 -- Where a cut comes to nothing: a transaction that is there has a session and a part.
-use Rattle.std.proofs.Common.{ℕ, ◌≡◌, ◌<◌, ◌≤◌, ◌+◌, true, List, length, map, refl, sym, ap, subst, ◌∙◌, arith}
-use Rattle.std.specs.Prelude.{Some, None, slice_index}
+use Rattle.std.proofs.Common.{ℕ, ◌≡◌, ◌<◌, ◌+◌, true, List, length, refl, ap, subst, ◌∙◌, arith}
+use Rattle.std.specs.Prelude.{Some, slice_index}
 use Rattle.std.specs.FinMap.{entries}
 use Rattle.std.proofs.lemmas.List.{length-map}
 use Rattle.tcc_txn.specs.Finished.{IsWithinLimits, with_transaction}

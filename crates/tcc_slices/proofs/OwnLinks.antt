@@ -1,15 +1,12 @@
 -- The links of a cycle are, in the numbers of the cut by them, a cycle of the cut.
-use Rattle.std.proofs.Common.{ℕ, zero, suc, ◌≡◌, ◌≢◌, ◌<◌, ◌≤◌, ◌+◌, ◌-◌, ◌==◌, ◌||◌, ◌⊎◌, inl, inr, Bool, true, false, cond, List, [], ◌∷◌, length, filter, get_or, map, refl, sym, ap, subst, ◌∙◌, arith}
-use Rattle.std.specs.Prelude.{All, Option, Some, None, flat_map, slice_index, slice_index_or, unwrap_or}
+use Rattle.std.proofs.Common.{ℕ, zero, suc, ◌≡◌, ◌<◌, ◌+◌, ◌==◌, ◌⊎◌, inl, inr, true, List, [], ◌∷◌, length, filter, map, refl, sym, ap, subst, ◌∙◌, arith}
+use Rattle.std.specs.Prelude.{All, Option, Some, slice_index, slice_index_or, unwrap_or}
 use Rattle.std.specs.List.{Contains}
 use Rattle.std.proofs.lemmas.Bool.{cases_eq, cases_order, eq-eqb, eqb-true, or_cases, or_left, or_right}
-use Rattle.std.proofs.lemmas.List.{get_or_default, length-map}
+use Rattle.std.proofs.lemmas.List.{length-map}
 use Rattle.std.proofs.lemmas.List.Elements.{All-cons, All-contains_itself, All-head, All-nil, All-tail}
 use Rattle.tcc_txn.specs.Snapshots.{Sessions}
-use Rattle.tcc_txn.specs.declared.op.Op.{Op}
-use Rattle.tcc_txn.specs.declared.op.Op.TheVariants.{Get, Put}
 use Rattle.tcc_txn.proofs.Lists.{from_filter, from_map, in_filter, in_map}
-use Rattle.tcc_reads.specs.Faults.{read_faults}
 use Rattle.tcc_reads.specs.History.{Entry, History, count, entry_at, owner, place as place_in}
 use Rattle.tcc_reads.specs.OneSource.{HasOneSource, IsNumber}
 use Rattle.tcc_reads.specs.Sites.{Stand, is_committed, committed, stands}
@@ -17,24 +14,22 @@ use Rattle.tcc_reads.specs.Sources.{external_reads, history, pair_cmp, source, v
 use Rattle.tcc_reads.proofs.OneSource.{one_source}
 use Rattle.tcc_reads.proofs.Rising.{by_session}
 use Rattle.tcc_graph.specs.Keys.{IsWriter, has_name}
-use Rattle.tcc_graph.specs.Levels.{Judged, IsAllowed, judged}
+use Rattle.tcc_graph.specs.Levels.{judged}
 use Rattle.tcc_graph.specs.Links.{IsLink, link_to}
 use Rattle.tcc_graph.specs.Relations.{IsReadsPair, IsSessionPair, reads_from}
 use Rattle.tcc_graph.specs.Renumbered.{link_by, step_by}
-use Rattle.tcc_graph.specs.Routes.{AreCycle, IsCycle, LinksLead}
-use Rattle.tcc_graph.specs.Walks.{IsStep, IsWalk, Leads, step_from, step_to}
+use Rattle.tcc_graph.specs.Routes.{AreCycle, LinksLead}
+use Rattle.tcc_graph.specs.Walks.{IsStep, Leads, step_to}
 use Rattle.tcc_graph.specs.declared.level.Level.{Level}
-use Rattle.tcc_graph.specs.declared.level.Level.TheVariants as level
 use Rattle.tcc_graph.specs.declared.link.Link.{Link}
 use Rattle.tcc_graph.specs.declared.link.Link.TheVariants as link
 use Rattle.tcc_graph.specs.declared.step.Step.{Step}
 use Rattle.tcc_graph.specs.declared.step.Step.TheVariants as step
-use Rattle.tcc_graph.proofs.Kept.{cycle_by, leads_on}
+use Rattle.tcc_graph.proofs.Kept.{allowed_by, cycle_by, from_step, leads_on, to_step}
 use Rattle.tcc_graph.proofs.Pairs.{initial_pair, lower_first, pair_parts}
 use Rattle.tcc_operations.specs.Operations.{source_value}
 use Rattle.tcc_slices.specs.Needs.{HasStep, IsMet, IsWritten}
-use Rattle.tcc_slices.specs.private.Carrying.{carry, place}
-use Rattle.tcc_slices.specs.private.Needing.{needs_of_link}
+use Rattle.tcc_slices.specs.private.Carrying.{place}
 use Rattle.tcc_slices.specs.private.Fitting.{IsFit}
 use Rattle.tcc_slices.specs.declared.needs.Need.{Need}
 use Rattle.tcc_slices.specs.declared.needs.Need.TheVariants as need
@@ -42,7 +37,7 @@ use Rattle.tcc_slices.proofs.Elements.{once_from, once_in, reads_apart}
 use Rattle.tcc_slices.proofs.Faultless.{IsAt, at_part, faultless, listed, part_of, some_shown}
 use Rattle.tcc_slices.proofs.Freed.{put_visible, visible_put}
 use Rattle.tcc_slices.proofs.Needing.{contradicted_step, met_listed, read_listed, reads_step, session_step, walk_steps, write_listed}
-use Rattle.tcc_slices.proofs.Numbered.{entry_is, number_below, number_some, of_number, owner_is, place_is}
+use Rattle.tcc_slices.proofs.Numbered.{entry_is, number_below, number_some}
 use Rattle.tcc_slices.proofs.PartsOf.{put_kept, put_value, read_kept, source_is}
 use Rattle.tcc_slices.proofs.Placing.{place_is as place_of}
 use Rattle.tcc_slices.proofs.Ranging.{all_pass}
@@ -325,14 +320,6 @@ module _ (s slice : Sessions) (links : List Link) (needs : List (ℕ × Need)) (
           ∙ value_written p.t x v.0 (shows_there (suc m) p x v.0 has v.1)
 
   -- ---- walks and links
-  from_moved : (t : Step) → step_from (step_by g t) ≡ g (step_from t)
-  from_moved (step.Session a b) = refl
-  from_moved (step.Reads a b x) = refl
-
-  to_moved : (t : Step) → step_to (step_by g t) ≡ g (step_to t)
-  to_moved (step.Session a b) = refl
-  to_moved (step.Reads a b x) = refl
-
   step_moved : (t : Step) → HasStep links t → IsStep k (step_by g t)
   step_moved (step.Session a b) has = session_moved a b has
   step_moved (step.Reads a b x) has = reads_moved a b x has
@@ -340,14 +327,10 @@ module _ (s slice : Sessions) (links : List Link) (needs : List (ℕ × Need)) (
   leads_moved : (a b : ℕ) (walk : List Step) → All (HasStep links) walk → Leads h a b walk → Leads k (g a) (g b) (map (step_by g) walk)
   leads_moved a b [] have led = ap g led
   leads_moved a b (t ∷ walk) have led = (
-    from_moved t ∙ ap g led.0,
+    from_step g t ∙ ap g led.0,
     step_moved t (All-head (HasStep links) t walk have),
-    subst (λ (z : ℕ). Leads k z (g b) (map (step_by g) walk)) (sym (to_moved t)) (leads_moved (step_to t) b walk (All-tail (HasStep links) t walk have) led.2),
+    subst (λ (z : ℕ). Leads k z (g b) (map (step_by g) walk)) (sym (to_step g t)) (leads_moved (step_to t) b walk (All-tail (HasStep links) t walk have) led.2),
   )
-
-  allowed_moved : (l : Level) (walk : List Step) → IsAllowed l walk → IsAllowed l (map (step_by g) walk)
-  allowed_moved level.Causal walk is = tt
-  allowed_moved level.Atomic walk is = length-map walk (step_by g) ∙ is
 
   link_moved : (l : Level) (one : Link) → Contains links one → IsLink (judged h l) one → IsLink (judged k l) (link_by g one)
   link_moved l (link.Session a b) has is = session_moved a b (session_step links a b has)
@@ -357,7 +340,7 @@ module _ (s slice : Sessions) (links : List Link) (needs : List (ℕ × Need)) (
       let met_b : IsMet links b = inr (x, a, c, walk, has) in
       let met_a : IsMet links a = inl (step.Reads a c x, read, inl refl) in (
         ((λ same. is.0.0 (apart b a met_b met_a same)), reads_moved a c x read, writer_moved b x (inr (a, c, walk, has)) met_b is.0.2),
-        ((omega (arith, length-map walk (step_by g), is.1.0.0), leads_moved b c walk (walk_steps links b a x c walk has) is.1.0.1), allowed_moved l walk is.1.1),
+        ((omega (arith, length-map walk (step_by g), is.1.0.0), leads_moved b c walk (walk_steps links b a x c walk has) is.1.0.1), allowed_by g l walk is.1.1),
       )
 
   links_moved : (l : Level) (some : List Link) → All (Contains links) some → All (IsLink (judged h l)) some → All (IsLink (judged k l)) (map (link_by g) some)

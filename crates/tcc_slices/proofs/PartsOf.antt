@@ -1,12 +1,12 @@
 -- Of each part of a cut of a resolved snapshot the transaction that it is a part of, and what it has of that.
-use Rattle.std.proofs.Common.{ℕ, zero, suc, ◌≡◌, ◌<◌, ◌+◌, ◌-◌, ◌++◌, ◌==◌, ◌&&◌, ◌||◌, Bool, true, false, cond, List, [], ◌∷◌, length, filter_map, get_or, map, refl, sym, ap, subst, ◌∙◌, arith}
-use Rattle.std.specs.Prelude.{Option, Some, None, flat_map, is_none, nat_lt, slice_get, slice_index, slice_index_or, unwrap_or}
+use Rattle.std.proofs.Common.{ℕ, zero, suc, ◌≡◌, ◌<◌, ◌-◌, ◌==◌, ◌&&◌, ◌||◌, Bool, true, false, cond, List, [], ◌∷◌, filter_map, get_or, map, refl, sym, ap, subst, ◌∙◌, arith}
+use Rattle.std.specs.Prelude.{Option, Some, None, is_none, nat_lt, slice_get, unwrap_or}
 use Rattle.std.specs.List.{Contains, cons_option, list_any}
 use Rattle.std.specs.FinMap.{entries}
 use Rattle.std.specs.Option.{option_map_or}
 use Rattle.std.specs.Str.{bytes_eq}
 use Rattle.std.proofs.lemmas.Bool.{and_from, and_parts, eq-eqb, eqb-true, lt-ltb, ne_eqb, or_left, or_right}
-use Rattle.std.proofs.lemmas.List.{get_or-map, get_or_default}
+use Rattle.std.proofs.lemmas.List.{get_or-map}
 use Rattle.std.proofs.lemmas.Option.{slice_get-get_or}
 use Rattle.tcc_txn.specs.Snapshots.{Sessions, finished_at}
 use Rattle.tcc_txn.specs.Transactions.{Transaction, op_key, op_value}
@@ -22,16 +22,15 @@ use Rattle.tcc_reads.proofs.Ties.{itself}
 use Rattle.tcc_graph.specs.Numbers.{at}
 use Rattle.tcc_operations.specs.Operations.{ops_in, ops_of, source_value}
 use Rattle.tcc_slices.specs.Parts.{IsPart}
-use Rattle.tcc_slices.specs.private.Cutting.{IsNamed, IsPartAt, is_free, is_wanted, kept_behind, own_needs, recorded_of, same_op, value_shown, wanted_by, wanted_of}
+use Rattle.tcc_slices.specs.private.Cutting.{IsNamed, IsPartAt, is_wanted, kept_behind, own_needs, recorded_of, same_op, value_shown, wanted_by, wanted_of}
 use Rattle.tcc_slices.specs.declared.needs.Need.{Need}
 use Rattle.tcc_slices.specs.declared.needs.Need.TheVariants as need
 use Rattle.tcc_slices.proofs.Freed.{IsFrom, kept_in, kept_read, kept_site, put_visible, visible_put}
-use Rattle.tcc_slices.proofs.Keeping.{same_is, wanted_there}
-use Rattle.tcc_slices.proofs.Lawful.{kept_from}
+use Rattle.tcc_slices.proofs.Keeping.{wanted_there}
 use Rattle.tcc_slices.proofs.Named.{at_parts, some_is}
 use Rattle.tcc_slices.proofs.Numbered.{number_below, number_some, number_stands, of_number, owner_is, place_is}
 use Rattle.tcc_slices.proofs.Once.{op_site, site_op}
-use Rattle.tcc_slices.proofs.Placed.{entry_index, session_named, HasAt}
+use Rattle.tcc_slices.proofs.Placed.{entry_index, session_named}
 
 -- ---- lists
 from_filter_map : {X Y : Type 0} (f : X → Option Y) (xs : List X) (y : Y) → Contains (filter_map f xs) y → (x : X) × Contains xs x × (f x ≡ Some y)

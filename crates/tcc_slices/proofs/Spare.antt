@@ -1,6 +1,6 @@
 -- Of a cut nothing is spare: the links, in its own numbers, need each transaction and each operation.
-use Rattle.std.proofs.Common.{◌≡◌, ◌<◌, ◌≤◌, ◌+◌, ◌++◌, ◌==◌, ◌⊎◌, ℕ, zero, suc, Bool, true, List, [], ◌∷◌, length, map, get_or, length-append, refl, ap, sym, subst, ◌∙◌, inl, inr, arith, append_assoc, append-nil}
-use Rattle.std.specs.Prelude.{All, Contains, flat_map, slice_index, slice_index_or}
+use Rattle.std.proofs.Common.{◌≡◌, ◌<◌, ◌+◌, ◌++◌, ◌==◌, ℕ, zero, suc, List, [], ◌∷◌, length, map, refl, ap, sym, subst, ◌∙◌, inl, inr, arith}
+use Rattle.std.specs.Prelude.{Contains, flat_map, slice_index, slice_index_or}
 use Rattle.std.specs.FinMap.{entries}
 use Rattle.std.proofs.lemmas.Bool.{and_parts, eqb-true}
 use Rattle.std.proofs.lemmas.List.{map-append}
@@ -15,14 +15,14 @@ use Rattle.tcc_reads.specs.History.{History}
 use Rattle.tcc_reads.specs.Sites.{Stand, stands, stands_from, stands_in}
 use Rattle.tcc_graph.specs.Links.{unfolding_of}
 use Rattle.tcc_graph.specs.Renumbered.{link_by, step_by}
-use Rattle.tcc_graph.specs.Walks.{step_from, step_to}
 use Rattle.tcc_graph.specs.declared.step.Step.{Step}
 use Rattle.tcc_graph.specs.declared.step.Step.TheVariants as step
 use Rattle.tcc_graph.specs.declared.link.Link.{Link}
 use Rattle.tcc_graph.specs.declared.link.Link.TheVariants as link
-use Rattle.tcc_slices.specs.Needs.{AreNeeded, HasStep, IsMet, IsNeeded, IsNeededWhole, IsNothingSpare, IsReader, IsWritten}
+use Rattle.tcc_graph.proofs.Kept.{from_step, to_step}
+use Rattle.tcc_slices.specs.Needs.{AreNeeded, HasStep, IsMet, IsNeeded, IsNeededWhole, IsNothingSpare}
 use Rattle.tcc_slices.specs.private.Carrying.{IsRising, place}
-use Rattle.tcc_slices.specs.private.Cutting.{IsCut, IsPartAt, is_free, is_wanted, own_needs, same_op, wanted_by, wanted_of}
+use Rattle.tcc_slices.specs.private.Cutting.{IsCut, IsPartAt, is_wanted, own_needs, wanted_by, wanted_of}
 use Rattle.tcc_slices.specs.private.Needing.{AreNeeds, IsNeedOf}
 use Rattle.tcc_slices.specs.declared.needs.Need.{Need}
 use Rattle.tcc_slices.specs.declared.needs.Need.TheVariants as need
@@ -48,17 +48,9 @@ module _ (g : ℕ → ℕ) where
       subst (λ (z : List Step). Contains z (step_by g s)) (sym (unfolded l)) (in_map (step_by g) (unfolding_of l) s on),
     )
 
-    from_moved : (s : Step) → step_from (step_by g s) ≡ g (step_from s)
-    from_moved (step.Session a b) = refl
-    from_moved (step.Reads a b x) = refl
-
-    to_moved : (s : Step) → step_to (step_by g s) ≡ g (step_to s)
-    to_moved (step.Session a b) = refl
-    to_moved (step.Reads a b x) = refl
-
     met_moved : (n : ℕ) → IsMet links n → IsMet own (g n)
-    met_moved n (inl (s, has, inl from)) = inl (step_by g s, has_moved s has, inl (from_moved s ∙ ap g from))
-    met_moved n (inl (s, has, inr to)) = inl (step_by g s, has_moved s has, inr (to_moved s ∙ ap g to))
+    met_moved n (inl (s, has, inl from)) = inl (step_by g s, has_moved s has, inl (from_step g s ∙ ap g from))
+    met_moved n (inl (s, has, inr to)) = inl (step_by g s, has_moved s has, inr (to_step g s ∙ ap g to))
     met_moved n (inr (x, a, c, walk, has)) = inr (x, g a, g c, map (step_by g) walk, in_map (link_by g) links (link.Derived n a x c walk) has)
 
     needed_moved : (n : ℕ) (op : Op) → IsNeeded links n op → IsNeeded own (g n) op

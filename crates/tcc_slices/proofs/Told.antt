@@ -1,5 +1,5 @@
 -- Links in the numbers of a slice, and back, are what they were.
-use Rattle.std.proofs.Common.{ℕ, zero, suc, ◌≡◌, ◌<◌, ◌⊎◌, inl, inr, List, [], ◌∷◌, length, get_or, map, refl, sym, ap, subst, ◌∙◌, arith}
+use Rattle.std.proofs.Common.{ℕ, zero, suc, ◌≡◌, ◌<◌, inl, inr, List, [], ◌∷◌, length, get_or, map, refl, sym, ap, subst, ◌∙◌, arith}
 use Rattle.std.specs.Prelude.{All, Contains, flat_map, slice_index}
 use Rattle.std.specs.List.Sorted.{IsPermutation}
 use Rattle.std.proofs.lemmas.List.{get_or_default}
@@ -38,15 +38,13 @@ module _ (numbers : List ℕ) (rising : IsRising numbers) (links : List Link) (a
   back : (n : ℕ) → IsMet links n → carry numbers (place numbers n) ≡ n
   back n met = (placed_back numbers n rising (all n met)).1
 
+  ends_back : (s : Step) → HasStep links s
+      → (carry numbers (place numbers (step_from s)) ≡ step_from s) × (carry numbers (place numbers (step_to s)) ≡ step_to s)
+  ends_back s has = (back (step_from s) (inl (s, has, inl refl)), back (step_to s) (inl (s, has, inr refl)))
+
   step_back : (s : Step) → HasStep links s → step_by (carry numbers) (step_by (place numbers) s) ≡ s
-  step_back (step.Session a b) has =
-      let from = back a (inl (step.Session a b, has, inl refl)) in
-      let to = back b (inl (step.Session a b, has, inr refl)) in
-      λ i. step.Session (from i) (to i)
-  step_back (step.Reads a b x) has =
-      let from = back a (inl (step.Reads a b x, has, inl refl)) in
-      let to = back b (inl (step.Reads a b x, has, inr refl)) in
-      λ i. step.Reads (from i) (to i) x
+  step_back (step.Session a b) has = let ends = ends_back (step.Session a b) has in λ i. step.Session (ends.0 i) (ends.1 i)
+  step_back (step.Reads a b x) has = let ends = ends_back (step.Reads a b x) has in λ i. step.Reads (ends.0 i) (ends.1 i) x
 
   walk_back : (walk : List Step) → All (HasStep links) walk → map (step_by (carry numbers)) (map (step_by (place numbers)) walk) ≡ walk
   walk_back [] have = refl
@@ -56,23 +54,13 @@ module _ (numbers : List ℕ) (rising : IsRising numbers) (links : List Link) (a
       λ i. here i ∷ rest i
 
   link_back : (l : Link) → Contains links l → link_by (carry numbers) (link_by (place numbers) l) ≡ l
-  link_back (link.Session a b) has =
-      let own = session_step links a b has in
-      let from = back a (inl (step.Session a b, own, inl refl)) in
-      let to = back b (inl (step.Session a b, own, inr refl)) in
-      λ i. link.Session (from i) (to i)
-  link_back (link.Reads a b x) has =
-      let own = reads_step links a b x has in
-      let from = back a (inl (step.Reads a b x, own, inl refl)) in
-      let to = back b (inl (step.Reads a b x, own, inr refl)) in
-      λ i. link.Reads (from i) (to i) x
+  link_back (link.Session a b) has = let ends = ends_back (step.Session a b) (session_step links a b has) in λ i. link.Session (ends.0 i) (ends.1 i)
+  link_back (link.Reads a b x) has = let ends = ends_back (step.Reads a b x) (reads_step links a b x has) in λ i. link.Reads (ends.0 i) (ends.1 i) x
   link_back (link.Derived b a x c walk) has =
-      let read = contradicted_step links b a x c walk has in
       let from = back b (inr (x, a, c, walk, has)) in
-      let to = back a (inl (step.Reads a c x, read, inl refl)) in
-      let reader = back c (inl (step.Reads a c x, read, inr refl)) in
+      let read = ends_back (step.Reads a c x) (contradicted_step links b a x c walk has) in
       let way = walk_back walk (walk_steps links b a x c walk has) in
-      λ i. link.Derived (from i) (to i) x (reader i) (way i)
+      λ i. link.Derived (from i) (read.0 i) x (read.1 i) (way i)
 
   each_back : (some : List Link) → All (Contains links) some → map (link_by (carry numbers)) (map (link_by (place numbers)) some) ≡ some
   each_back [] have = refl

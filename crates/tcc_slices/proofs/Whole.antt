@@ -1,8 +1,7 @@
 -- The cut of a resolved snapshot by links of its history is a slice of it: its pairs are kept.
-use Rattle.std.proofs.Common.{ℕ, zero, suc, ◌≡◌, ◌<◌, ◌+◌, ◌==◌, ◌⊎◌, inl, inr, true, false, List, [], ◌∷◌, length, get_or, refl, sym, ap, subst, ◌∙◌, arith}
+use Rattle.std.proofs.Common.{ℕ, zero, suc, ◌≡◌, ◌<◌, ◌+◌, ◌==◌, ◌⊎◌, inl, inr, true, List, length, sym, ap, subst, arith}
 use Rattle.std.specs.Prelude.{slice_index, slice_index_or}
-use Rattle.std.specs.List.{Contains}
-use Rattle.std.proofs.lemmas.Bool.{cases_order, eq-eqb, false≢true, or_left, or_right}
+use Rattle.std.proofs.lemmas.Bool.{cases_order, false≢true, or_right}
 use Rattle.std.proofs.lemmas.List.{length-map}
 use Rattle.tcc_txn.specs.Snapshots.{Sessions}
 use Rattle.tcc_reads.specs.History.{count, entry_at, place}

@@ -237,8 +237,7 @@ pub(crate) fn cut(
             Ok(()) => {}
             Err(fault) => match fault {
                 GrowFault::NoMemory => return Err(NoMemory),
-                GrowFault::TooManySessions => return Ok(None),
-                GrowFault::TooManyTransactions => return Ok(None),
+                GrowFault::TooManySessions | GrowFault::TooManyTransactions => return Ok(None),
             },
         }
     }

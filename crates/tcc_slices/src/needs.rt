@@ -93,18 +93,18 @@ impl Needs {
     fn add_link(&mut self, link: &Link) -> Result<(), AllocError>
         ensures { OnOk result (self.new.each.items ≡ self.old.each.items ++ needs_of_link link.now) }
     {
+        let (from, to) = (link.from(), link.to());
         match link {
-            Link::Session { from, to } => self.add_session(*from, *to),
-            Link::Reads { from, to, key } => self.add_read(*from, *to, *key),
+            Link::Session { .. } => self.add_session(from, to),
+            Link::Reads { key, .. } => self.add_read(from, to, *key),
             Link::Derived {
-                from,
-                to,
                 key,
                 reader,
                 walk,
+                ..
             } => {
-                self.add(*from, Need::Write { key: *key })?;
-                self.add_read(*to, *reader, *key)?;
+                self.add(from, Need::Write { key: *key })?;
+                self.add_read(to, *reader, *key)?;
                 self.add_steps(walk.as_slice())
             }
         }

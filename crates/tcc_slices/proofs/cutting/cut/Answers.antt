@@ -1,5 +1,7 @@
-use Rattle.std.proofs.Common.{ℕ, ◌≡◌, List, length, arith, subst}
+use Rattle.std.proofs.Common.{ℕ, ◌≡◌, ◌⊎◌, inl, inr, List, length, arith, subst}
 use Rattle.std.specs.Prelude.{slice_index}
+use Rattle.tcc_txn.specs.declared.snapshot.GrowFault.{GrowFault}
+use Rattle.tcc_txn.specs.declared.snapshot.GrowFault.TheVariants.{NoMemory, TooManySessions, TooManyTransactions}
 use Rattle.tcc_slices.specs.declared.needs.Need.{Need}
 use Rattle.tcc_slices.specs.private.Cutting.{IsCut, IsPartOf}
 use Rattle.tcc_slices.proofs.Lefts.{cut_of}
@@ -56,6 +58,11 @@ returns-in_default-2-clause-none c = λ found links same met.
     absurd (has_part c.args.snapshot.now c.args.graph.now same (slice_index c.args.numbers.now index) (omega (arith, up)) here.1
     (c.in_ok-part.ensures.none c.in_default-2.is))
 
+-- that there are too many isn't that memory was refused
+too_many : (fault : GrowFault) → (fault ≡ TooManySessions) ⊎ (fault ≡ TooManyTransactions) → fault ≡ NoMemory → ⊥
+too_many fault (inl sessions) memory = cc
+too_many fault (inr transactions) memory = cc
+
 pub returns-in-TooManySessions-clause-none : goal.returns-in-TooManySessions-clause-none
 returns-in-TooManySessions-clause-none c =
     let s = c.args.snapshot.now in
@@ -67,17 +74,4 @@ returns-in-TooManySessions-clause-none c =
     no_room s h c.numbered.ensures.numbered links c.args.needs.now c.args.numbers.now c.requires.rising met c.loop-index.slice index c.in-Some.name
     c.in-Some-2.part c.loop-index.invariant.0 c.loop-index-test.true c.loop-index.invariant.1 c.in-Some.ensures
     (subst (λ (own : List (ℕ × Need)). IsPartOf s h own number c.in-Some-2.part) c.own_needs.ensures found)
-    (λ fits. let refused = c.in-Err.ensures.refused fits in let is = c.in-TooManySessions.is in absurd cc)
-
-pub returns-in-TooManyTransactions-clause-none : goal.returns-in-TooManyTransactions-clause-none
-returns-in-TooManyTransactions-clause-none c =
-    let s = c.args.snapshot.now in
-    let h = c.args.graph.now in
-    let index : ℕ = c.loop-index.index in
-    let number : ℕ = slice_index c.args.numbers.now index in
-    let found : IsPartOf s h c.own_needs.result.now number c.in-Some-2.part = rw c.in-Some-2.is at c.in_ok-part.ensures.part in
-    λ none links same met.
-    no_room s h c.numbered.ensures.numbered links c.args.needs.now c.args.numbers.now c.requires.rising met c.loop-index.slice index c.in-Some.name
-    c.in-Some-2.part c.loop-index.invariant.0 c.loop-index-test.true c.loop-index.invariant.1 c.in-Some.ensures
-    (subst (λ (own : List (ℕ × Need)). IsPartOf s h own number c.in-Some-2.part) c.own_needs.ensures found)
-    (λ fits. let refused = c.in-Err.ensures.refused fits in let is = c.in-TooManyTransactions.is in absurd cc)
+    (λ fits. too_many c.in-Err.fault c.in-TooManySessions.is (c.in-Err.ensures.refused fits))

@@ -1,4 +1,4 @@
-use Rattle.std.proofs.Common.{ℕ, ◌++◌, ◌∷◌, List, [], cond, sym, ap, ◌∙◌}
+use Rattle.std.proofs.Common.{ℕ, ◌++◌, ◌∷◌, List, [], cond, sym, ◌∙◌}
 use Rattle.tcc_txn.specs.declared.op.Op.{Op}
 use Rattle.tcc_slices.specs.private.Cutting.{is_wanted}
 use Rattle.tcc_slices.proofs.Keeping.{kept_more}
