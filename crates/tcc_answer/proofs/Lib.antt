@@ -1,5 +1,5 @@
 pub mod Ends
-mod NoFloats
+pub mod NoFloats
 mod JsonPieces
 mod WorkedAnswers
 mod WorkedTexts

@@ -1,5 +1,5 @@
 -- The text of an answer, as it goes out: ASCII, each line ended by one line feed.
-use Rattle.std.specs.Prelude.{ℕ, ◌-◌, List, ◌++◌, length, flat_map, codes, decimal}
+use Rattle.std.specs.Prelude.{ℕ, ◌-◌, Bool, true, List, [], ◌++◌, length, flat_map, codes, decimal, if◌then◌else◌}
 use Rattle.tcc_graph.specs.Links.{cost}
 use Rattle.tcc_graph.specs.declared.step.Step.{Step}
 use Rattle.tcc_graph.specs.declared.step.Step.TheVariants as step
@@ -35,10 +35,14 @@ order_text o =
 abbrev pub pair_text : List (List ℕ) → ℕ → ℕ → List ℕ
 pair_text labels u v = label_at labels u ++ (codes " -> " ++ label_at labels v)
 
+-- U -> V by KEY, and the end of its line
+abbrev pub read_text : List (List ℕ) → ℕ → ℕ → List ℕ → List ℕ
+read_text labels u v key = pair_text labels u v ++ (codes " by " ++ (key ++ codes "\n"))
+
 -- session U -> V, or reads U -> V by KEY
 abbrev pub step_text : List (List ℕ) → Step → List ℕ
 step_text labels (step.Session u v) = codes "session " ++ (pair_text labels u v ++ codes "\n")
-step_text labels (step.Reads u v key) = codes "reads " ++ (pair_text labels u v ++ (codes " by " ++ (key ++ codes "\n")))
+step_text labels (step.Reads u v key) = codes "reads " ++ read_text labels u v key
 
 -- each step after two spaces
 abbrev pub walk_text : List (List ℕ) → List Step → List ℕ
@@ -53,14 +57,19 @@ link_text labels (link.Derived b a key c walk) =
     codes "derived "
     ++ (pair_text labels b a ++ (codes " by " ++ (key ++ (codes ", read by " ++ (label_at labels c ++ (codes "\n"
     ++ (walk_text labels walk
-    ++ (codes "  against " ++ (pair_text labels a c ++ (codes " by " ++ (key ++ codes "\n")))))))))))
+    ++ (codes "  against " ++ read_text labels a c key))))))))
 
--- how many steps the links have together, every use counted, the shape, and the links
-abbrev pub cycle_text : LabelledCycle → List ℕ
-cycle_text c =
+-- how many steps the links have together, every use counted, the shape, whether it isn't proved that no cycle has fewer
+-- steps, and the links
+abbrev pub anomaly_text : Bool → List (List ℕ) → List Link → List ℕ
+anomaly_text least labels links =
     codes "anomaly: "
-    ++ (decimal (cost c.links) ++ (codes " steps, "
-    ++ (shape_word (shape_of c.links) ++ (codes "\n" ++ flat_map (link_text c.labels) c.links))))
+    ++ (decimal (cost links) ++ (codes " steps, "
+    ++ (shape_word (shape_of links) ++ ((if least then [] else codes ", least not proved") ++ (codes "\n" ++ flat_map (link_text labels) links)))))
+
+-- a least cycle
+abbrev pub cycle_text : LabelledCycle → List ℕ
+cycle_text c = anomaly_text true c.labels c.links
 
 abbrev pub answer_text : Answer → List ℕ
 answer_text (answer.Commit o) = order_text o

@@ -5,41 +5,43 @@ ghost use Rattle.serde_json.specs.Data.{array};
 ghost use Rattle.serde_json.specs.View.{view, items_of};
 ghost use Rattle.serde_json.specs.Written.{has_float};
 ghost use Rattle.tcc_answer.specs.declared.fault.WriteFault.TheVariants as fault;
-ghost use Rattle.tcc_answer.specs.Json.{label_json, order_json, cycle_json, answer_json, json_line};
+ghost use Rattle.tcc_answer.specs.Json.{label_json, order_json, anomaly_json, answer_json, json_line};
 
 use crate::labels::Labels;
-use crate::links_json::{push_links_json, quoted};
-use crate::pieces::push;
+use crate::links_json::quoted;
+use crate::pieces::{joined, push, push_objects, unless};
 use crate::text::shape_word;
-use crate::{Anomaly, Answer, Commit, WriteFault};
+use crate::values::{Values, list_json};
+use crate::{Answer, Commit, Cycle, WriteFault, shape_of};
 use serde_json::{Value, json};
 use std::alloc::{AllocError, Global};
 use std::io::Write;
 use tcc_sending::send;
 use tcc_txn::NoMemory;
 
+impl Values<u32> for Labels {
+    ghost json = { label_json };
+
+    fn value(&self, alloc: Global, number: &u32) -> Result<Value, AllocError> {
+        Value::try_from_str(alloc, self.at(*number))
+    }
+}
+
 /// The labels of these numbers.
 pub fn labels_json(alloc: Global, labels: &Labels, numbers: &[u32]) -> Result<Value, AllocError>
     ensures { IfOk result (λ v. view v ≡ array (items_of (map (label_json labels.now) numbers.now))) }
 {
-    let mut list = Vec::new(alloc);
-    for number in numbers {
-        list.push(Value::try_from_str(alloc, labels.at(*number))?)?;
-    }
-    Ok(Value::Array(list))
+    list_json(alloc, labels, numbers)
 }
 
 fn commit_json(alloc: Global, commit: &Commit) -> Result<Value, AllocError>
     ensures { IfOk result (λ v. view v ≡ order_json commit.now) }
 {
-    let order = labels_json(alloc, commit.labels(), commit.order())?;
-    let sessions = commit.sessions();
-    let transactions = commit.order().len().saturating_sub(1);
     json!(in alloc; {
         "answer": "consistent",
-        "order": order,
-        "sessions": sessions,
-        "transactions": transactions
+        "order": labels_json(alloc, commit.labels(), commit.order())?,
+        "sessions": commit.sessions(),
+        "transactions": commit.order().len().saturating_sub(1)
     })
 }
 
@@ -49,9 +51,7 @@ pub fn object_line(alloc: Global, object: &Value) -> Result<Vec<u8>, NoMemory>
     ensures { IfOk result (λ line. line.items ≡ json_line (view object.now)) }
 {
     let text = object.to_string(alloc)?;
-    let mut line = Vec::new(alloc);
-    push(&mut line, &[text.as_bytes(), b"\n"])?;
-    Ok(line)
+    joined(alloc, &[text.as_bytes(), b"\n"])
 }
 
 /// The text of the object of an order, and a line feed.
@@ -62,17 +62,19 @@ fn commit_line(alloc: Global, commit: &Commit) -> Result<Vec<u8>, NoMemory>
 }
 
 /// The text of the object of a cycle, and a line feed.
-fn anomaly_line(alloc: Global, anomaly: &Anomaly) -> Result<Vec<u8>, NoMemory>
-    ensures { IfOk result (λ line. line.items ≡ json_line (cycle_json anomaly.now)) }
+pub fn cycle_line(alloc: Global, cycle: &Cycle) -> Result<Vec<u8>, NoMemory>
+    ensures { IfOk result (λ line. line.items ≡ json_line (anomaly_json cycle.now.least cycle.now.labels.now cycle.now.links.now)) }
 {
-    let shape = quoted(alloc, shape_word(anomaly.shape()))?;
-    let steps = anomaly.cost().to_string(alloc)?;
+    let shape = quoted(alloc, shape_word(shape_of(cycle.links)))?;
+    let steps = cycle.steps.to_string(alloc)?;
+    let unproved = unless(cycle.least, b",\"least\":false");
     let mut line = Vec::new(alloc);
     push(&mut line, &[b"{\"answer\":\"anomaly\",\"cycle\":["])?;
-    push_links_json(alloc, &mut line, anomaly.labels(), anomaly.links())?;
+    push_objects(alloc, &mut line, cycle.labels, cycle.links)?;
     push(
         &mut line,
         &[
+            unproved,
             b",\"shape\":",
             shape.as_bytes(),
             b",\"steps\":",
@@ -89,7 +91,7 @@ fn json_line(alloc: Global, answer: &Answer) -> Result<Vec<u8>, NoMemory>
 {
     match answer {
         Answer::Commit(commit) => commit_line(alloc, commit),
-        Answer::Anomaly(anomaly) => anomaly_line(alloc, anomaly),
+        Answer::Anomaly(anomaly) => cycle_line(alloc, &anomaly.cycle()),
     }
 }
 

@@ -1,14 +1,13 @@
-//! The text of links as JSON, made step by step: a value of all steps would take many times the room of their text.
-ghost use Rattle.std.specs.Prelude.{◌≡◌, ◌++◌, IfOk, OnOk, false, flat_map, map, string_bytes};
+//! Links and steps as JSON.
+ghost use Rattle.std.specs.Prelude.{◌≡◌, ◌++◌, IfOk, OnOk, false, map, string_bytes};
 ghost use Rattle.serde_json.specs.View.{items_of, view};
-ghost use Rattle.serde_json.specs.Written.{compact_text, items_text};
+ghost use Rattle.serde_json.specs.Written.{items_text};
 ghost use Rattle.tcc_graph.specs.declared.step.Step.TheVariants as step;
-ghost use Rattle.tcc_graph.specs.declared.link.Link.TheVariants as link;
 ghost use Rattle.tcc_answer.specs.Json.{link_json, step_json, word_text};
-ghost use Rattle.tcc_answer.specs.private.Pieces.{derived_head, later_item};
+ghost use Rattle.tcc_answer.specs.private.Pieces.{derived_head};
 
 use crate::labels::Labels;
-use crate::pieces::push;
+use crate::pieces::{Objects, push, push_objects, push_value};
 use serde_json::{Value, json};
 use std::alloc::{AllocError, Global};
 use tcc_graph::{Link, Step};
@@ -17,12 +16,10 @@ use tcc_txn::{Name, NoMemory};
 fn session_json(alloc: Global, labels: &Labels, from: u32, to: u32) -> Result<Value, AllocError>
     ensures { IfOk result (λ v. view v ≡ step_json labels.now (step.Session from to)) }
 {
-    let from = labels.at(from);
-    let to = labels.at(to);
     json!(in alloc; {
-        "from": from,
+        "from": labels.at(from),
         "kind": "session",
-        "to": to
+        "to": labels.at(to)
     })
 }
 
@@ -35,94 +32,29 @@ fn reads_json(
 ) -> Result<Value, AllocError>
     ensures { IfOk result (λ v. view v ≡ step_json labels.now (step.Reads from to key.now)) }
 {
-    let from = labels.at(from);
-    let to = labels.at(to);
-    let key = key.to_string(alloc)?;
     json!(in alloc; {
-        "from": from,
-        "key": key,
+        "from": labels.at(from),
+        "key": key.to_string(alloc)?,
         "kind": "reads",
-        "to": to
+        "to": labels.at(to)
     })
 }
 
-/// Adds the object of a session pair.
-fn push_session(
-    alloc: Global,
-    text: &mut Vec<u8>,
-    labels: &Labels,
-    from: u32,
-    to: u32,
-) -> Result<(), NoMemory>
-    ensures { OnOk result (text.new.items ≡ text.old.items ++ compact_text (step_json labels.now (step.Session from to))) }
-{
-    let object = session_json(alloc, labels, from, to)?;
-    let bytes = object.to_string(alloc)?;
-    push(text, &[bytes.as_bytes()])
-}
-
-/// Adds the object of a reads-from pair.
-fn push_reads(
-    alloc: Global,
-    text: &mut Vec<u8>,
-    labels: &Labels,
-    from: u32,
-    to: u32,
-    key: &Name,
-) -> Result<(), NoMemory>
-    ensures { OnOk result (text.new.items ≡ text.old.items ++ compact_text (step_json labels.now (step.Reads from to key.now))) }
-{
-    let object = reads_json(alloc, labels, from, to, key)?;
-    let bytes = object.to_string(alloc)?;
-    push(text, &[bytes.as_bytes()])
-}
-
-/// Adds the object of a step.
-fn push_step(
-    alloc: Global,
-    text: &mut Vec<u8>,
-    labels: &Labels,
-    step: &Step,
-) -> Result<(), NoMemory>
-    ensures { OnOk result (text.new.items ≡ text.old.items ++ compact_text (step_json labels.now step.now)) }
+fn step_json(alloc: Global, labels: &Labels, step: &Step) -> Result<Value, AllocError>
+    ensures { IfOk result (λ v. view v ≡ step_json labels.now step.now) }
 {
     match step {
-        Step::Session { from, to } => push_session(alloc, text, labels, *from, *to),
-        Step::Reads { from, to, key } => push_reads(alloc, text, labels, *from, *to, key),
+        Step::Session { from, to } => session_json(alloc, labels, *from, *to),
+        Step::Reads { from, to, key } => reads_json(alloc, labels, *from, *to, key),
     }
 }
 
-/// Adds the objects of steps, each behind a comma.
-fn push_later_steps(
-    alloc: Global,
-    text: &mut Vec<u8>,
-    labels: &Labels,
-    steps: &[Step],
-) -> Result<(), NoMemory>
-    ensures { OnOk result (text.new.items ≡ text.old.items ++ flat_map (later_item (step_json labels.now)) steps.now) }
-{
-    for step in steps {
-        push(text, &[b","])?;
-        push_step(alloc, text, labels, step)?;
-    }
-    Ok(())
-}
+impl Objects<Step> for Labels {
+    ghost json = { step_json };
 
-/// Adds the objects of a walk's steps, and the bracket behind them.
-fn push_walk(
-    alloc: Global,
-    text: &mut Vec<u8>,
-    labels: &Labels,
-    walk: &[Step],
-) -> Result<(), NoMemory>
-    ensures { OnOk result (text.new.items ≡ text.old.items ++ items_text false (items_of (map (step_json labels.now) walk.now))) }
-{
-    let Some((first, others)) = walk.split_first() else {
-        return push(text, &[b"]"]);
-    };
-    push_step(alloc, text, labels, first)?;
-    push_later_steps(alloc, text, labels, others)?;
-    push(text, &[b"]"])
+    fn push_object(&self, alloc: Global, text: &mut Vec<u8>, step: &Step) -> Result<(), NoMemory> {
+        push_value(alloc, text, &step_json(alloc, self, step)?)
+    }
 }
 
 /// A text in quotation marks, as JSON has it.
@@ -168,60 +100,28 @@ fn push_head(
     )
 }
 
-/// Adds the object of a derived link.
-fn push_derived(
-    alloc: Global,
-    text: &mut Vec<u8>,
-    labels: &Labels,
-    from: u32,
-    to: u32,
-    key: &Name,
-    reader: u32,
-    walk: &[Step],
-) -> Result<(), NoMemory>
-    ensures { OnOk result (text.new.items ≡ text.old.items ++ compact_text (link_json labels.now (link.Derived from to key.now reader walk.now))) }
-{
-    push_head(alloc, text, labels, from, to, key, reader)?;
-    push_walk(alloc, text, labels, walk)?;
-    push(text, &[b"}"])
-}
+impl Objects<Link> for Labels {
+    ghost json = { link_json };
 
-/// Adds the object of a link.
-fn push_link(
-    alloc: Global,
-    text: &mut Vec<u8>,
-    labels: &Labels,
-    link: &Link,
-) -> Result<(), NoMemory>
-    ensures { OnOk result (text.new.items ≡ text.old.items ++ compact_text (link_json labels.now link.now)) }
-{
-    match link {
-        Link::Derived {
-            from,
-            to,
-            key,
-            reader: by,
-            walk,
-        } => push_derived(alloc, text, labels, *from, *to, key, *by, walk.as_slice()),
-        Link::Session { from, to } => push_session(alloc, text, labels, *from, *to),
-        Link::Reads { from, to, key } => push_reads(alloc, text, labels, *from, *to, key),
+    fn push_object(&self, alloc: Global, text: &mut Vec<u8>, link: &Link) -> Result<(), NoMemory> {
+        let (from, to) = (link.from(), link.to());
+        match link {
+            Link::Session { .. } => push_value(alloc, text, &session_json(alloc, self, from, to)?),
+            Link::Reads { key, .. } => {
+                push_value(alloc, text, &reads_json(alloc, self, from, to, key)?)
+            }
+            Link::Derived {
+                key,
+                reader,
+                walk,
+                ..
+            } => {
+                push_head(alloc, text, self, from, to, key, *reader)?;
+                push_objects(alloc, text, self, walk.as_slice())?;
+                push(text, &[b"}"])
+            }
+        }
     }
-}
-
-/// Adds the objects of links, each behind a comma.
-fn push_later_links(
-    alloc: Global,
-    text: &mut Vec<u8>,
-    labels: &Labels,
-    links: &[Link],
-) -> Result<(), NoMemory>
-    ensures { OnOk result (text.new.items ≡ text.old.items ++ flat_map (later_item (link_json labels.now)) links.now) }
-{
-    for link in links {
-        push(text, &[b","])?;
-        push_link(alloc, text, labels, link)?;
-    }
-    Ok(())
 }
 
 /// Adds the objects of links, and the bracket behind them: what a list of links has behind its first bracket.
@@ -233,10 +133,5 @@ pub fn push_links_json(
 ) -> Result<(), NoMemory>
     ensures { OnOk result (text.new.items ≡ text.old.items ++ items_text false (items_of (map (link_json labels.now) links.now))) }
 {
-    let Some((first, others)) = links.split_first() else {
-        return push(text, &[b"]"]);
-    };
-    push_link(alloc, text, labels, first)?;
-    push_later_links(alloc, text, labels, others)?;
-    push(text, &[b"]"])
+    push_objects(alloc, text, labels, links)
 }

@@ -2,13 +2,12 @@
 ghost use Rattle.std.specs.Prelude.{◌≡◌, ◌++◌, ℕ, OnOk, IfOk, OnErr, Err, take, flat_map};
 ghost use Rattle.std.specs.Io.KnownBytes.{Appends};
 ghost use Rattle.tcc_graph.specs.declared.step.Step.TheVariants as step;
-ghost use Rattle.tcc_graph.specs.declared.link.Link.TheVariants as link;
 ghost use Rattle.tcc_answer.specs.declared.fault.WriteFault.TheVariants as fault;
-ghost use Rattle.tcc_answer.specs.Texts.{labels_text, order_text, pair_text, step_text, walk_text, link_text, shape_word, cycle_text, answer_text};
+ghost use Rattle.tcc_answer.specs.Texts.{labels_text, order_text, pair_text, read_text, step_text, walk_text, link_text, shape_word, anomaly_text, answer_text};
 
 use crate::labels::Labels;
-use crate::pieces::push;
-use crate::{Anomaly, Answer, Commit, Shape, WriteFault};
+use crate::pieces::{joined, push, unless};
+use crate::{Answer, Commit, Cycle, Shape, WriteFault, shape_of};
 use std::alloc::Global;
 use std::io::Write;
 use tcc_graph::{Link, Step};
@@ -32,9 +31,8 @@ fn commit_text(alloc: Global, commit: &Commit) -> Result<Vec<u8>, NoMemory>
     let transactions = commit.order().len().saturating_sub(1).to_string(alloc)?;
     let sessions = commit.sessions().to_string(alloc)?;
     let order = labels_text(alloc, commit.labels(), commit.order())?;
-    let mut text = Vec::new(alloc);
-    push(
-        &mut text,
+    joined(
+        alloc,
         &[
             b"consistent: ",
             transactions.as_bytes(),
@@ -44,8 +42,7 @@ fn commit_text(alloc: Global, commit: &Commit) -> Result<Vec<u8>, NoMemory>
             &order,
             b"\n",
         ],
-    )?;
-    Ok(text)
+    )
 }
 
 /// Adds the word and `U -> V`.
@@ -63,6 +60,21 @@ fn push_pair(
     push(text, &[word, from, b" -> ", to])
 }
 
+/// Adds the word and `U -> V by KEY`, and ends the line.
+fn push_read(
+    text: &mut Vec<u8>,
+    labels: &Labels,
+    word: &[u8],
+    from: u32,
+    to: u32,
+    key: &Name,
+) -> Result<(), NoMemory>
+    ensures { OnOk result (text.new.items ≡ text.old.items ++ (word.now ++ read_text labels.now from to key.now)) }
+{
+    push_pair(text, labels, word, from, to)?;
+    push(text, &[b" by ", key.bytes(), b"\n"])
+}
+
 /// Adds `session U -> V`.
 fn push_session(text: &mut Vec<u8>, labels: &Labels, from: u32, to: u32) -> Result<(), NoMemory>
     ensures { OnOk result (text.new.items ≡ text.old.items ++ step_text labels.now (step.Session from to)) }
@@ -71,26 +83,12 @@ fn push_session(text: &mut Vec<u8>, labels: &Labels, from: u32, to: u32) -> Resu
     push(text, &[b"\n"])
 }
 
-/// Adds `reads U -> V by KEY`.
-fn push_reads(
-    text: &mut Vec<u8>,
-    labels: &Labels,
-    from: u32,
-    to: u32,
-    key: &Name,
-) -> Result<(), NoMemory>
-    ensures { OnOk result (text.new.items ≡ text.old.items ++ step_text labels.now (step.Reads from to key.now)) }
-{
-    push_pair(text, labels, b"reads ", from, to)?;
-    push(text, &[b" by ", key.bytes(), b"\n"])
-}
-
 fn push_step(text: &mut Vec<u8>, labels: &Labels, step: &Step) -> Result<(), NoMemory>
     ensures { OnOk result (text.new.items ≡ text.old.items ++ step_text labels.now step.now) }
 {
     match step {
         Step::Session { from, to } => push_session(text, labels, *from, *to),
-        Step::Reads { from, to, key } => push_reads(text, labels, *from, *to, key),
+        Step::Reads { from, to, key } => push_read(text, labels, b"reads ", *from, *to, key),
     }
 }
 
@@ -105,40 +103,27 @@ fn push_walk(text: &mut Vec<u8>, labels: &Labels, walk: &[Step]) -> Result<(), N
     Ok(())
 }
 
+/// Adds the line of a step; or `derived B -> A by KEY, read by C`, the walk from B to C, and `against A -> C by KEY`.
 fn push_link(text: &mut Vec<u8>, labels: &Labels, link: &Link) -> Result<(), NoMemory>
     ensures { OnOk result (text.new.items ≡ text.old.items ++ link_text labels.now link.now) }
 {
+    let (from, to) = (link.from(), link.to());
     match link {
+        Link::Session { .. } => push_session(text, labels, from, to),
+        Link::Reads { key, .. } => push_read(text, labels, b"reads ", from, to, key),
         Link::Derived {
-            from: b,
-            to: a,
-            key: x,
-            reader: c,
+            key,
+            reader,
             walk,
-        } => push_derived(text, labels, *b, *a, x, *c, walk.as_slice()),
-        Link::Session { from, to } => push_session(text, labels, *from, *to),
-        Link::Reads { from, to, key } => push_reads(text, labels, *from, *to, key),
+            ..
+        } => {
+            push_pair(text, labels, b"derived ", from, to)?;
+            let by = labels.at(*reader).as_bytes();
+            push(text, &[b" by ", key.bytes(), b", read by ", by, b"\n"])?;
+            push_walk(text, labels, walk.as_slice())?;
+            push_read(text, labels, b"  against ", to, *reader, key)
+        }
     }
-}
-
-/// Adds `derived B -> A by KEY, read by C`, the walk from B to C, and `against A -> C by KEY`.
-fn push_derived(
-    text: &mut Vec<u8>,
-    labels: &Labels,
-    from: u32,
-    to: u32,
-    key: &Name,
-    reader: u32,
-    walk: &[Step],
-) -> Result<(), NoMemory>
-    ensures { OnOk result (text.new.items ≡ text.old.items ++ link_text labels.now (link.Derived from to key.now reader walk.now)) }
-{
-    push_pair(text, labels, b"derived ", from, to)?;
-    let by = labels.at(reader).as_bytes();
-    push(text, &[b" by ", key.bytes(), b", read by ", by, b"\n"])?;
-    push_walk(text, labels, walk)?;
-    push_pair(text, labels, b"  against ", to, reader)?;
-    push(text, &[b" by ", key.bytes(), b"\n"])
 }
 
 /// Adds the lines of the links.
@@ -163,22 +148,25 @@ pub fn shape_word(shape: Shape) -> &'static str
     }
 }
 
-fn anomaly_text(alloc: Global, anomaly: &Anomaly) -> Result<Vec<u8>, NoMemory>
-    ensures { IfOk result (λ text. text.items ≡ cycle_text anomaly.now) }
+/// The text of a cycle.
+pub fn cycle_text(alloc: Global, cycle: &Cycle) -> Result<Vec<u8>, NoMemory>
+    ensures { IfOk result (λ text. text.items ≡ anomaly_text cycle.now.least cycle.now.labels.now cycle.now.links.now) }
 {
-    let steps = anomaly.cost().to_string(alloc)?;
-    let mut text = Vec::new(alloc);
-    push(
-        &mut text,
+    let steps = cycle.steps.to_string(alloc)?;
+    let shape = shape_word(shape_of(cycle.links)).as_bytes();
+    let unproved = unless(cycle.least, b", least not proved");
+    let mut text = joined(
+        alloc,
         &[
             b"anomaly: ",
             steps.as_bytes(),
             b" steps, ",
-            shape_word(anomaly.shape()).as_bytes(),
+            shape,
+            unproved,
             b"\n",
         ],
     )?;
-    push_links(&mut text, anomaly.labels(), anomaly.links())?;
+    push_links(&mut text, cycle.labels, cycle.links)?;
     Ok(text)
 }
 
@@ -187,7 +175,7 @@ fn text_of(alloc: Global, answer: &Answer) -> Result<Vec<u8>, NoMemory>
 {
     match answer {
         Answer::Commit(commit) => commit_text(alloc, commit),
-        Answer::Anomaly(anomaly) => anomaly_text(alloc, anomaly),
+        Answer::Anomaly(anomaly) => cycle_text(alloc, &anomaly.cycle()),
     }
 }
 

@@ -1,8 +1,0 @@
--- the items so far
-use Rattle.std.proofs.Common.{◌≡◌, map, take}
-use Rattle.serde_json.specs.View.{view}
-use Rattle.tcc_answer.specs.Json.{label_json}
-use Rattle.tcc_answer.proofs.json.labels_json.Given as goal
-
-abbrev pub invariant-loop-number : goal.invariant-loop-number
-invariant-loop-number l = map view l.list.items ≡ map (label_json l.labels) (take l.number-index l.numbers)
