@@ -36,7 +36,7 @@ pub Stops-item : {X : Type 0} {a b c : Option (List ℕ)} {l m : List ℕ} (f : 
 Stops-item {X} {a} {b} {c} {l} {m} f xs i d lt before item =
     subst (Stops a l c) (sym (around f xs i d lt)) (Stops-then before (Stops-early (flat_map f (drop (i + 1) xs)) item))
 
--- the same of an item that was read from the list
+-- an item that was read from the list
 pub Sends-read : {X : Type 0} {a b c : Option (List ℕ)} {l m n : List ℕ} (f : X → List ℕ) (xs : List X) (i : ℕ) (x : X) → i < length xs → x ≡ get_or xs i x
     → Sends a l b m (flat_map f (take i xs)) → Sends b m c n (f x) → Sends a l c n (flat_map f (take (i + 1) xs))
 Sends-read {X} {a} {b} {c} {l} {m} {n} f xs i x lt is before item = Sends-item f xs i x lt before (subst (λ y. Sends b m c n (f y)) is item)

@@ -18,7 +18,8 @@ use Rattle.tcc_cert.specs.Reading.{◌>>=◌, Position, Reads, link_at, next, re
 use Rattle.tcc_cert.specs.LargeReading.{large_behind_header, large_certificate_at, large_claim_at, large_header_line, large_sizes_line}
 use Rattle.tcc_cert.specs.LargeReading.{least_at, links_claim_at, run_line, runs_at, runs_claim_at, tail_line}
 use Rattle.tcc_cert.proofs.LinesBack.{then_ok}
-use Rattle.tcc_cert.proofs.OnwardFacts.{IsOnward, onward-link, onward-next, onward-numbered, onward-ok, onward-then, onward-words}
+use Rattle.tcc_cert.specs.private.Onward.{IsOnward}
+use Rattle.tcc_cert.proofs.OnwardFacts.{onward-link, onward-next, onward-numbered, onward-ok, onward-then, onward-words}
 use Rattle.tcc_cert.proofs.StepFacts.{later-faults}
 
 -- a part was read, and what comes behind it was given

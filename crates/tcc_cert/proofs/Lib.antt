@@ -30,5 +30,6 @@ mod LargeReads
 mod LargeBack
 mod LargeOne
 mod WorkedLarge
+mod OneDigit
 mod VersionFacts
 mod RunFacts

@@ -4,15 +4,11 @@ use Rattle.tcc_cert.specs.declared.ranges.Scale.{Scale}
 use Rattle.tcc_cert.specs.Ranges.{ranges_at}
 use Rattle.tcc_cert.specs.declared.fault.CertFaultKind.{CertFaultKind}
 use Rattle.tcc_cert.specs.declared.reading.forms.Head.{Head}
-use Rattle.tcc_cert.specs.Outcomes.{reached}
+use Rattle.tcc_cert.specs.private.Onward.{IsOnward}
 use Rattle.tcc_cert.specs.Texts.{Words}
 use Rattle.tcc_cert.specs.Reading.{◌>>=◌, Position, Reads, judged, behind, line_of, next, words}
 use Rattle.tcc_cert.specs.Reading.{numbered, repeated, words_of, step_line, with_walk, head_line}
 use Rattle.tcc_cert.specs.Reading.{walk_of, link_at}
-
--- from this position the reading ended at no line before it
-pub record IsOnward {X : Type 0} (at : Position) (read : Reads X) : Type 0 where
-  pub onward : at.line ≤ reached read
 
 pub onward-then : {A B : Type 0} (at : Position) (read : Reads A) (go : A × Position → Reads B) → IsOnward at read → ((x : A × Position) → IsOnward x.1 (go x))
     → IsOnward at (read >>= go)

@@ -20,7 +20,7 @@ abbrev pub IsAbove : ℕ → List ℕ → Type 0
 IsAbove low [] = Unit {0}
 IsAbove low (byte ∷ bytes) = (low < byte) × IsAbove low bytes
 
--- the same as a test
+-- a test for that
 abbrev pub is_above : ℕ → List ℕ → Bool
 is_above low [] = true
 is_above low (byte ∷ bytes) = ltb low byte && is_above low bytes
@@ -94,13 +94,13 @@ later-short most [] short = omega arith
 later-short most (word ∷ words) short =
     omega (arith, short.0, length-append word (later words), later-short most words short.1, mul-suc (most + 1) (length words))
 
--- the same of a line, whose first word has no space before it
+-- a line of them: its first word has no space before it
 pub words-short : (most : ℕ) (word : List ℕ) (words : Words) → length word ≤ most → AllByRecursion (λ w. length w ≤ most) words
     → length (words_text (word ∷ words)) < (most + 1) * length (word ∷ words)
 words-short most word words first short =
     omega (arith, first, length-append word (later words), later-short most words short, mul-suc (most + 1) (length words))
 
--- the same word by word
+-- how long a line is, word by word
 pub words-first : (word : List ℕ) (words : Words) → length (words_text (word ∷ words)) ≡ length word + length (later words)
 words-first word words = length-append word (later words)
 

@@ -21,6 +21,7 @@ use Rattle.tcc_cert.specs.declared.reading.stages.Coming.TheVariants as coming
 use Rattle.tcc_cert.specs.Ranges.{ranges_of}
 use Rattle.tcc_cert.specs.private.Inputs.{Ends}
 use Rattle.tcc_cert.specs.InputBytes.{HasFailed}
+use Rattle.tcc_cert.specs.private.Onward.{IsOnward}
 use Rattle.tcc_cert.specs.private.Showing.{Faults}
 use Rattle.tcc_cert.specs.Parts.{◌>>>◌, FaultsIn, IsFirst, Parts, PartsOf, after_part, claim_parts, end_parts, ended_parts}
 use Rattle.tcc_cert.specs.Parts.{far_parts, far_rows, link_rows, near_parts, order_rest, parts_behind, rows_then}
@@ -29,7 +30,7 @@ use Rattle.tcc_cert.specs.Shapes.{behind_table, columns_in, height, most_in, par
 use Rattle.tcc_cert.specs.Reading.{Position, Reads, header_line, link_at, next, numbers_line, sizes_line, word_line, words}
 use Rattle.tcc_cert.specs.private.Stages.{TakesStep}
 use Rattle.tcc_cert.specs.Ahead.{IsBehind}
-use Rattle.tcc_cert.proofs.OnwardFacts.{IsOnward, onward-link, onward-next, onward-words}
+use Rattle.tcc_cert.proofs.OnwardFacts.{onward-link, onward-next, onward-words}
 use Rattle.tcc_cert.proofs.StepFacts.{onward-at, some-left}
 
 -- ---- parts go on from line to line, and never back

@@ -8,9 +8,10 @@ use Rattle.tcc_cert.specs.declared.fault.CertFaultKind.{CertFaultKind}
 use Rattle.tcc_cert.specs.declared.reading.input.Input.{Input}
 use Rattle.tcc_cert.specs.private.Inputs.{line_in, TakesLine, Gives}
 use Rattle.tcc_cert.specs.Outcomes.{IsFailure, reached}
+use Rattle.tcc_cert.specs.private.Onward.{IsOnward}
 use Rattle.tcc_cert.specs.private.Showing.{Shows, at_line, Faults}
 use Rattle.tcc_cert.specs.Reading.{◌>>=◌, Position, Reads, behind, next, numbered}
-use Rattle.tcc_cert.proofs.OnwardFacts.{IsOnward, onward-then, onward-ok, onward-next, onward-numbered}
+use Rattle.tcc_cert.proofs.OnwardFacts.{onward-then, onward-ok, onward-next, onward-numbered}
 
 -- the first part had a fault
 pub first-faults : {A B F : Type 0} {at : Position} (read : Reads A) (go : A × Position → Reads B) (fault : CertFault) → ((x : A × Position) → IsOnward x.1 (go x))

@@ -1,6 +1,5 @@
 -- Worked texts of version 3 are written and read as the definitions say.
-use Rattle.std.proofs.Common.{◌≡◌, ℕ, true, false, List, [], ◌∷◌, ◌++◌, Option, None, Some, Ok, Err, refl, codes, lit<}
-use Rattle.std.proofs.lemmas.Fmt.{decimal_digit}
+use Rattle.std.proofs.Common.{◌≡◌, ℕ, true, false, List, [], ◌∷◌, ◌++◌, Option, None, Some, Ok, refl, codes}
 use Rattle.tcc_graph.specs.declared.level.Level.TheVariants.{Causal, Atomic}
 use Rattle.tcc_graph.specs.declared.link.Link.TheVariants as link
 use Rattle.tcc_graph.specs.declared.step.Step.TheVariants as step
@@ -11,6 +10,7 @@ use Rattle.tcc_cert.specs.declared.large.Run.{Run}
 use Rattle.tcc_cert.specs.LargeTexts.{large_certificate_text}
 use Rattle.tcc_cert.specs.LargeReading.{is_large, large_certificate_read}
 use Rattle.tcc_cert.proofs.WorkedReading.{HaveFaults}
+use Rattle.tcc_cert.proofs.OneDigit.{digit}
 
 abbrev run : ℕ → ℕ → Run
 run session count = record { session = session; count = count }
@@ -40,26 +40,10 @@ abbrev its_runs : List Run
 its_runs = run 0 1 ∷ run 1 1 ∷ run 2 2 ∷ []
 
 fork_written : large_certificate_text fork ≡ fork_text
-fork_written =
-    rw (
-      decimal_digit 0 (lit< tt),
-      decimal_digit 1 (lit< tt),
-      decimal_digit 2 (lit< tt),
-      decimal_digit 3 (lit< tt),
-      decimal_digit 4 (lit< tt),
-      decimal_digit 5 (lit< tt),
-    ) refl
+fork_written = rw (digit 0, digit 1, digit 2, digit 3, digit 4, digit 5) refl
 
 least_written : large_certificate_text (five_steps (Some its_runs)) ≡ five_steps_text (codes "least 3\n0 1\n1 1\n2 2\nend\n")
-least_written =
-    rw (
-      decimal_digit 0 (lit< tt),
-      decimal_digit 1 (lit< tt),
-      decimal_digit 2 (lit< tt),
-      decimal_digit 3 (lit< tt),
-      decimal_digit 4 (lit< tt),
-      decimal_digit 5 (lit< tt),
-    ) refl
+least_written = rw (digit 0, digit 1, digit 2, digit 3, digit 4, digit 5) refl
 
 fork_read : large_certificate_read fork_text ≡ Ok fork
 fork_read = refl

@@ -8,9 +8,7 @@ use Rattle.tcc_graph.specs.Links.{MayContradict, IsLink, cost, link_from, link_t
 pub use Rattle.tcc_graph.specs.Links.{IsLinkBelow}
 use Rattle.tcc_graph.specs.declared.level.Level.{Level}
 use Rattle.tcc_graph.specs.declared.level.Level.TheVariants.{Causal}
-use Rattle.tcc_graph.specs.declared.step.Step.{Step}
 use Rattle.tcc_graph.specs.declared.link.Link.{Link}
-use Rattle.tcc_graph.specs.declared.link.Link.TheVariants as link
 use Rattle.tcc_cert.specs.declared.version.Version.{Version}
 use Rattle.tcc_cert.specs.declared.certificate.CycleClaim.{CycleClaim}
 use Rattle.tcc_cert.specs.Tables.{entry, lowest, far_entry, HasSize, HasFarSize, IsCapped}

@@ -5,11 +5,10 @@ ghost use Rattle.tcc_cert.specs.private.Writing.{IsSent};
 ghost use Rattle.tcc_cert.specs.Texts.{line_text, lines_text};
 ghost use Rattle.tcc_cert.specs.LargeTexts.{large_certificate_text, large_claim_lines, large_header_of, large_header_words, least_lines, links_claim_lines, run_words, runs_claim_lines, runs_lines};
 
-use crate::lines::{line, number_line};
+use crate::lines::{Word, line, number_line};
 use crate::outgoing::Outgoing;
 use crate::writing::{cycle_sizes, link_lines};
 use crate::{CertWriteFault, LargeCertificate, LinksClaim, Run, Runs, RunsClaim};
-use itoa::Buffer;
 use std::io::{self, Write};
 use tcc_graph::Level;
 
@@ -38,45 +37,17 @@ fn runs_to_end<W: Write>(outgoing: &mut Outgoing, out: &mut W, runs: &Runs) -> i
     line(outgoing, out, b"end", &[])
 }
 
-/// `order N S R`
-fn order_sizes<W: Write>(
-    outgoing: &mut Outgoing,
-    out: &mut W,
-    transactions: u32,
-    sessions: u32,
-    runs: usize,
-) -> io::Result<()>
-    ensures { IsSent result (W.contents out.old) outgoing.old (W.contents out.new) outgoing.new
-        (line_text (codes "order" ∷ decimal transactions ∷ decimal sessions ∷ decimal runs ∷ [])) }
-{
-    let mut first = Buffer::new();
-    let mut second = Buffer::new();
-    let mut third = Buffer::new();
-    let words = [
-        first.format(transactions).as_bytes(),
-        second.format(sessions).as_bytes(),
-        third.format(runs).as_bytes(),
-    ];
-    line(outgoing, out, b"order", &words)
-}
-
 /// What a claim of an order says after the first line.
 fn order<W: Write>(outgoing: &mut Outgoing, out: &mut W, claim: &RunsClaim) -> io::Result<()>
     ensures { IsSent result (W.contents out.old) outgoing.old (W.contents out.new) outgoing.new (lines_text (runs_claim_lines claim.now)) }
 {
-    let many = claim.runs.as_slice().len();
-    order_sizes(outgoing, out, claim.transactions, claim.sessions, many)?;
+    let sizes = [
+        Word::Number(claim.transactions as usize),
+        Word::Number(claim.sessions as usize),
+        Word::Number(claim.runs.as_slice().len()),
+    ];
+    line(outgoing, out, b"order", &sizes)?;
     runs_to_end(outgoing, out, &claim.runs)
-}
-
-/// `least R`
-fn least_size<W: Write>(outgoing: &mut Outgoing, out: &mut W, runs: usize) -> io::Result<()>
-    ensures { IsSent result (W.contents out.old) outgoing.old (W.contents out.new) outgoing.new
-        (line_text (codes "least" ∷ decimal runs ∷ [])) }
-{
-    let mut first = Buffer::new();
-    let words = [first.format(runs).as_bytes()];
-    line(outgoing, out, b"least", &words)
 }
 
 /// What is claimed of leastness, and the last line.
@@ -86,7 +57,8 @@ fn least<W: Write>(outgoing: &mut Outgoing, out: &mut W, least: &Option<Runs>) -
     match least {
         None => line(outgoing, out, b"end", &[]),
         Some(runs) => {
-            least_size(outgoing, out, runs.as_slice().len())?;
+            let many = Word::Number(runs.as_slice().len());
+            line(outgoing, out, b"least", &[many])?;
             runs_to_end(outgoing, out, runs)
         }
     }
@@ -106,10 +78,16 @@ fn cycle<W: Write>(outgoing: &mut Outgoing, out: &mut W, claim: &LinksClaim) -> 
 fn header_line<W: Write>(outgoing: &mut Outgoing, out: &mut W, level: Level) -> io::Result<()>
     ensures { IsSent result (W.contents out.old) outgoing.old (W.contents out.new) outgoing.new (line_text (large_header_words level)) }
 {
-    match level {
-        Level::Causal => line(outgoing, out, b"tcc-certificate", &[b"3", b"causal"]),
-        Level::Atomic => line(outgoing, out, b"tcc-certificate", &[b"3", b"atomic"]),
-    }
+    let level = match level {
+        Level::Causal => Word::Text(b"causal"),
+        Level::Atomic => Word::Text(b"atomic"),
+    };
+    line(
+        outgoing,
+        out,
+        b"tcc-certificate",
+        &[Word::Text(b"3"), level],
+    )
 }
 
 /// The level of a claim.

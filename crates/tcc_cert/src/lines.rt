@@ -1,6 +1,7 @@
 //! Lines of words and of numbers, as they go out.
 ghost use Rattle.std.specs.Prelude.{◌≡◌, ◌∷◌, map, flat_map, codes, ◌++◌};
 ghost use Rattle.tcc_cert.specs.private.Writing.{IsSent};
+ghost use Rattle.tcc_cert.specs.private.LineWords.{word_text};
 ghost use Rattle.tcc_cert.specs.Texts.{words_text, line_text, lines_text, numbers_words, table_lines};
 
 use crate::outgoing::Outgoing;
@@ -8,17 +9,36 @@ use crate::{Numbers, Table};
 use itoa::Buffer;
 use std::io::{self, Write};
 
+/// A word of a line.
+#[derive(Clone, Copy)]
+pub(crate) enum Word<'a> {
+    /// These bytes.
+    Text(&'a [u8]),
+    /// The digits of a number.
+    Number(usize),
+}
+
+/// A word.
+fn put_word<W: Write>(outgoing: &mut Outgoing, out: &mut W, word: &Word) -> io::Result<()>
+    ensures { IsSent result (W.contents out.old) outgoing.old (W.contents out.new) outgoing.new (word_text word.now) }
+{
+    match word {
+        Word::Text(text) => outgoing.put(out, text),
+        Word::Number(number) => outgoing.put(out, Buffer::new().format(*number).as_bytes()),
+    }
+}
+
 /// A word after a space.
-fn later_word<W: Write>(outgoing: &mut Outgoing, out: &mut W, word: &[u8]) -> io::Result<()>
-    ensures { IsSent result (W.contents out.old) outgoing.old (W.contents out.new) outgoing.new (codes " " ++ word.now) }
+fn later_word<W: Write>(outgoing: &mut Outgoing, out: &mut W, word: &Word) -> io::Result<()>
+    ensures { IsSent result (W.contents out.old) outgoing.old (W.contents out.new) outgoing.new (codes " " ++ word_text word.now) }
 {
     outgoing.put(out, b" ")?;
-    outgoing.put(out, word)
+    put_word(outgoing, out, word)
 }
 
 /// Words, each after a space.
-fn later_words<W: Write>(outgoing: &mut Outgoing, out: &mut W, words: &[&[u8]]) -> io::Result<()>
-    ensures { IsSent result (W.contents out.old) outgoing.old (W.contents out.new) outgoing.new (flat_map (λ word. codes " " ++ word.now) words.now) }
+fn later_words<W: Write>(outgoing: &mut Outgoing, out: &mut W, words: &[Word]) -> io::Result<()>
+    ensures { IsSent result (W.contents out.old) outgoing.old (W.contents out.new) outgoing.new (flat_map (λ word. codes " " ++ word_text word) words.now) }
 {
     for word in words {
         later_word(outgoing, out, word)?;
@@ -31,9 +51,9 @@ pub(crate) fn line<W: Write>(
     outgoing: &mut Outgoing,
     out: &mut W,
     first: &[u8],
-    later: &[&[u8]],
+    later: &[Word],
 ) -> io::Result<()>
-    ensures { IsSent result (W.contents out.old) outgoing.old (W.contents out.new) outgoing.new (line_text (first.now ∷ map (λ word. word.now) later.now)) }
+    ensures { IsSent result (W.contents out.old) outgoing.old (W.contents out.new) outgoing.new (line_text (first.now ∷ map word_text later.now)) }
 {
     outgoing.put(out, first)?;
     later_words(outgoing, out, later)?;

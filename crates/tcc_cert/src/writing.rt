@@ -8,10 +8,9 @@ ghost use Rattle.tcc_cert.specs.private.Writing.{IsSent};
 ghost use Rattle.tcc_cert.specs.Texts.{line_text, lines_text, step_words, link_lines, header_words, clocks_lines, order_lines, certificate_text};
 
 use crate::cycle_writer::write_cycle;
-use crate::lines::{line, number_line, table};
+use crate::lines::{Word, line, number_line, table};
 use crate::outgoing::Outgoing;
 use crate::{CertWriteFault, Certificate, Links, OrderClaim, Table, Version};
-use itoa::Buffer;
 use std::io::{self, Write};
 use tcc_graph::{Level, Link, Step};
 use tcc_txn::Name;
@@ -20,9 +19,7 @@ use tcc_txn::Name;
 fn session<W: Write>(outgoing: &mut Outgoing, out: &mut W, from: u32, to: u32) -> io::Result<()>
     ensures { IsSent result (W.contents out.old) outgoing.old (W.contents out.new) outgoing.new (line_text (step_words (step.Session from to))) }
 {
-    let mut first = Buffer::new();
-    let mut second = Buffer::new();
-    let words = [first.format(from).as_bytes(), second.format(to).as_bytes()];
+    let words = [Word::Number(from as usize), Word::Number(to as usize)];
     line(outgoing, out, b"S", &words)
 }
 
@@ -36,12 +33,10 @@ fn reads<W: Write>(
 ) -> io::Result<()>
     ensures { IsSent result (W.contents out.old) outgoing.old (W.contents out.new) outgoing.new (line_text (step_words (step.Reads from to key.now))) }
 {
-    let mut first = Buffer::new();
-    let mut second = Buffer::new();
     let words = [
-        first.format(from).as_bytes(),
-        second.format(to).as_bytes(),
-        key.bytes(),
+        Word::Number(from as usize),
+        Word::Number(to as usize),
+        Word::Text(key.bytes()),
     ];
     line(outgoing, out, b"R", &words)
 }
@@ -78,16 +73,12 @@ fn derived<W: Write>(
     ensures { IsSent result (W.contents out.old) outgoing.old (W.contents out.new) outgoing.new
         (line_text (codes "D" ∷ decimal from ∷ decimal to ∷ key.now ∷ decimal reader ∷ decimal steps ∷ [])) }
 {
-    let mut first = Buffer::new();
-    let mut second = Buffer::new();
-    let mut third = Buffer::new();
-    let mut fourth = Buffer::new();
     let words = [
-        first.format(from).as_bytes(),
-        second.format(to).as_bytes(),
-        key.bytes(),
-        third.format(reader).as_bytes(),
-        fourth.format(steps).as_bytes(),
+        Word::Number(from as usize),
+        Word::Number(to as usize),
+        Word::Text(key.bytes()),
+        Word::Number(reader as usize),
+        Word::Number(steps),
     ];
     line(outgoing, out, b"D", &words)
 }
@@ -95,18 +86,18 @@ fn derived<W: Write>(
 fn link<W: Write>(outgoing: &mut Outgoing, out: &mut W, link: &Link) -> io::Result<()>
     ensures { IsSent result (W.contents out.old) outgoing.old (W.contents out.new) outgoing.new (lines_text (link_lines link.now)) }
 {
+    let (from, to) = (link.from(), link.to());
     match link {
-        Link::Session { from, to } => session(outgoing, out, *from, *to),
-        Link::Reads { from, to, key } => reads(outgoing, out, *from, *to, key),
+        Link::Session { .. } => session(outgoing, out, from, to),
+        Link::Reads { key, .. } => reads(outgoing, out, from, to, key),
         Link::Derived {
-            from,
-            to,
             key,
             reader,
             walk,
+            ..
         } => {
             let taken = walk.as_slice();
-            derived(outgoing, out, *from, *to, key, *reader, taken.len())?;
+            derived(outgoing, out, from, to, key, *reader, taken.len())?;
             steps(outgoing, out, taken)
         }
     }
@@ -124,25 +115,6 @@ pub(crate) fn link_lines<W: Write>(
         link(outgoing, out, one)?;
     }
     Ok(())
-}
-
-/// `order N S`
-fn order_sizes<W: Write>(
-    outgoing: &mut Outgoing,
-    out: &mut W,
-    transactions: usize,
-    sessions: u32,
-) -> io::Result<()>
-    ensures { IsSent result (W.contents out.old) outgoing.old (W.contents out.new) outgoing.new
-        (line_text (codes "order" ∷ decimal transactions ∷ decimal sessions ∷ [])) }
-{
-    let mut first = Buffer::new();
-    let mut second = Buffer::new();
-    let words = [
-        first.format(transactions).as_bytes(),
-        second.format(sessions).as_bytes(),
-    ];
-    line(outgoing, out, b"order", &words)
 }
 
 /// The clocks behind their mark, and nothing where the level has none.
@@ -168,7 +140,11 @@ fn order<W: Write>(outgoing: &mut Outgoing, out: &mut W, claim: &OrderClaim) -> 
     ensures { IsSent result (W.contents out.old) outgoing.old (W.contents out.new) outgoing.new (lines_text (order_lines claim.now)) }
 {
     let order = claim.order.as_slice();
-    order_sizes(outgoing, out, order.len(), claim.sessions)?;
+    let sizes = [
+        Word::Number(order.len()),
+        Word::Number(claim.sessions as usize),
+    ];
+    line(outgoing, out, b"order", &sizes)?;
     number_line(outgoing, out, order)?;
     clocks(outgoing, out, claim.level, &claim.clocks)?;
     line(outgoing, out, b"end", &[])
@@ -185,15 +161,12 @@ pub(crate) fn cycle_sizes<W: Write>(
     ensures { IsSent result (W.contents out.old) outgoing.old (W.contents out.new) outgoing.new
         (line_text (codes "cycle" ∷ decimal transactions ∷ decimal links ∷ decimal least ∷ [])) }
 {
-    let mut first = Buffer::new();
-    let mut second = Buffer::new();
-    let mut third = Buffer::new();
-    let words = [
-        first.format(transactions).as_bytes(),
-        second.format(links).as_bytes(),
-        third.format(least).as_bytes(),
+    let sizes = [
+        Word::Number(transactions),
+        Word::Number(links),
+        Word::Number(least as usize),
     ];
-    line(outgoing, out, b"cycle", &words)
+    line(outgoing, out, b"cycle", &sizes)
 }
 
 /// The line that names the version and the level.
@@ -206,24 +179,29 @@ pub(crate) fn header_line<W: Write>(
     ensures { IsSent result (W.contents out.old) outgoing.old (W.contents out.new) outgoing.new (line_text (header_words version level)) }
 {
     match (version, level) {
-        (Version::One, Level::Causal) => line(outgoing, out, b"tcc-certificate", &[b"1"]),
+        (Version::One, Level::Causal) => line(
+            outgoing,
+            out,
+            b"tcc-certificate",
+            &[Word::Text(b"1")],
+        ),
         (Version::One, Level::Atomic) => line(
             outgoing,
             out,
             b"tcc-certificate",
-            &[b"1", b"atomic"],
+            &[Word::Text(b"1"), Word::Text(b"atomic")],
         ),
         (Version::Two, Level::Causal) => line(
             outgoing,
             out,
             b"tcc-certificate",
-            &[b"2", b"causal"],
+            &[Word::Text(b"2"), Word::Text(b"causal")],
         ),
         (Version::Two, Level::Atomic) => line(
             outgoing,
             out,
             b"tcc-certificate",
-            &[b"2", b"atomic"],
+            &[Word::Text(b"2"), Word::Text(b"atomic")],
         ),
     }
 }

@@ -12,7 +12,7 @@ abbrev pub Shows : {X : Type 0} → Result X CertFaultKind → Result X CertFaul
 Shows (Ok x) shown = shown ≡ Ok x
 Shows (Err kind) shown = (shown ≡ Err kind) ⊎ (kind ≡ NoMemory)
 
--- the same of the items of a vector
+-- the items of a vector that a line shows, unless memory was refused
 abbrev pub ShowsItems : {X : Type 0} → Result (Vec X) CertFaultKind → Result (List X) CertFaultKind → Type 0
 ShowsItems (Ok vec) shown = shown ≡ Ok vec.items
 ShowsItems (Err kind) shown = (shown ≡ Err kind) ⊎ (kind ≡ NoMemory)

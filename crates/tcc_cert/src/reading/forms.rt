@@ -2,13 +2,15 @@
 ghost use Rattle.std.specs.Prelude.{◌≡◌, map};
 ghost use Rattle.tcc_cert.specs.Reading.{count_of, cycle_sizes, derived_of, five_words, head_line, head_of_step, key_of};
 ghost use Rattle.tcc_cert.specs.Reading.{order_sizes, reads_of, session_of, sizes_line, step_line, three_words};
-ghost use Rattle.tcc_cert.specs.Reading.{transaction_of, two_words};
+ghost use Rattle.tcc_cert.specs.Reading.{transaction_of, two_words, words};
 
 use super::decimals::number_of;
-use super::words::WordLine;
-use crate::CertFaultKind;
+use super::input::Input;
+use super::words::{Entry, WordLine, next_line};
 use crate::ranges::{Scale, ranges_at};
+use crate::{CertFault, CertFaultKind};
 use std::alloc::Global;
+use std::io::Read;
 use tcc_graph::{Link, Step, Walk};
 use tcc_txn::Name;
 
@@ -111,6 +113,14 @@ impl WordLine for Step {
         } else {
             Err(CertFaultKind::Word)
         }
+    }
+}
+
+impl Entry for Step {
+    ghost entry = { λ scale. words scale (step_line scale) };
+
+    fn next<R: Read>(alloc: Global, input: &mut Input<R>, scale: Scale) -> Result<Step, CertFault> {
+        next_line(alloc, input, scale)
     }
 }
 

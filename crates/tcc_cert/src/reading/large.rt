@@ -4,12 +4,12 @@ ghost use Rattle.tcc_cert.specs.private.Inputs.{AsBefore, Gives};
 ghost use Rattle.tcc_cert.specs.InputBytes.{IsAt};
 ghost use Rattle.tcc_cert.specs.Outcomes.{IsLargeReading};
 ghost use Rattle.tcc_cert.specs.Reading.{Position, link_at, next, repeated, start_of};
-ghost use Rattle.tcc_cert.specs.LargeReading.{large_behind_header, large_certificate_at, large_claim_at, large_header_line, least_at, links_claim_at, runs_at, runs_claim_at};
+ghost use Rattle.tcc_cert.specs.LargeReading.{large_behind_header, large_certificate_at, large_claim_at, large_header_line, least_at, links_claim_at, runs_at};
 ghost use Rattle.tcc_cert.specs.declared.ranges.TheConstants.{MAX_HEADER_BYTES};
 
 use super::input::{Input, at_line};
 use super::large_forms::{LargeSizes, Tail};
-use super::links::{lines, links};
+use super::links::entries;
 use super::mark;
 use super::words::next_line;
 use crate::ranges::{MAX_HEADER_BYTES, Scale};
@@ -17,7 +17,7 @@ use crate::version_3::V3_MAX_TEXT_BYTES;
 use crate::{CertFault, CertFaultKind, LargeCertificate, LinksClaim, Run, Runs, RunsClaim};
 use std::alloc::Global;
 use std::io::Read;
-use tcc_graph::Level;
+use tcc_graph::{Level, Link};
 
 /// The text is given up where it has more bytes than this: one more than it may have, so that its end is met.
 pub(crate) const MOST_BYTES: usize = V3_MAX_TEXT_BYTES + 1;
@@ -27,7 +27,7 @@ fn runs<R: Read>(alloc: Global, input: &mut Input<R>, count: u32) -> Result<Runs
     ensures works { OnOk result (AsBefore input.old input.new) }
     ensures gives { (at : Position) → IsAt R.remaining input.old at → Gives R.remaining at (runs_at count at) result input.new }
 {
-    let runs = lines::<Run, R>(alloc, input, Scale::Large, count)?;
+    let runs = entries::<Run, R>(alloc, input, Scale::Large, count)?;
     mark(alloc, input, Scale::Large, b"end")?;
     Ok(runs)
 }
@@ -47,28 +47,6 @@ fn least<R: Read>(
     }
 }
 
-/// The claim of an order, behind its sizes.
-fn order<R: Read>(
-    alloc: Global,
-    input: &mut Input<R>,
-    level: Level,
-    transactions: u32,
-    sessions: u32,
-    count: u32,
-) -> Result<LargeCertificate, CertFault>
-    ensures works { OnOk result (AsBefore input.old input.new) }
-    ensures gives { (at : Position) → IsAt R.remaining input.old at
-        → Gives R.remaining at (runs_claim_at level transactions sessions count at) result input.new }
-{
-    let runs = runs(alloc, input, count)?;
-    Ok(LargeCertificate::Order(RunsClaim {
-        level,
-        transactions,
-        sessions,
-        runs,
-    }))
-}
-
 /// The claim of a cycle, behind its sizes.
 fn cycle<R: Read>(
     alloc: Global,
@@ -82,7 +60,7 @@ fn cycle<R: Read>(
     ensures gives { (at : Position) → IsAt R.remaining input.old at
         → Gives R.remaining at (links_claim_at level transactions count cost at) result input.new }
 {
-    let links = links(alloc, input, Scale::Large, count)?;
+    let links = entries::<Link, R>(alloc, input, Scale::Large, count)?;
     let tail = next_line::<Tail, R>(alloc, input, Scale::Large)?;
     let least = least(alloc, input, tail)?;
     Ok(LargeCertificate::Cycle(LinksClaim {
@@ -108,8 +86,16 @@ fn claim<R: Read>(
         LargeSizes::Order {
             transactions,
             sessions,
-            runs,
-        } => order(alloc, input, level, transactions, sessions, runs),
+            runs: count,
+        } => {
+            let runs = runs(alloc, input, count)?;
+            Ok(LargeCertificate::Order(RunsClaim {
+                level,
+                transactions,
+                sessions,
+                runs,
+            }))
+        }
         LargeSizes::Cycle {
             transactions,
             links,

@@ -1,15 +1,17 @@
 //! What one line of version 3 says.
 ghost use Rattle.std.specs.Prelude.{◌≡◌, map};
-ghost use Rattle.tcc_cert.specs.Reading.{three_words, two_words};
+ghost use Rattle.tcc_cert.specs.Reading.{three_words, two_words, words};
 ghost use Rattle.tcc_cert.specs.LargeReading.{large_cycle_sizes, large_order_sizes, large_sizes_line, least_of, no_words, one_word, run_line, run_of, runs_of, tail_line};
 
 use super::decimals::number_of;
 use super::forms::count_of;
-use super::words::WordLine;
+use super::input::Input;
+use super::words::{Entry, WordLine, next_line};
 use crate::ranges::Scale;
 use crate::version_3::{V3_MAX_COST, V3_MAX_NUMBER, V3_MAX_RUNS, V3_MAX_SESSION, V3_MAX_SESSIONS};
-use crate::{CertFaultKind, Run};
+use crate::{CertFault, CertFaultKind, Run};
 use std::alloc::Global;
+use std::io::Read;
 
 /// How long a claim is, and what the cycle costs.
 #[derive(Clone, Copy)]
@@ -53,6 +55,14 @@ impl WordLine for Run {
             [session, count] => run_of(session, count),
             _ => Err(CertFaultKind::Count),
         }
+    }
+}
+
+impl Entry for Run {
+    ghost entry = { λ scale. words scale run_line };
+
+    fn next<R: Read>(alloc: Global, input: &mut Input<R>, scale: Scale) -> Result<Run, CertFault> {
+        next_line(alloc, input, scale)
     }
 }
 

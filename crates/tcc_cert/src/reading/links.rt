@@ -2,31 +2,31 @@
 ghost use Rattle.std.specs.Prelude.{◌≡◌, OnOk};
 ghost use Rattle.tcc_cert.specs.private.Inputs.{AsBefore, Gives};
 ghost use Rattle.tcc_cert.specs.InputBytes.{IsAt};
-ghost use Rattle.tcc_cert.specs.Reading.{Position, link_at, repeated, with_walk, words};
+ghost use Rattle.tcc_cert.specs.Reading.{Position, link_at, repeated, with_walk};
 
 use super::forms::Head;
 use super::input::Input;
-use super::words::{WordLine, next_line};
+use super::words::{Entry, next_line};
 use crate::ranges::Scale;
-use crate::{CertFault, CertFaultKind, Links};
+use crate::{CertFault, CertFaultKind};
 use std::alloc::Global;
 use std::io::Read;
 use tcc_graph::{Link, Step, Walk};
 use tcc_txn::ListOf;
 
-/// The next lines, so many, each of this form.
-pub(crate) fn lines<L: WordLine, R: Read>(
+/// The next entries, so many.
+pub(crate) fn entries<E: Entry, R: Read>(
     alloc: Global,
     input: &mut Input<R>,
     scale: Scale,
     count: u32,
-) -> Result<ListOf<L>, CertFault>
+) -> Result<ListOf<E>, CertFault>
     ensures works { OnOk result (AsBefore input.old input.new) }
-    ensures gives { (at : Position) → IsAt R.remaining input.old at → Gives R.remaining at (repeated (words scale (L.form scale)) count at) result input.new }
+    ensures gives { (at : Position) → IsAt R.remaining input.old at → Gives R.remaining at (repeated (E.entry scale) count at) result input.new }
 {
     let mut items = Vec::new(alloc);
-    'lines: for _ in 0..count {
-        let one = next_line::<L, R>(alloc, input, scale)?;
+    'entries: for _ in 0..count {
+        let one = E::next(alloc, input, scale)?;
         match items.push(one) {
             Ok(()) => {}
             Err(_) => return Err(input.fault(CertFaultKind::NoMemory)),
@@ -68,27 +68,14 @@ pub(crate) fn link<R: Read>(
     ensures gives { (at : Position) → IsAt R.remaining input.old at → Gives R.remaining at (link_at scale at) result input.new }
 {
     let head = next_line::<Head, R>(alloc, input, scale)?;
-    let walk = lines::<Step, R>(alloc, input, scale, head.steps)?;
+    let walk = entries::<Step, R>(alloc, input, scale, head.steps)?;
     Ok(with_walk(head.link, walk))
 }
 
-/// The next lines, so many links.
-pub(crate) fn links<R: Read>(
-    alloc: Global,
-    input: &mut Input<R>,
-    scale: Scale,
-    count: u32,
-) -> Result<Links, CertFault>
-    ensures works { OnOk result (AsBefore input.old input.new) }
-    ensures gives { (at : Position) → IsAt R.remaining input.old at → Gives R.remaining at (repeated (link_at scale) count at) result input.new }
-{
-    let mut items = Vec::new(alloc);
-    'links: for _ in 0..count {
-        let one = link(alloc, input, scale)?;
-        match items.push(one) {
-            Ok(()) => {}
-            Err(_) => return Err(input.fault(CertFaultKind::NoMemory)),
-        }
+impl Entry for Link {
+    ghost entry = { link_at };
+
+    fn next<R: Read>(alloc: Global, input: &mut Input<R>, scale: Scale) -> Result<Link, CertFault> {
+        link(alloc, input, scale)
     }
-    Ok(Links::new(items))
 }

@@ -2,7 +2,7 @@
 ghost use Rattle.std.specs.Prelude.{◌≡◌, ◌<◌, ◌+◌, ℕ, IfOk, OnOk};
 ghost use Rattle.tcc_cert.specs.private.Inputs.{AsBefore};
 ghost use Rattle.tcc_cert.specs.InputBytes.{IsAt};
-ghost use Rattle.tcc_cert.specs.Parts.{Parts, end_parts, far_parts, link_rows, order_parts, order_rest, parts_behind, whole_parts};
+ghost use Rattle.tcc_cert.specs.Parts.{Parts, end_parts, link_rows, order_parts, order_rest, parts_behind, whole_parts};
 ghost use Rattle.tcc_cert.specs.Reading.{Position};
 ghost use Rattle.tcc_cert.specs.Shapes.{behind_table, height, links_from, rows_from, table_parts, table_rows};
 ghost use Rattle.tcc_cert.specs.private.Stages.{IsBegun, IsClaimStep, IsRowStep, IsStepAt, TakesStep};
@@ -97,45 +97,27 @@ fn table_row<R: Read>(alloc: Global, input: &mut Input<R>, left: RowsLeft) -> Ne
     Ok((table.part(numbers), Stage::Going(coming)))
 }
 
-/// The line `far`, and its first row.
-fn far<R: Read>(
-    alloc: Global,
-    input: &mut Input<R>,
-    version: Version,
-    transactions: u32,
-) -> NextPart
+/// What comes behind the last row of a table: behind those of `near` the line `far`, and its first row.
+fn behind_table<R: Read>(alloc: Global, input: &mut Input<R>, last: RowsLeft) -> NextPart
     ensures works { OnOk result (AsBefore input.old input.new) }
-    ensures step { (at : Position) → IsAt R.remaining input.old at → TakesStep R.remaining at.line (far_parts version transactions at) result input.new }
-    ensures row { IfOk result (λ given. IsRowStep transactions given) }
+    ensures step { (at : Position) → IsAt R.remaining input.old at → TakesStep R.remaining at.line (behind_table last.version last.table at) result input.new }
+    ensures row { IfOk result (λ given. IsRowStep (rows_from last.table 0) given) }
 {
-    let table = TableShape::Far { transactions };
-    mark(alloc, input, Scale::Small(version), b"far")?;
-    if transactions > 0 {
-        let left = RowsLeft {
-            version,
-            table,
-            many: transactions,
-        };
-        table_row(alloc, input, left)
-    } else {
-        end(alloc, input, version)
-    }
-}
-
-/// What comes behind the last row of a table.
-fn behind_table<R: Read>(
-    alloc: Global,
-    input: &mut Input<R>,
-    version: Version,
-    table: TableShape,
-) -> NextPart
-    ensures works { OnOk result (AsBefore input.old input.new) }
-    ensures step { (at : Position) → IsAt R.remaining input.old at → TakesStep R.remaining at.line (behind_table version table at) result input.new }
-    ensures row { IfOk result (λ given. IsRowStep (rows_from table 0) given) }
-{
-    match table {
+    let version = last.version;
+    match last.table {
         TableShape::Clocks { .. } | TableShape::Far { .. } => end(alloc, input, version),
-        TableShape::Near { transactions } => far(alloc, input, version, transactions),
+        TableShape::Near { transactions } => {
+            mark(alloc, input, Scale::Small(version), b"far")?;
+            if transactions == 0 {
+                return end(alloc, input, version);
+            }
+            let left = RowsLeft {
+                version,
+                table: TableShape::Far { transactions },
+                many: transactions,
+            };
+            table_row(alloc, input, left)
+        }
     }
 }
 
@@ -149,7 +131,7 @@ fn rows<R: Read>(alloc: Global, input: &mut Input<R>, left: RowsLeft) -> NextPar
     if left.many > 0 {
         table_row(alloc, input, left)
     } else {
-        behind_table(alloc, input, left.version, left.table)
+        behind_table(alloc, input, left)
     }
 }
 

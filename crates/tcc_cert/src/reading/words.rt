@@ -24,6 +24,24 @@ pub(crate) trait WordLine: Drop {
         ensures { result ≡ form scale (map (λ word. word.now) words.now) };
 }
 
+/// What one line says, or some that belong together.
+pub(crate) trait Entry: Drop {
+    ghost use Rattle.std.specs.Prelude.{OnOk};
+    ghost use Rattle.tcc_cert.specs.declared.ranges.Scale.{Scale};
+    ghost use Rattle.tcc_cert.specs.InputBytes.{IsAt};
+    ghost use Rattle.tcc_cert.specs.Reading.{Position, Reads};
+    ghost use Rattle.tcc_cert.specs.private.Inputs.{AsBefore, Gives};
+    ghost use Rattle.tcc_cert.specs.private.Onward.{IsOnward};
+
+    ghost entry: { Scale → Position → Reads Self };
+
+    /// The next one.
+    fn next<R: Read>(alloc: Global, input: &mut Input<R>, scale: Scale) -> Result<Self, CertFault>
+        ensures works { OnOk result (AsBefore input.old input.new) }
+        ensures gives { (at : Position) → IsAt R.remaining input.old at → Gives R.remaining at (entry scale at) result input.new }
+        ensures onward { (at : Position) → IsOnward at (entry scale at) };
+}
+
 /// What stands between the spaces of a line.
 pub(crate) fn words_of(alloc: Global, line: &[u8]) -> Result<Vec<&[u8]>, AllocError>
     ensures { IfOk result (λ words. map (λ word. word.now) words.items ≡ words_of line.now) }

@@ -1,8 +1,10 @@
 -- Each level has a line of its own.
+use Rattle.tcc_cert.proofs.large_writing.header_line.Goals.{in-Causal, in-Atomic}
 use Rattle.tcc_cert.proofs.large_writing.header_line.Goals as goal
 
-pub returns-in-Causal : goal.returns-in-Causal
-returns-in-Causal g c = rw c.in-Causal.is c.line.ensures
-
-pub returns-in-Atomic : goal.returns-in-Atomic
-returns-in-Atomic g c = rw c.in-Atomic.is c.line-in-Atomic.ensures
+pub returns : goal.returns
+returns g c =
+    elim c.match-level.branch [
+      | in-Causal w ↦ rw w.in-Causal.is (rw w.level-is at c.line.ensures)
+      | in-Atomic w ↦ rw w.in-Atomic.is (rw w.level-is at c.line.ensures)
+    ]

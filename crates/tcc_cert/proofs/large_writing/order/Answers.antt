@@ -2,11 +2,11 @@
 use Rattle.tcc_cert.proofs.SentFacts.{failed, IsSent-then, Stops-early}
 use Rattle.tcc_cert.proofs.large_writing.order.Goals as goal
 
-pub returns-in_err-order_sizes : goal.returns-in_err-order_sizes
-returns-in_err-order_sizes g c =
+pub returns-in_err-line : goal.returns-in_err-line
+returns-in_err-line g c =
     failed c.from_residual.result _ _ _ _ _ c.from_residual.ensures.0
-    (Stops-early _ (rw c.as_slice-many.ensures at c.in_err-order_sizes.ensures))
+    (Stops-early _ (rw c.as_slice.ensures at c.in_err-line.ensures))
 
 pub returns : goal.returns
 returns g c =
-    IsSent-then c.runs_to_end.result _ _ _ _ _ _ _ _ (rw c.as_slice-many.ensures at c.in_ok-order_sizes.ensures) c.runs_to_end.ensures
+    IsSent-then c.runs_to_end.result _ _ _ _ _ _ _ _ (rw c.as_slice.ensures at c.in_ok-line.ensures) c.runs_to_end.ensures

@@ -6,4 +6,4 @@ pub returns-in_err-put : goal.returns-in_err-put
 returns-in_err-put g c = failed c.from_residual.result _ _ _ _ _ c.from_residual.ensures.0 (Stops-early _ c.in_err-put.ensures)
 
 pub returns : goal.returns
-returns g c = IsSent-then _ _ _ _ _ _ _ _ _ c.in_ok-put.ensures c.put-2.ensures
+returns g c = IsSent-then _ _ _ _ _ _ _ _ _ c.in_ok-put.ensures c.put_word.ensures
