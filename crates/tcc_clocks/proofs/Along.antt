@@ -52,18 +52,22 @@ parents_below h numbered c low all =
     All-weaker (Contains (parents h c)) (λ b. b < count h) (λ b there. (pair_below h b c (parent_pair h numbered c low all b there)).0) (parents h c)
     (All-contains_itself (parents h c))
 
--- the rows of the next one's parents are there
+-- the rows of those that stand before the next one are there
+pub rows_before : (h : History) (IsRow : ℕ → List ℕ → Type 0) (order : List ℕ) (k : ℕ) (table : List (List ℕ)) (among : List ℕ) → IsNumbering (count h) order
+    → k < length order → ((p : ℕ) → Contains among p → (p < count h) × Before order p (get_or order k 0)) → HaveRows h IsRow (Contains (take k order)) table
+    → All (λ p. IsRow p (row_of table p)) among
+rows_before h IsRow order k table among numbering inside before done =
+    All-weaker (Contains among) (λ p. IsRow p (row_of table p)) (λ p there. done p (before p there).0 (taken_before order k p numbering inside (before p there).1))
+    among (All-contains_itself among)
+
+-- so are those of its parents
 pub parents_have : (h : History) → IsBySession h.entries → (IsRow : ℕ → List ℕ → Type 0) (order : List ℕ) (k : ℕ) (table : List (List ℕ))
     → IsNumbering (count h) order → LeadsOnward h order → k < length order → HasSourcesAt h (get_or order k 0)
     → HaveRows h IsRow (Contains (take k order)) table → All (λ p. IsRow p (row_of table p)) (parents h (get_or order k 0))
 parents_have h numbered IsRow order k table numbering onward inside all done =
-    All-weaker (Contains (parents h c)) (λ p. IsRow p (row_of table p)) there (parents h c) (All-contains_itself (parents h c))
+    rows_before h IsRow order k table (parents h (get_or order k 0)) numbering inside there done
   where
-    c : ℕ
-    c = get_or order k 0
-
-    there : (p : ℕ) → Contains (parents h (get_or order k 0)) p → IsRow p (row_of table p)
-    there p parent = done p (pair_below h p c pair).0 (taken_before order k p numbering inside (onward p c pair))
-      where
-        pair : IsCausalPair h p (get_or order k 0)
-        pair = parent_pair h numbered c (below_in numbering k inside) all p parent
+    there : (p : ℕ) → Contains (parents h (get_or order k 0)) p → (p < count h) × Before order p (get_or order k 0)
+    there p parent =
+        let pair : IsCausalPair h p (get_or order k 0) = parent_pair h numbered (get_or order k 0) (below_in numbering k inside) all p parent in
+        ((pair_below h p (get_or order k 0) pair).0, onward p (get_or order k 0) pair)

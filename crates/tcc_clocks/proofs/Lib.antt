@@ -1,6 +1,8 @@
 pub mod Reaching
 pub mod Along
 pub mod UpTo
+pub mod EntryLemmas
+pub mod RowLemmas
 pub mod NamedRows
 pub mod StepLemmas
 pub mod LatestLemmas

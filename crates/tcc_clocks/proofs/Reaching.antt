@@ -74,6 +74,11 @@ module _ (h : History) (numbered : IsBySession h.entries) where
       go (inl w) = omega (arith, w.0, w.1)
       go (inr w) = in_order w (cases_order a b)
 
+  -- of one session, and in the order of their numbers
+  pub same_session : (b d : ℕ) → 0 < b → b < d → d < count h → owner h b ≡ owner h d → IsSessionPair h b d
+  same_session b d some less below same =
+      session_from h b d (omega (arith, less, below)) below (some, omega (arith, less), same, (numbered b d less below).1 same)
+
   -- between a transaction and another of its session stand those of the session alone
   between : (a c : ℕ) → IsInSession h a c → a < c - 1 → c < count h → IsInSession h a (c - 1) × IsInSession h (c - 1) c
   between a c w less below =

@@ -6,10 +6,14 @@
 
 mod latest;
 mod parents;
+mod rows;
 mod sharing;
+mod side;
 mod spans;
 
-pub use latest::{WIDE, find_clocks, like, owners, raise_each};
+pub use latest::{WIDE, find_clocks, owners};
 pub use parents::{Steps, between, find_parents, parents_of, previous_of_each, steps_along};
+pub use rows::{like, put_row, raise_each};
 pub use sharing::{Clock, SharedRows};
+pub use side::Side;
 pub use spans::{block_bounds, find_spans};

@@ -19,7 +19,9 @@ use Rattle.tcc_clocks.specs.declared.latest.TheConstants.{WIDE}
 use Rattle.tcc_order.specs.private.CausalLinks.{IsLatestPast, AreLatestPast, IsOverwritten, IsLiftable, IsLifted, IsClock, IsCovered, AreEnough, Overwrites, TellsNothing}
 use Rattle.tcc_order.specs.private.ByKey.{AreReadingsFrom, AreReadingRows, IsBeside, AddsReadings, IsTop, AreAlike, IsLikeBefore, reader_in, key_index_in}
 use Rattle.tcc_order.proofs.Readings.{key_place}
-use Rattle.tcc_order.proofs.Needing.{IsUpTo, same_session, clock_reaches, passed_enough}
+use Rattle.tcc_clocks.proofs.EntryLemmas.{clock_reaches}
+use Rattle.tcc_clocks.proofs.Reaching.{same_session}
+use Rattle.tcc_order.proofs.Needing.{IsUpTo, passed_enough}
 
 -- ---- how they come together
 pub added_none : (sources readers : List ℕ) (key_index : ℕ) (rows : List (List (ℕ × ℕ))) → AddsReadings sources readers key_index 0 rows rows

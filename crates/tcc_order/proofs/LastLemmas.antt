@@ -1,10 +1,10 @@
 -- Last places: of those meant so far, and of one more.
-use Rattle.std.proofs.Common.{◌≡◌, ◌<◌, ◌≤◌, ◌+◌, ◌==◌, ◌↔◌, ◌⊎◌, inl, inr, ℕ, true, false, ◌&&◌, nat_lt, List, [], length, get_or, set, take, replicate}
+use Rattle.std.proofs.Common.{◌≡◌, ◌<◌, ◌≤◌, ◌+◌, ◌==◌, ◌↔◌, ◌⊎◌, inl, inr, ℕ, true, false, ◌&&◌, nat_lt, List, [], length, get_or, take, replicate}
 use Rattle.std.proofs.Common.{slice_index, refl, sym, ◌∙◌, subst, arith}
 use Rattle.std.specs.Prelude.{max}
 use Rattle.std.specs.List.{All, Contains}
 use Rattle.std.proofs.lemmas.Bool.{cases_lt, cases_Bool, and_parts, and_from, ltb-true, lt-ltb, eqb-true, eq-eqb, false≢true}
-use Rattle.std.proofs.lemmas.List.{get_or-replicate, length-replicate, get_or_default, length-set}
+use Rattle.std.proofs.lemmas.List.{get_or-replicate, length-replicate, get_or_default}
 use Rattle.tcc_reads.specs.History.{History, IsBySession, count, owner, place}
 use Rattle.tcc_graph.specs.Walks.{IsReached}
 use Rattle.tcc_graph.specs.Levels.{causally}
@@ -17,8 +17,9 @@ use Rattle.tcc_clocks.specs.Parents.{HasSourcesAt, parents}
 use Rattle.tcc_clocks.specs.Clocks.{IsOneOf, IsBefore, LeadsOnward}
 use Rattle.tcc_order.specs.private.Lasts.{IsLastOf, AreLastsOf, raised, HasLasts}
 use Rattle.tcc_clocks.specs.private.Rows.{IsUpTo}
-use Rattle.tcc_clocks.proofs.UpTo.{one_same, up_to_more}
-use Rattle.tcc_clocks.proofs.Along.{rows_more, parents_below, parents_have}
+use Rattle.tcc_clocks.specs.declared.side.Side.TheVariants.{Past}
+use Rattle.tcc_clocks.proofs.UpTo.{one_same, with_more}
+use Rattle.tcc_clocks.proofs.Along.{parents_below, parents_have}
 
 -- ---- one session
 last_same : (h : History) (P Q : ℕ → Type 0) (session last : ℕ) → ((b : ℕ) → P b ↔ Q b) → IsLastOf h P session last → IsLastOf h Q session last
@@ -104,7 +105,7 @@ pub lasts_more : (h : History) (numbers : List ℕ) (k p : ℕ) (old mid new oth
 lasts_more h numbers k p old mid new other inside here below are before long_mid each_mid long_new each_new = record {
   long = long_new ∙ (long_mid ∙ are.long);
   each = λ s of. last_same h (λ b. (IsUpTo h (Contains (take k numbers)) b ⊎ IsReached h b p) ⊎ (b ≡ p)) (IsUpTo h (Contains (take (k + 1) numbers))) s
-      (slice_index new s) (up_to_more h numbers k p inside here) (step s of);
+      (slice_index new s) (with_more Past h numbers k p inside here) (step s of);
 }
   where
     step : (s : ℕ) → s < length h.sessions → IsLastOf h (λ b. (IsUpTo h (Contains (take k numbers)) b ⊎ IsReached h b p) ⊎ (b ≡ p)) s (slice_index new s)
@@ -114,20 +115,9 @@ lasts_more h numbers k p old mid new other inside here below are before long_mid
         (last_both h (IsBefore h p) (IsUpTo h (Contains (take k numbers))) s (slice_index other s) (slice_index old s) (before.each s of) (are.each s of)))
 
 -- ---- tables
-pub table_none : (h : History) (table : List (List ℕ)) (order : List ℕ) → length table ≡ count h → HasLasts h (Contains (take 0 order)) table
-table_none h table order long = record { long = long; each = λ c l there. absurd (nothing_in c there) }
-
-pub table_more : (h : History) (table : List (List ℕ)) (order row : List ℕ) (k : ℕ) → k < length order → get_or order k 0 < count h
-    → HasLasts h (Contains (take k order)) table
-    → AreLastsOf h (IsBefore h (get_or order k 0)) row → HasLasts h (Contains (take (k + 1) order)) (set table (get_or order k 0) row)
-table_more h table order row k inside low before new = record {
-  long = omega (arith, before.long, length-set {A = List ℕ});
-  each = rows_more h (λ c row. AreLastsOf h (IsBefore h c) row) table order row k inside (omega (arith, low, before.long)) before.each new;
-}
-
-pub table_whole : (h : History) (table : List (List ℕ)) (order : List ℕ) → ((c : ℕ) → c < count h → Contains order c) → HasLasts h (Contains order) table
+pub table_clocks : (h : History) (table : List (List ℕ)) (order : List ℕ) → ((c : ℕ) → c < count h → Contains order c) → HasLasts h (Contains order) table
     → IsClocksOf h table
-table_whole h table order each is = record {
+table_clocks h table order each is = record {
   long = is.long;
   wide = λ i d l. wide i d l;
   exact = λ t s at of. exact t s ((is.each t at (each t at)).each s of);

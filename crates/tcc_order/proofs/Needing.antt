@@ -11,13 +11,14 @@ use Rattle.tcc_graph.specs.Relations.{IsReadsPair, IsSessionPair}
 use Rattle.tcc_graph.specs.Keys.{writers}
 use Rattle.tcc_graph.specs.Walks.{IsReached}
 use Rattle.tcc_graph.specs.Tables.{row_of}
-use Rattle.tcc_graph.proofs.Pairs.{lower_first}
-use Rattle.tcc_graph.proofs.Walking.{pair_walk, reached_append}
+use Rattle.tcc_graph.proofs.Walking.{pair_walk}
 use Rattle.tcc_bits.proofs.Lists.{one_of_taken, still_taken, last_taken, nothing_in}
-use Rattle.tcc_clocks.specs.Clocks.{IsOneOf, IsBefore, AreOwners, IsLatestOf, AreLatestOf, AreClocks}
+use Rattle.tcc_clocks.specs.Clocks.{IsOneOf, IsBefore, AreOwners, AreLatestOf, AreClocks}
 use Rattle.tcc_order.specs.private.CausalLinks.{AreLatestPast, TellsNothing, IsOverwritten, IsLiftable, IsLifted, lifted_by}
 use Rattle.tcc_order.specs.private.CausalLinks.{IsCovered, IsKeptEarlier, AreRuns, KeepsNews, IsBegun, AreDerived, AreEnough, Overwrites}
 use Rattle.tcc_clocks.specs.declared.latest.TheConstants.{WIDE}
+use Rattle.tcc_clocks.proofs.EntryLemmas.{clock_reaches}
+use Rattle.tcc_clocks.proofs.Reaching.{same_session}
 use Rattle.tcc_order.proofs.KeptRows.{row_here, rows_wider, rows_derived}
 
 -- ---- one writer more
@@ -89,22 +90,6 @@ module _ (owners : List ℕ) (from : ℕ) (clock numbers : List ℕ) (a k n : �
         kept = is.kept;
         greatest = λ d w. early f d w (one_of_taken numbers n inside d w.2);
       }
-
--- ---- what a clock reaches
-pub same_session : (h : History) → IsBySession h.entries → (b d : ℕ) → 0 < b → b < d → d < count h → owner h b ≡ owner h d → IsSessionPair h b d
-same_session h numbered b d some less below same =
-    lower_first h b d some (omega arith) (omega arith) below same ((numbered b d less below).1 same)
-
-pub clock_reaches : (h : History) → IsBySession h.entries → (c session v b : ℕ) → IsLatestOf h (IsBefore h c) session v → 0 < b → b < count h
-    → owner h b ≡ session → b ≤ v → IsReached h b c
-clock_reaches h numbered c session v b is some below owned up = go is.attained (cases_eq b v)
-  where
-    go : (v ≡ 0) ⊎ IsOneOf h (IsBefore h c) session v → (b ≡ v) ⊎ (b ≢ v) → IsReached h b c
-    go (inl none) kind = absurd (omega arith)
-    go (inr one) (inl at) = rw at one.meant
-    go (inr one) (inr other) =
-        let w = pair_walk h b v (inl (same_session h numbered b v some (omega arith) one.below (owned ∙ sym one.owned))) in
-        reached_append h b v c (w.0, w.1) one.meant
 
 -- what was kept stays
 pub covered_wider : (h : History) (old new : List (List ℕ)) (a b : ℕ) → ((e d : ℕ) → Contains (row_of old e) d → Contains (row_of new e) d) → IsCovered h old a b

@@ -22,9 +22,8 @@ use Rattle.tcc_order.specs.private.CausalLinks.{IsLiftable, IsLifted, IsCovered,
 use Rattle.tcc_order.specs.private.AtomicLinks.{IsOther, StepsOver, HasParents, HaveParents, KeepsRead, KeepsSome, KeepsInto}
 use Rattle.tcc_order.proofs.Readings.{IsTaken, named_long, named_each, named_at}
 use Rattle.std.specs.Prelude.{zip}
-use Rattle.tcc_order.proofs.Needing.{same_session}
 use Rattle.tcc_clocks.proofs.Along.{parents_below}
-use Rattle.tcc_clocks.proofs.Reaching.{parent_pair, reads_source, session_rises}
+use Rattle.tcc_clocks.proofs.Reaching.{parent_pair, reads_source, same_session, session_rises}
 
 -- ---- the last own writer
 module _ (h : History) (numbered : IsBySession h.entries) (owners : List ℕ) (known : AreOwners h owners) (c : ℕ) (low : c < count h) (x : List ℕ) (a last : ℕ)

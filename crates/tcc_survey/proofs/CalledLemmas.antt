@@ -1,5 +1,5 @@
 -- The usual names of contradicted reads.
-use Rattle.std.proofs.Common.{◌≡◌, ◌≢◌, ◌<◌, ◌≤◌, ◌+◌, ◌-◌, ◌⊎◌, inl, inr, ℕ, true, false, List, [], length, map, get_or, sym, ap, ◌∙◌, subst, arith}
+use Rattle.std.proofs.Common.{◌≡◌, ◌≢◌, ◌<◌, ◌≤◌, ◌+◌, ◌-◌, ◌⊎◌, inl, inr, ℕ, true, false, List, length, map, get_or, sym, ap, ◌∙◌, subst, arith}
 use Rattle.std.specs.List.{All, Contains}
 use Rattle.std.proofs.lemmas.Bool.{cases_lt, cases_eq, false≢true}
 use Rattle.std.proofs.lemmas.List.{get_or_default}
@@ -11,12 +11,11 @@ use Rattle.tcc_graph.specs.Keys.{has_name, key_at, readers, numbers}
 use Rattle.tcc_graph.proofs.NameLemmas.{has_name-contains, contains-has_name}
 use Rattle.tcc_graph.proofs.Pairs.{PairParts, pair_kinds, pair_from_reads, pair_parts}
 use Rattle.tcc_graph.proofs.WriterLemmas.{numbers_below, number_in}
-use Rattle.tcc_clocks.proofs.Reaching.{reads_source}
+use Rattle.tcc_clocks.proofs.Reaching.{reads_source, same_session}
 use Rattle.tcc_survey.specs.declared.usual_name.UsualName.{UsualName}
 use Rattle.tcc_survey.specs.declared.usual_name.UsualName.TheVariants as name
 use Rattle.tcc_survey.specs.Names.{ReadsFrom, IsUpTo, Fits, rank, IsUsualName}
 use Rattle.tcc_survey.specs.private.Spells.{ReadsLater, ReadsAfter, IsStart}
-use Rattle.tcc_survey.proofs.FirstLemmas.{in_session}
 use Rattle.tcc_survey.proofs.ListLemmas.{listed_pair}
 
 -- ---- who reads a key
@@ -90,7 +89,7 @@ start_of h numbered c start some upto below inside outside e = (λ w. there w, �
         by : (start ≡ 1) ⊎ (IsSessionPair h (start - 1) c → ⊥) → (e ≡ c) ⊎ IsSessionPair h e c → ⊥
         by (inl one) kind = omega (arith, less, one, w.0)
         by (inr never) (inl same) = omega (arith, less, upto, same)
-        by (inr never) (inr pair) = never (in_session h numbered (start - 1) c (omega (arith, less, w.0)) (omega (arith, less, upto)) below same)
+        by (inr never) (inr pair) = never (same_session h numbered (start - 1) c (omega (arith, less, w.0)) (omega (arith, less, upto)) below same)
           where
             parts : PairParts h e c
             parts = pair_parts h e c pair

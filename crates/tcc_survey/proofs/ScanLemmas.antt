@@ -16,24 +16,12 @@ use Rattle.tcc_graph.specs.declared.level.Level.TheVariants as level
 use Rattle.tcc_graph.proofs.Pairs.{first_pair, pair_kinds, initial_pair}
 use Rattle.tcc_graph.proofs.Walking.{pair_walk, reached_append}
 use Rattle.tcc_graph.proofs.WriterLemmas.{writer_listed, writer_writes}
-use Rattle.tcc_clocks.specs.Clocks.{AreOwners, AreLatestOf, IsBefore, IsLatestOf, IsOneOf}
+use Rattle.tcc_clocks.proofs.EntryLemmas.{clock_reaches}
+use Rattle.tcc_clocks.specs.Clocks.{AreOwners, AreLatestOf, IsBefore, IsAfter}
+use Rattle.tcc_survey.specs.private.Firsts.{AreFirstOf}
 use Rattle.tcc_clocks.specs.declared.latest.TheConstants.{WIDE}
 use Rattle.tcc_survey.specs.declared.external_reads.Reading.{Reading}
-use Rattle.tcc_survey.specs.private.Firsts.{AreFirstOf, IsAfter}
 use Rattle.tcc_survey.specs.private.Settled.{IsLeastOf, IsAcyclic, IsKnown, IsHit, AreWritersIn, IsAgainst, IsLeastBefore, IsReading}
-use Rattle.tcc_survey.proofs.FirstLemmas.{in_session}
-
--- what a clock holds of a session is reached from all of the session up to it
-clock_reaches : (h : History) → IsBySession h.entries → (c session v b : ℕ) → IsLatestOf h (IsBefore h c) session v → 0 < b → b < count h
-    → owner h b ≡ session → b ≤ v → IsReached h b c
-clock_reaches h numbered c session v b is some below owned up = go is.attained (cases_eq b v)
-  where
-    go : (v ≡ 0) ⊎ IsOneOf h (IsBefore h c) session v → (b ≡ v) ⊎ (b ≢ v) → IsReached h b c
-    go (inl none) kind = absurd (omega (arith, some, up, none))
-    go (inr one) (inl at) = rw at one.meant
-    go (inr one) (inr other) =
-        let w = pair_walk h b v (inl (in_session h numbered b v some (omega (arith, up, other)) one.below (owned ∙ sym one.owned))) in
-        reached_append h b v c (w.0, w.1) one.meant
 
 -- ---- what the level asks
 known_walk : (j : Judged) (b c : ℕ) → IsReached j.history b c → IsKnown j.level j.history b c → (walk : List Step) × IsWalk j.history b c walk × IsAllowed j.level walk

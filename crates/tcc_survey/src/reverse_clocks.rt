@@ -1,94 +1,18 @@
 //! Of a block of sessions the first number that each transaction reaches: vector clocks (Fidge, Mattern) turned round. They
 //! are worked out back along a linear extension of the causal pairs, for a block of 64 sessions at a time, and equal rows are
 //! held once. For N transactions and R reads that takes at most 64 (N + R) steps a block, and 64 N numbers.
-ghost use Rattle.std.specs.Prelude.{◌≡◌, ◌<◌, ◌+◌, MatchOption, ℕ, min, List, length, set, slice_index, All, Contains, OnOk};
+ghost use Rattle.std.specs.Prelude.{◌≡◌, ◌<◌, ◌+◌, MatchOption, ℕ, List, length, set, All, OnOk};
 ghost use Rattle.tcc_reads.specs.History.{IsBySession, count};
 ghost use Rattle.tcc_graph.specs.Relations.{IsSessionPair};
 ghost use Rattle.tcc_graph.specs.Tables.{row_of};
 ghost use Rattle.tcc_graph.specs.Orders.{IsNumbering};
-ghost use Rattle.tcc_clocks.specs.Clocks.{AreOwners};
-ghost use Rattle.tcc_clocks.specs.declared.latest.TheConstants.{WIDE};
-ghost use Rattle.tcc_survey.specs.private.Firsts.{AreFirstOf, AreFirsts, AreChildren, IsAfter, IsFrom, LeadsBackward, lowered};
+ghost use Rattle.tcc_clocks.specs.Clocks.{AreOwners, IsAfter};
+ghost use Rattle.tcc_survey.specs.private.Firsts.{AreFirstOf, AreFirsts, AreChildren, LeadsBackward};
 
 use std::alloc::{AllocError, Global};
-use tcc_clocks::{Clock, SharedRows, WIDE, like};
+use tcc_clocks::{SharedRows, Side, WIDE, put_row};
 use tcc_graph::LargeGraph;
 use tcc_txn::NoMemory;
-
-/// The lesser of the two numbers of each session.
-fn lower_each(row: &mut [u32], other: &[u32])
-    requires { length row.old ≡ length other.now }
-    ensures same { length row.new ≡ length row.old }
-    ensures each { (k : ℕ) → k < length row.old → slice_index row.new k ≡ min (slice_index other.now k) (slice_index row.old k) }
-{
-    for (session, first) in row.iter_mut().enumerate() {
-        *first = other[session].min(*first);
-    }
-}
-
-/// Lowers the number of a transaction's session to its own, where the session is of the block.
-fn lower(row: &mut [u32], owners: &[u32], from: u32, p: u32)
-    requires inside { p < length owners.now }
-    ensures same { length row.new ≡ length row.old }
-    ensures each { (k : ℕ) → k < length row.old → slice_index row.new k ≡ lowered owners.now from p k (slice_index row.old k) }
-{
-    let owner = owners[p as usize];
-    if p > 0 && owner >= from {
-        let column = (owner - from) as usize;
-        if column < row.len() {
-            row[column] = p.min(row[column]);
-        }
-    }
-}
-
-/// The first numbers of these transactions and of what they reach, by the rows of what they do.
-fn first_row(
-    graph: &LargeGraph,
-    owners: &[u32],
-    from: u32,
-    table: &SharedRows,
-    numbers: &[u32],
-) -> Clock
-    requires numbered { IsBySession graph.now.entries }
-    requires owners { AreOwners graph.now owners.now }
-    requires inside { All (λ p. p < count graph.now) numbers.now }
-    requires long { length table.now ≡ count graph.now }
-    requires firsts { All (λ p. AreFirstOf graph.now (IsAfter graph.now p) from (row_of table.now p)) numbers.now }
-    ensures { AreFirstOf graph.now (IsFrom graph.now (Contains numbers.now)) from result }
-{
-    let mut row = [graph.count(); WIDE];
-    for number in numbers {
-        lower_each(&mut row, table.get(*number));
-        lower(&mut row, owners, from, *number);
-    }
-    row
-}
-
-/// Gives a transaction its row, by the rows of those right behind it.
-fn put_row(
-    table: &mut SharedRows,
-    graph: &LargeGraph,
-    owners: &[u32],
-    from: u32,
-    numbers: &[u32],
-    a: u32,
-) -> Result<(), NoMemory>
-    requires numbered { IsBySession graph.now.entries }
-    requires owners { AreOwners graph.now owners.now }
-    requires inside { All (λ p. p < count graph.now) numbers.now }
-    requires long { length table.old ≡ count graph.now }
-    requires firsts { All (λ p. AreFirstOf graph.now (IsAfter graph.now p) from (row_of table.old p)) numbers.now }
-    requires below { a < count graph.now }
-    ensures { OnOk result ((row : List ℕ) × (table.new ≡ set table.old a row)
-        × AreFirstOf graph.now (IsFrom graph.now (Contains numbers.now)) from row) }
-{
-    if let Some(other) = like(table, owners, from, numbers) {
-        table.share(a, other);
-        return Ok(());
-    }
-    let row = first_row(graph, owners, from, table, numbers);
-    table.put_like(a, &row, numbers)
-}
 
 /// The next transaction of its session, where there is one.
 fn next_in_session(graph: &LargeGraph, a: u32) -> Option<u32>
@@ -141,7 +65,7 @@ fn put_first(
     if a == 0 {
         return table.put_like(a, &[0; WIDE], &[]);
     }
-    put_row(table, graph, owners, from, children, a)
+    put_row(table, Side::Future, graph, owners, from, children, a)
 }
 
 /// Of each transaction and each session of the block the first number of the session that it reaches; by an order in which

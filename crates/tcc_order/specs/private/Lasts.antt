@@ -1,8 +1,7 @@
 -- The last places of sessions, of some transactions alone.
 use Rattle.std.specs.Prelude.{ℕ, ◌<◌, ◌≤◌, ◌≡◌, ◌⊎◌, ◌==◌, ◌&&◌, nat_lt, if◌then◌else◌, max, List, length, slice_index}
-use Rattle.tcc_reads.specs.History.{History, count, owner, place}
-use Rattle.tcc_graph.specs.Tables.{row_of}
-use Rattle.tcc_clocks.specs.Clocks.{IsOneOf, IsBefore}
+use Rattle.tcc_reads.specs.History.{History, owner, place}
+use Rattle.tcc_clocks.specs.Clocks.{IsOneOf, IsBefore, HasRows}
 
 -- the greatest place of one of those meant in the session, or 0 where there is none
 pub record IsLastOf (h : History) (Is : ℕ → Type 0) (session : ℕ) (last : ℕ) : Type 0 where
@@ -19,6 +18,5 @@ abbrev pub raised : History → ℕ → ℕ → ℕ → ℕ
 raised h p session last = if nat_lt 0 p && (owner h p == session) then max (place h p) last else last
 
 -- the rows of these are worked out
-pub record HasLasts (h : History) (IsDone : ℕ → Type 0) (table : List (List ℕ)) : Type 0 where
-  pub long : length table ≡ count h
-  pub each : (c : ℕ) → c < count h → IsDone c → AreLastsOf h (IsBefore h c) (row_of table c)
+abbrev pub HasLasts : History → (ℕ → Type 0) → List (List ℕ) → Type 0
+HasLasts h IsDone table = HasRows h (λ c row. AreLastsOf h (IsBefore h c) row) IsDone table

@@ -1,41 +1,18 @@
--- Of each session of a block the first number that a transaction reaches.
-use Rattle.std.specs.Prelude.{ℕ, ◌<◌, ◌≤◌, ◌+◌, ◌≡◌, ◌⊎◌, ◌↔◌, ◌==◌, ◌&&◌, nat_lt, if◌then◌else◌, min, List, length, slice_index, Contains}
-use Rattle.tcc_reads.specs.History.{History, count, owner}
+-- First numbers that transactions reach, by what stands right behind each, along an order turned round.
+use Rattle.std.specs.Prelude.{ℕ, ◌<◌, ◌+◌, List, Contains}
+use Rattle.tcc_reads.specs.History.{History, count}
 use Rattle.tcc_graph.specs.Relations.{IsCausalPair, IsReadsPair, IsSessionPair}
 use Rattle.tcc_graph.specs.Orders.{Before}
-use Rattle.tcc_graph.specs.Tables.{row_of}
-use Rattle.tcc_graph.specs.Walks.{IsReached}
-use Rattle.tcc_clocks.specs.declared.latest.TheConstants.{WIDE}
+use Rattle.tcc_clocks.specs.Clocks.{AreEntries, HasRows, IsAfter}
+use Rattle.tcc_clocks.specs.declared.side.Side.TheVariants.{Future}
 
--- of the session those from `first` on are meant, and no others
-abbrev pub IsFirstOf : History → (ℕ → Type 0) → ℕ → ℕ → Type 0
-IsFirstOf h Is session first = (b : ℕ) → 0 < b → b < count h → owner h b ≡ session → Is b ↔ (first ≤ b)
+-- a row says of each session of the block that begins at `from` which of those meant is the first
+abbrev pub AreFirstOf : History → (ℕ → Type 0) → ℕ → List ℕ → Type 0
+AreFirstOf h Is from row = AreEntries Future h Is from row
 
--- the row says of each session of the block that begins at `from` which is the first that is meant
-pub record AreFirstOf (h : History) (Is : ℕ → Type 0) (from : ℕ) (row : List ℕ) : Type 0 where
-  pub wide : length row ≡ WIDE
-  pub each : (k : ℕ) → k < WIDE → IsFirstOf h Is (from + k) (slice_index row k)
-
--- what a reaches
-abbrev pub IsAfter : History → ℕ → ℕ → Type 0
-IsAfter h a b = IsReached h a b
-
--- one of these, or what one of them reaches
-abbrev pub IsFrom : History → (ℕ → Type 0) → ℕ → Type 0
-IsFrom h Among b = (p : ℕ) × Among p × ((b ≡ p) ⊎ IsReached h p b)
-
--- the first number of session k of the block, lowered to p where p is of it
-abbrev pub lowered : List ℕ → ℕ → ℕ → ℕ → ℕ → ℕ
-lowered owners from p k first = if nat_lt 0 p && (slice_index owners p == from + k) then min p first else first
-
--- the rows of these are worked out
-pub record HasFirst (h : History) (from : ℕ) (IsDone : ℕ → Type 0) (table : List (List ℕ)) : Type 0 where
-  pub long : length table ≡ count h
-  pub each : (a : ℕ) → a < count h → IsDone a → AreFirstOf h (IsAfter h a) from (row_of table a)
-
--- the rows of all transactions are worked out
+-- the row of each transaction says what it reaches
 abbrev pub AreFirsts : History → ℕ → List (List ℕ) → Type 0
-AreFirsts h from table = HasFirst h from (λ a. a < count h) table
+AreFirsts h from table = HasRows h (λ a row. AreFirstOf h (IsAfter h a) from row) (λ a. a < count h) table
 
 -- causal pairs lead backward in the order
 abbrev pub LeadsBackward : History → List ℕ → Type 0

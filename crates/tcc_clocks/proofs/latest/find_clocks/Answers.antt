@@ -5,8 +5,9 @@ use Rattle.tcc_reads.specs.History.{count}
 use Rattle.tcc_graph.proofs.Numberings.{below_in}
 use Rattle.tcc_clocks.specs.Parents.{parents}
 use Rattle.tcc_clocks.specs.private.Rows.{IsUpTo}
-use Rattle.tcc_clocks.specs.Clocks.{AreLatestOf}
-use Rattle.tcc_clocks.proofs.LatestLemmas.{all_below, all_done, row_done, table_more, table_whole}
+use Rattle.tcc_clocks.specs.Clocks.{IsBefore, AreLatestOf}
+use Rattle.tcc_clocks.proofs.LatestLemmas.{all_below, all_done, row_done}
+use Rattle.tcc_clocks.proofs.RowLemmas.{table_more, table_whole}
 use Rattle.tcc_clocks.proofs.latest.find_clocks.Goals.{After-between-found}
 use Rattle.tcc_clocks.proofs.latest.find_clocks.Goals as goal
 
@@ -25,9 +26,9 @@ put_row-requires-clause-inside c =
     (all_below c.args.graph.now c.requires.numbered c.args.from c.args.order.now c.loop-position.position c.loop-position.table c.requires.numbering
     c.requires.onward c.loop-position-test.true (c.requires.steps.each c.loop-position.position c.loop-position-test.true).sources c.loop-position.invariant)
 
-pub put_row-requires-clause-latest : goal.put_row-requires-clause-latest
-put_row-requires-clause-latest c =
-    rw (found (goal.at.put_row-requires-clause-latest c).After-between-found)
+pub put_row-requires-clause-rows : goal.put_row-requires-clause-rows
+put_row-requires-clause-rows c =
+    rw (found (goal.at.put_row-requires-clause-rows c).After-between-found)
     (all_done c.args.graph.now c.requires.numbered c.args.from c.args.order.now c.loop-position.position c.loop-position.table c.requires.numbering
     c.requires.onward c.loop-position-test.true (c.requires.steps.each c.loop-position.position c.loop-position-test.true).sources c.loop-position.invariant)
 
@@ -45,12 +46,14 @@ loop-position-preserved c =
     let row : List ℕ = is.0 in
     let made : AreLatestOf h (IsUpTo h (Contains (parents h n))) from row = rw (found (goal.at.loop-position-preserved c).After-between-found) at is.2 in
     rw is.1
-    (table_more h from table order row k c.loop-position-test.true low inv
+    (table_more h (λ c row. AreLatestOf h (IsBefore h c) from row) table order row k c.loop-position-test.true low inv
     (row_done h c.requires.numbered from order k table c.requires.numbering c.requires.onward c.loop-position-test.true
     (c.requires.steps.each k c.loop-position-test.true).sources inv row made))
 
 pub returns : goal.returns
 returns c =
+    let h = c.args.graph.now in
+    let from = c.args.from in
     let order = c.args.order.now in
-    table_whole c.args.graph.now c.args.from c.loop-position.table order (λ x l. c.requires.numbering.each x l)
+    table_whole h (λ c row. AreLatestOf h (IsBefore h c) from row) c.loop-position.table order (λ x l. c.requires.numbering.each x l)
     (rw (take_all c.loop-position.position order c.loop-position-test.false) at c.loop-position.invariant)

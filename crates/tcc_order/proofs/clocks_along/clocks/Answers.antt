@@ -7,7 +7,8 @@ use Rattle.tcc_clocks.specs.Parents.{parents}
 use Rattle.tcc_order.specs.private.Lasts.{AreLastsOf}
 use Rattle.tcc_clocks.specs.Clocks.{IsBefore}
 use Rattle.tcc_clocks.specs.private.Rows.{IsUpTo}
-use Rattle.tcc_order.proofs.LastLemmas.{all_below, all_done, lasts_same, table_more, table_whole}
+use Rattle.tcc_order.proofs.LastLemmas.{all_below, all_done, lasts_same, table_clocks}
+use Rattle.tcc_clocks.proofs.RowLemmas.{table_more}
 use Rattle.tcc_clocks.proofs.UpTo.{up_to_parents}
 use Rattle.tcc_order.proofs.clocks_along.clocks.Goals as goal
 
@@ -33,12 +34,12 @@ loop-number-preserved c =
     let row = c.in_ok-row.row in
     let made : AreLastsOf h (IsUpTo h (Contains (parents h n))) row
     = rw (c.deref-in-loop-number.ensures.value, c.in_ok-parents.ensures.found) at c.in_ok-row.ensures in
-    table_more h c.loop-number.table.items order row k c.loop-number-test.true low c.loop-number.invariant
+    table_more h (λ c row. AreLastsOf h (IsBefore h c) row) c.loop-number.table.items order row k c.loop-number-test.true low c.loop-number.invariant
     (lasts_same h (IsUpTo h (Contains (parents h n))) (IsBefore h n) row
     (up_to_parents h c.numbered.ensures.numbered n low c.in_ok-parents.ensures.sources) made)
 
 pub returns : goal.returns
 returns c =
     let order = c.args.order.now in
-    table_whole c.args.graph.now c.loop-number.table.items order (λ x l. c.requires.numbering.each x l)
+    table_clocks c.args.graph.now c.loop-number.table.items order (λ x l. c.requires.numbering.each x l)
     (rw (take_all c.loop-number.number-index order c.loop-number-test.false) at c.loop-number.invariant)

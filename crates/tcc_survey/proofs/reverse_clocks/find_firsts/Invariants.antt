@@ -1,7 +1,8 @@
 use Rattle.std.proofs.Common.{take}
 use Rattle.std.specs.Prelude.{Contains}
-use Rattle.tcc_survey.specs.private.Firsts.{HasFirst}
+use Rattle.tcc_clocks.specs.private.Rows.{HasEntries}
+use Rattle.tcc_clocks.specs.declared.side.Side.TheVariants.{Future}
 use Rattle.tcc_survey.proofs.reverse_clocks.find_firsts.Given as goal
 
 abbrev pub invariant-loop-number : goal.invariant-loop-number
-invariant-loop-number l = HasFirst l.graph l.from (Contains (take l.number-index l.backward)) l.table
+invariant-loop-number l = HasEntries Future l.graph l.from (Contains (take l.number-index l.backward)) l.table

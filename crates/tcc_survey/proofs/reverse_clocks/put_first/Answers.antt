@@ -3,8 +3,11 @@ use Rattle.std.specs.Prelude.{List, Contains}
 use Rattle.std.proofs.lemmas.List.{get_or-replicate, length-replicate}
 use Rattle.std.proofs.lemmas.Result.{on_ok_weaker}
 use Rattle.tcc_clocks.specs.declared.latest.TheConstants.{WIDE}
-use Rattle.tcc_survey.specs.private.Firsts.{AreFirstOf, IsAfter, IsFrom}
-use Rattle.tcc_survey.proofs.FirstLemmas.{first_all, from_children, rows_same}
+use Rattle.tcc_clocks.specs.Clocks.{IsAfter, IsWith}
+use Rattle.tcc_survey.specs.private.Firsts.{AreFirstOf}
+use Rattle.tcc_clocks.specs.declared.side.Side.TheVariants.{Future}
+use Rattle.tcc_clocks.proofs.RowLemmas.{entries_same}
+use Rattle.tcc_survey.proofs.FirstLemmas.{first_all, from_children}
 use Rattle.tcc_survey.proofs.reverse_clocks.put_first.Goals as goal
 
 pub returns-then-a-eq0 : goal.returns-then-a-eq0
@@ -26,5 +29,5 @@ returns c =
     on_ok_weaker c.put_row.result (λ w. (
       w.0,
       w.1,
-      rows_same h (IsFrom h (Contains children)) (IsAfter h a) c.args.from w.0 (from_children h c.requires.numbered a children some c.requires.children) w.2,
+      entries_same Future h (IsWith Future h (Contains children)) (IsAfter h a) c.args.from w.0 (from_children h c.requires.numbered a children some c.requires.children) w.2,
     )) c.put_row.ensures

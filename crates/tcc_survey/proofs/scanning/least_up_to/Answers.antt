@@ -2,8 +2,8 @@ use Rattle.std.proofs.Common.{◌≡◌, ℕ, List, length, rules, subst, arith}
 use Rattle.tcc_graph.specs.Keys.{key_at}
 use Rattle.tcc_graph.specs.Levels.{Judged, judged}
 use Rattle.tcc_graph.specs.Tables.{row_of}
-use Rattle.tcc_clocks.specs.Clocks.{AreLatestOf, IsBefore}
-use Rattle.tcc_survey.specs.private.Firsts.{AreFirstOf, IsAfter}
+use Rattle.tcc_clocks.specs.Clocks.{AreLatestOf, IsBefore, IsAfter}
+use Rattle.tcc_survey.specs.private.Firsts.{AreFirstOf}
 use Rattle.tcc_survey.proofs.ScanLemmas.{kept_least, none_least, no_writers, same_none, hit_least, all_below}
 use Rattle.tcc_survey.proofs.scanning.least_up_to.Goals as goal
 use Rattle.tcc_survey.proofs.scanning.least_up_to.Goals.{then-known-gt0-via-then-known-gt0, then-known-gt0-via-else-known-gt0+then-is_empty, then-known-gt0-via-else-known-gt0+else-is_empty+then-are_same}

@@ -1,4 +1,4 @@
-use Rattle.std.proofs.Common.{ℕ, refl, arith}
+use Rattle.std.proofs.Common.{refl, arith}
 use Rattle.std.proofs.lemmas.Bool.{false≢true}
 use Rattle.tcc_survey.specs.private.Spells.{IsAfterAny}
 use Rattle.tcc_survey.proofs.CalledLemmas.{found_item, no_item, item_more}

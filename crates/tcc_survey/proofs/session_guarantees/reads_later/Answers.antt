@@ -1,4 +1,4 @@
-use Rattle.std.proofs.Common.{◌∙◌, ℕ, refl, sym, arith}
+use Rattle.std.proofs.Common.{◌∙◌, refl, sym, arith}
 use Rattle.std.proofs.lemmas.Bool.{false≢true}
 use Rattle.tcc_graph.specs.Relations.{IsSessionPair}
 use Rattle.tcc_survey.proofs.CalledLemmas.{found_item, no_item}

@@ -1,7 +1,7 @@
 use Rattle.std.proofs.Common.{arith}
 use Rattle.tcc_clocks.specs.Clocks.{IsLike}
 use Rattle.tcc_clocks.proofs.LatestLemmas.{each_more}
-use Rattle.tcc_clocks.proofs.latest.like.Goals as goal
+use Rattle.tcc_clocks.proofs.rows.like.Goals as goal
 
 pub loop-number-preserved : goal.loop-number-preserved
 loop-number-preserved c =

@@ -1,0 +1,34 @@
+//! The two sides of a transaction: what reaches it, its causal past, and what it reaches, its causal future.
+ghost use Rattle.std.specs.Prelude.{◌≡◌};
+ghost use Rattle.tcc_clocks.specs.private.Rows.{joined, empty_entry};
+
+/// Which transactions a row tells of.
+#[derive(Clone, Copy)]
+pub enum Side {
+    /// Those that reach its own: of each session the greatest number.
+    Past,
+    /// Those that its own reaches: of each session the least number.
+    Future,
+}
+
+impl Side {
+    /// The entry that two entries of a session make together.
+    pub(crate) fn join(self, one: u32, other: u32) -> u32
+        ensures { result ≡ joined self one other }
+    {
+        match self {
+            Side::Past => one.max(other),
+            Side::Future => one.min(other),
+        }
+    }
+
+    /// The entry of a session of which nobody is told, where there are so many transactions.
+    pub(crate) fn empty(self, count: u32) -> u32
+        ensures { result ≡ empty_entry self count }
+    {
+        match self {
+            Side::Past => 0,
+            Side::Future => count,
+        }
+    }
+}
