@@ -45,7 +45,7 @@ from_seal before items (inl (none, same)) =
 from_seal before items (inr (front, is)) =
     moved before item.Seal items (sealed_after before (item.Seal ∷ items)) (finished_in before ∷ front, ap (λ rest. finished_in before ∷ rest) is)
 
--- the same of what follows some items, by whether an answer is due after those
+-- the snapshots at seals among what follows some items end with what was finished: by whether an answer is due before them
 abbrev Since : Bool → List Item → List Item → Type 0
 Since true before items = EndsWith (sealed_after before items) (finished_in (before ++ items))
 Since false before items = EndsSince before items

@@ -7,4 +7,3 @@ pub mod Courses
 pub mod LastSaid
 pub mod Saying
 pub mod Noted
-pub mod LargeJson

@@ -45,14 +45,15 @@ read_word read_kind.Aborted = codes "Aborted"
 read_word read_kind.Intermediate = codes "Intermediate"
 read_word read_kind.Future = codes "Future"
 
+-- an operation: op I KEY VALUE, after a space
+abbrev pub operation_text : ℕ → List ℕ → ℕ → List ℕ
+operation_text op key value = codes " op " ++ (decimal op ++ (codes " " ++ (key ++ (codes " " ++ decimal value))))
+
 -- KIND SESSION/PLACE op I KEY VALUE
 abbrev pub read_fault_told : ReadFault → List ℕ
 read_fault_told fault =
     read_word fault.kind
-    ++ (codes " " ++ (place_text fault.session fault.place
-    ++ (codes " op " ++ (decimal fault.op
-    ++ (codes " " ++ (fault.key
-    ++ (codes " " ++ decimal fault.value)))))))
+    ++ (codes " " ++ (place_text fault.session fault.place ++ operation_text fault.op fault.key fault.value))
 
 -- what is told of a read fault, as a line
 abbrev pub read_fault_text : ReadFault → List ℕ

@@ -2,16 +2,13 @@
 ghost use Rattle.std.specs.Prelude.{◌≡◌, IfErr, IfOk, OnOk};
 ghost use Rattle.std.specs.Io.KnownBytes.{Appends};
 ghost use Rattle.tcc_graph.specs.Links.{cost};
-ghost use Rattle.tcc_answer.specs.Json.{json_line};
-ghost use Rattle.tcc_print.specs.Large.{unproved, unproved_first, unproved_json, unproved_text};
+ghost use Rattle.tcc_print.specs.Large.{unproved};
 ghost use Rattle.tcc_print.specs.Printed.{EndsIn};
 
 use crate::printing::send_made;
-use crate::texts::joined;
 use std::alloc::Global;
 use std::io::Write;
-use tcc_answer::pieces::push;
-use tcc_answer::{Labels, push_links, push_links_json, quoted, shape_of, shape_word};
+use tcc_answer::{Cycle, Labels, cycle_line, cycle_text};
 use tcc_graph::Link;
 use tcc_txn::NoMemory;
 
@@ -30,67 +27,6 @@ pub fn steps_of(links: &[Link]) -> Result<usize, NoMemory>
     Ok(steps)
 }
 
-/// The first line of a cycle of so many steps that needn't be a least one.
-fn unproved_first(alloc: Global, links: &[Link], steps: usize) -> Result<Vec<u8>, NoMemory>
-    requires { steps ≡ cost links.now }
-    ensures { IfOk result (λ text. text.items ≡ unproved_first links.now) }
-{
-    let steps = steps.to_string(alloc)?;
-    joined(
-        alloc,
-        &[
-            b"anomaly: ",
-            steps.as_bytes(),
-            b" steps, ",
-            shape_word(shape_of(links)).as_bytes(),
-            b", least not proved\n",
-        ],
-    )
-}
-
-/// The text of a cycle of so many steps that needn't be a least one.
-fn unproved_text(
-    alloc: Global,
-    labels: &Labels,
-    links: &[Link],
-    steps: usize,
-) -> Result<Vec<u8>, NoMemory>
-    requires { steps ≡ cost links.now }
-    ensures { IfOk result (λ text. text.items ≡ unproved_text labels.now links.now) }
-{
-    let mut text = unproved_first(alloc, links, steps)?;
-    push_links(&mut text, labels, links)?;
-    Ok(text)
-}
-
-/// The line of JSON of a cycle of so many steps that needn't be a least one.
-fn unproved_line(
-    alloc: Global,
-    labels: &Labels,
-    links: &[Link],
-    steps: usize,
-) -> Result<Vec<u8>, NoMemory>
-    requires { steps ≡ cost links.now }
-    ensures { IfOk result (λ line. line.items ≡ json_line (unproved_json labels.now links.now)) }
-{
-    let shape = quoted(alloc, shape_word(shape_of(links)))?;
-    let steps = steps.to_string(alloc)?;
-    let mut line = Vec::new(alloc);
-    push(&mut line, &[b"{\"answer\":\"anomaly\",\"cycle\":["])?;
-    push_links_json(alloc, &mut line, labels, links)?;
-    push(
-        &mut line,
-        &[
-            b",\"least\":false,\"shape\":",
-            shape.as_bytes(),
-            b",\"steps\":",
-            steps.as_bytes(),
-            b"}\n",
-        ],
-    )?;
-    Ok(line)
-}
-
 /// The text of a cycle that needn't be a least one, or its line of JSON.
 fn unproved_made(
     alloc: Global,
@@ -101,10 +37,16 @@ fn unproved_made(
     ensures { IfOk result (λ text. text.items ≡ unproved json labels.now links.now) }
 {
     let steps = steps_of(links)?;
+    let cycle = Cycle {
+        labels,
+        links,
+        steps,
+        least: false,
+    };
     if json {
-        unproved_line(alloc, labels, links, steps)
+        cycle_line(alloc, &cycle)
     } else {
-        unproved_text(alloc, labels, links, steps)
+        cycle_text(alloc, &cycle)
     }
 }
 

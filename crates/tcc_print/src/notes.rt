@@ -8,13 +8,13 @@ mod mending;
 mod quoted;
 mod writers;
 
-use crate::texts::{joined, push_told};
+use crate::texts::push_told;
 use mending::{Mending, mending_of};
 use quoted::{first_bytes, push_quoted};
 use std::alloc::Global;
 use std::io::Write;
 use tcc_answer::Answer;
-use tcc_answer::pieces::push;
+use tcc_answer::pieces::{joined, push};
 use tcc_reads::ReadFault;
 use tcc_rows::{RowFault, RowFaultKind};
 use tcc_sending::send;
@@ -143,8 +143,7 @@ fn row(
     fields: &[&[u8]],
 ) -> Result<Vec<u8>, NoMemory> {
     let row = fault.row.to_string(alloc)?;
-    let mut text = Vec::new(alloc);
-    push(&mut text, &[b"row ", row.as_bytes(), b": "])?;
+    let mut text = joined(alloc, &[b"row ", row.as_bytes(), b": "])?;
     push_mending(
         alloc,
         &mut text,

@@ -18,6 +18,9 @@ use tcc_reads::ReadFault;
 use tcc_sending::send;
 use tcc_txn::NoMemory;
 
+/// A text that was made, if there was memory for it.
+pub type Made = Result<Vec<u8>, NoMemory>;
+
 /// The one line or the other, by whether JSON is asked for.
 fn line_by(json: bool, object: &'static [u8], text: &'static [u8]) -> &'static [u8]
     ensures { result.now ≡ (if json then object.now else text.now) }
@@ -88,11 +91,7 @@ pub fn print_device<W: Write>(out: &mut W, json: bool) -> u8
 
 /// Writes the text that was made; else a writer that failed, or no memory for the text, ends the run, with this
 /// number.
-pub fn send_made<W: Write>(
-    made: Result<Vec<u8>, NoMemory>,
-    json: bool,
-    out: &mut W,
-) -> Result<(), u8>
+pub fn send_made<W: Write>(made: Made, json: bool, out: &mut W) -> Result<(), u8>
     ensures whole { (text : List ℕ) → IfOk made (λ bytes. bytes.items ≡ text) → OnOk result (Appends (W.contents out.old) (W.contents out.new) text) }
     ensures ended { (text : List ℕ) → IfOk made (λ bytes. bytes.items ≡ text) → IfErr result (EndsIn json (W.contents out.old) (W.contents out.new) text) }
 {

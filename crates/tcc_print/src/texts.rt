@@ -1,25 +1,16 @@
 //! The texts of faults, each made as a whole before a byte of it goes out.
 ghost use Rattle.std.specs.Prelude.{◌≡◌, ◌++◌, IfOk, OnOk, length, flat_map};
-ghost use Rattle.tcc_print.specs.Texts.{certificate_fault_text, certificate_word, halt_text, read_fault_text, read_fault_told, read_word, row_fault_text, row_word};
+ghost use Rattle.tcc_print.specs.Texts.{certificate_fault_text, certificate_word, halt_text, operation_text, read_fault_text, read_fault_told, read_word, row_fault_text, row_word};
 ghost use Rattle.tcc_print.specs.Texts.{unresolved_text};
 
 use crate::halt::Halt;
 use crate::kinds::{certificate_told, row_told};
 use std::alloc::Global;
-use tcc_answer::pieces::push;
+use tcc_answer::pieces::{joined, push};
 use tcc_cert::{CertFault, CertFaultKind};
 use tcc_reads::{ReadFault, ReadFaultKind};
 use tcc_rows::{RowFault, RowFaultKind};
-use tcc_txn::NoMemory;
-
-/// The pieces, one after the other, as a text.
-pub(crate) fn joined(alloc: Global, pieces: &[&[u8]]) -> Result<Vec<u8>, NoMemory>
-    ensures { IfOk result (λ text. text.items ≡ flat_map (λ piece. piece.now) pieces.now) }
-{
-    let mut text = Vec::new(alloc);
-    push(&mut text, pieces)?;
-    Ok(text)
-}
+use tcc_txn::{Name, NoMemory};
 
 /// The word for a kind of row fault.
 pub fn row_word(kind: &RowFaultKind) -> &'static str
@@ -34,11 +25,7 @@ pub fn row_fault(alloc: Global, fault: &RowFault) -> Result<Vec<u8>, NoMemory>
 {
     let row = fault.row.to_string(alloc)?;
     let word = row_word(&fault.kind);
-    let mut text = Vec::new(alloc);
-    push(
-        &mut text,
-        &[b"row ", row.as_bytes(), b": ", word.as_bytes()],
-    )?;
+    let mut text = joined(alloc, &[b"row ", row.as_bytes(), b": ", word.as_bytes()])?;
     if let RowFaultKind::Unfinished { session } = &fault.kind {
         push(&mut text, &[b" ", session.bytes()])?;
     }
@@ -60,33 +47,21 @@ pub fn read_word(kind: ReadFaultKind) -> &'static str
     }
 }
 
-/// Adds what is told of a read fault, without the end of its line.
-pub(crate) fn push_told(
+/// Adds ` op I KEY VALUE`, what is told of an operation.
+pub fn push_operation(
     alloc: Global,
     text: &mut Vec<u8>,
-    fault: &ReadFault,
+    op: usize,
+    key: &Name,
+    value: u64,
 ) -> Result<(), NoMemory>
-    ensures { OnOk result (text.new.items ≡ text.old.items ++ read_fault_told fault.now) }
+    ensures { OnOk result (text.new.items ≡ text.old.items ++ operation_text op key.now value) }
 {
-    let ReadFault {
-        session,
-        place,
-        op,
-        key,
-        value,
-        kind,
-    } = *fault;
-    let place = place.to_string(alloc)?;
     let op = op.to_string(alloc)?;
     let value = value.to_string(alloc)?;
     push(
         text,
         &[
-            read_word(kind).as_bytes(),
-            b" ",
-            session.bytes(),
-            b"/",
-            place.as_bytes(),
             b" op ",
             op.as_bytes(),
             b" ",
@@ -95,6 +70,29 @@ pub(crate) fn push_told(
             value.as_bytes(),
         ],
     )
+}
+
+/// Adds what is told of a read fault, without the end of its line.
+pub(crate) fn push_told(
+    alloc: Global,
+    text: &mut Vec<u8>,
+    fault: &ReadFault,
+) -> Result<(), NoMemory>
+    ensures { OnOk result (text.new.items ≡ text.old.items ++ read_fault_told fault.now) }
+{
+    let session = fault.session;
+    let place = fault.place.to_string(alloc)?;
+    push(
+        text,
+        &[
+            read_word(fault.kind).as_bytes(),
+            b" ",
+            session.bytes(),
+            b"/",
+            place.as_bytes(),
+        ],
+    )?;
+    push_operation(alloc, text, fault.op as usize, &fault.key, fault.value)
 }
 
 /// Adds the line of a read fault.
@@ -110,11 +108,7 @@ pub fn unresolved(alloc: Global, faults: &[ReadFault]) -> Result<Vec<u8>, NoMemo
     ensures { IfOk result (λ text. text.items ≡ unresolved_text faults.now) }
 {
     let count = faults.len().to_string(alloc)?;
-    let mut text = Vec::new(alloc);
-    push(
-        &mut text,
-        &[b"unresolved: ", count.as_bytes(), b" faults\n"],
-    )?;
+    let mut text = joined(alloc, &[b"unresolved: ", count.as_bytes(), b" faults\n"])?;
     for fault in faults {
         push_read_fault(alloc, &mut text, fault)?;
     }

@@ -2,8 +2,8 @@
 ghost use Rattle.std.specs.Prelude.{◌≡◌, IfOk};
 ghost use Rattle.tcc_print.specs.Texts.{accepted_text, rejected_text, verdict_text};
 
-use crate::texts::joined;
 use std::alloc::Global;
+use tcc_answer::pieces::joined;
 use tcc_check::{Claim, Judgement, Verdict};
 use tcc_txn::NoMemory;
 
