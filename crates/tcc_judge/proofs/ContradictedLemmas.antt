@@ -18,13 +18,15 @@ use Rattle.tcc_graph.specs.declared.step.Step.{Step}
 use Rattle.tcc_graph.proofs.Numberings.{has_index, one_index, not_the_other_way}
 use Rattle.tcc_graph.proofs.Pairs.{lower_first}
 use Rattle.tcc_graph.proofs.WriterLemmas.{writer_listed, writer_writes}
-use Rattle.tcc_clocks.specs.Clocks.{AreClocks, AreLatestOf, IsBefore, IsOneOf, LeadsOnward}
+use Rattle.tcc_clocks.specs.Clocks.{AreLatestOf, IsBefore, IsOneOf, LeadsOnward}
 use Rattle.tcc_clocks.specs.declared.latest.TheConstants.{WIDE}
+use Rattle.tcc_judge.specs.declared.blocks.Block.{Block}
 use Rattle.tcc_judge.specs.declared.least.TheConstants.{NONE}
 use Rattle.tcc_judge.specs.private.Behind.{IsBehindBy, IsWithin}
+use Rattle.tcc_judge.specs.private.Blocks.{IsAt}
 use Rattle.tcc_judge.specs.private.Contradicted.{AreContradicted, AreContradictedTo, IsBehindAt, IsBehindSome, IsBehindTo, IsContradictedBy, IsGreatestOf, IsLedBackTo, IsReadTo}
 use Rattle.tcc_judge.specs.private.Least.{IsLeastOf}
-use Rattle.tcc_judge.specs.private.NextWriters.{AreNextWriters, IsNextWriter}
+use Rattle.tcc_judge.specs.private.NextWriters.{IsNextWriter}
 use Rattle.tcc_judge.specs.private.Readings.{IsByFirst}
 use Rattle.tcc_judge.proofs.BehindLemmas.{behind_by, never_init, reaches_too}
 use Rattle.tcc_judge.specs.private.Positions.{ArePositions}
@@ -64,26 +66,26 @@ told_apart a b is same = let e : (a == b) ≡ true = eq-eqb a b same in false≢
 pub apart_told : (a b : ℕ) → a ≢ b → not (a == b) ≡ true
 apart_told a b other = rw (ne_eqb a b other) refl
 
-module _ (h : History) (numbered : IsBySession h.entries) (few : count h < NONE) (order : List ℕ) (from place : ℕ) (table next : List (List ℕ))
-    (clocks : AreClocks h from table) (nexts : AreNextWriters h order from place next) (k c : ℕ) (key : k < length (keys h)) (inside : c < length table) (least : ℕ)
-    (w : IsLeastOf (IsWithin (row_of next k) (row_of table c) (length (row_of next k))) least) where
+module _ (h : History) (order : List ℕ) (place : ℕ) (block : Block) (at : IsAt h order place block) (k c : ℕ) (key : k < length (keys h))
+    (inside : c < length block.clocks) (least : ℕ)
+    (w : IsLeastOf (IsWithin (row_of block.next k) (row_of block.clocks c) (length (row_of block.next k))) least) where
   below : c < count h
-  below = omega (arith, inside, clocks.long)
+  below = omega (arith, inside, at.clocks.long)
 
-  by : IsLeastOf (IsBehindBy h order from place (key_at h k) c) least
+  by : IsLeastOf (IsBehindBy h order block.from place (key_at h k) c) least
   by =
-      behind_by h numbered order from place (key_at h k) c (row_of next k) (row_of table c) (nexts.wide k key) few (clocks.each c below below)
-      (λ session narrow. nexts.each k session key narrow) least w
+      behind_by h at.ready.ordered.numbered order block.from place (key_at h k) c (row_of block.next k) (row_of block.clocks c) (at.next.wide k key) at.ready.few
+      (at.clocks.each c below below) (λ session narrow. at.next.each k session key narrow) least w
 
-  pub some_behind : least ≢ NONE → IsBehindSome h order from place (key_at h k) c
+  pub some_behind : least ≢ NONE → IsBehindSome h order block.from place (key_at h k) c
   some_behind some = go by.attained
     where
-      go : (least ≡ NONE) ⊎ IsBehindBy h order from place (key_at h k) c least → IsBehindSome h order from place (key_at h k) c
+      go : (least ≡ NONE) ⊎ IsBehindBy h order block.from place (key_at h k) c least → IsBehindSome h order block.from place (key_at h k) c
       go (inl none) = absurd (some none)
       go (inr is) = (least, is)
 
-  pub none_behind : IsBehindSome h order from place (key_at h k) c → least ≢ NONE
-  none_behind (b, is) none = omega (arith, by.lowest b is, none, is.next.below, few)
+  pub none_behind : IsBehindSome h order block.from place (key_at h k) c → least ≢ NONE
+  none_behind (b, is) none = omega (arith, by.lowest b is, none, is.next.below, at.ready.few)
 
 -- ---- the last of ascending numbers up to one
 module _ (numbers : List ℕ) (high i : ℕ) (rising : IsNonDecreasing numbers) (point : IsPartitionPoint (λ n. nat_le n high ≡ true) (λ n. nat_le n high ≡ false) numbers i)
@@ -119,10 +121,38 @@ module _ (numbers : List ℕ) (high i : ℕ) (rising : IsNonDecreasing numbers) 
           omega (arith, at, rising k (i - 1) 0 (omega arith) (omega arith))
 
 -- ---- the last of a session of the block that stands behind and has to stand before
-module _ (h : History) (numbered : IsBySession h.entries) (few : count h < NONE) (order positions : List ℕ) (numbering : IsNumbering (count h) order)
-    (are : ArePositions (count h) order positions) (onward : LeadsOnward h order) (from place : ℕ) (x : List ℕ) (a c : ℕ) (pair : IsReadsPair h a c x)
-    (next clock : List ℕ) (clocked : AreLatestOf h (IsBefore h c) from clock)
-    (nexts : (session : ℕ) → session < WIDE → IsLeastOf (IsNextWriter h order x (from + session) place) (get_or next session 0)) where
+module _ (h : History) (order positions : List ℕ) (place : ℕ) (block : Block) (at : IsAt h order place block) (are : ArePositions (count h) order positions)
+    (key_index : ℕ) (key : key_index < length (keys h)) (a c : ℕ) (reader : c < count h) (pair : IsReadsPair h a c (key_at h key_index)) where
+  abbrev from : ℕ
+  from = block.from
+
+  abbrev x : List ℕ
+  x = key_at h key_index
+
+  abbrev next : List ℕ
+  next = row_of block.next key_index
+
+  abbrev clock : List ℕ
+  clock = row_of block.clocks c
+
+  few : count h < NONE
+  few = at.ready.few
+
+  numbered : IsBySession h.entries
+  numbered = at.ready.ordered.numbered
+
+  numbering : IsNumbering (count h) order
+  numbering = at.ready.ordered.numbering
+
+  onward : LeadsOnward h order
+  onward = at.ready.onward
+
+  clocked : AreLatestOf h (IsBefore h c) from clock
+  clocked = at.clocks.each c reader reader
+
+  nexts : (session : ℕ) → session < WIDE → IsLeastOf (IsNextWriter h order x (from + session) place) (get_or next session 0)
+  nexts session narrow = at.next.each key_index session key narrow
+
   abbrev pub InLane : ℕ → ℕ → Type 0
   InLane k n = (b : ℕ) × (is : IsBehindBy h order from place x c b) × (is.session ≡ k) × (get_or positions b 0 ≡ n)
 
@@ -298,20 +328,30 @@ module _ (h : History) (order : List ℕ) (from : ℕ) (readers key_indices : Li
     there_too k (inl is) = inl is
     there_too k (inr (j, l, e, behind)) = inr (j, omega arith, e, behind)
 
+    -- it is of the key and contradicted
+    abbrev IsLast : ℕ → Type 0
+    IsLast k = (get_or key_indices i 0 ≡ k) × IsBehindSome h order from 1 (key_at h k) (get_or readers i 0)
+
+    -- where the last one isn't, one of those before it is
+    without_last : (k : ℕ) → (IsLast k → ⊥) → (get_or old k false ≡ true) ⊎ IsStaleIn h order from readers key_indices (i + 1) k
+        → (get_or old k false ≡ true) ⊎ IsStaleIn h order from readers key_indices i k
+    without_last k none (inl is) = inl is
+    without_last k none (inr (j, low, e, behind)) = by (cases_eq j i)
+      where
+        by : (j ≡ i) ⊎ (j ≢ i) → (get_or old k false ≡ true) ⊎ IsStaleIn h order from readers key_indices i k
+        by (inl same) =
+            absurd (none (
+              subst (λ (m : ℕ). get_or key_indices m 0 ≡ k) same e,
+              subst (λ (m : ℕ). IsBehindSome h order from 1 (key_at h k) (get_or readers m 0)) same behind,
+            ))
+        by (inr other) = inr (j, omega arith, e, behind)
+
     pub stale_same : (IsBehindSome h order from 1 (key_at h (get_or key_indices i 0)) (get_or readers i 0) → ⊥)
         → AreStaleIn h order from readers key_indices (i + 1) old new
-    stale_same none k l = ((λ is. there_too k ((w k l).0 is)), (λ is. (w k l).1 (back is)))
+    stale_same none k l = ((λ is. there_too k ((w k l).0 is)), (λ is. (w k l).1 (without_last k nobody is)))
       where
-        back : (get_or old k false ≡ true) ⊎ IsStaleIn h order from readers key_indices (i + 1) k
-            → (get_or old k false ≡ true) ⊎ IsStaleIn h order from readers key_indices i k
-        back (inl is) = inl is
-        back (inr (j, low, e, behind)) = by (cases_eq j i)
-          where
-            by : (j ≡ i) ⊎ (j ≢ i) → (get_or old k false ≡ true) ⊎ IsStaleIn h order from readers key_indices i k
-            by (inl same) =
-                absurd (none (subst (λ (m : ℕ). IsBehindSome h order from 1 (key_at h (get_or key_indices m 0)) (get_or readers m 0)) same
-                (subst (λ (m : ℕ). IsBehindSome h order from 1 (key_at h m) (get_or readers j 0)) (sym e) behind)))
-            by (inr other) = inr (j, omega arith, e, behind)
+        nobody : IsLast k → ⊥
+        nobody last = none (subst (λ (m : ℕ). IsBehindSome h order from 1 (key_at h m) (get_or readers i 0)) (sym last.0) last.1)
 
     pub stale_more : get_or key_indices i 0 < length new → IsBehindSome h order from 1 (key_at h (get_or key_indices i 0)) (get_or readers i 0)
         → AreStaleIn h order from readers key_indices (i + 1) old (set new (get_or key_indices i 0) true)
@@ -329,16 +369,7 @@ module _ (h : History) (order : List ℕ) (from : ℕ) (readers key_indices : Li
         )
         by (inr other) =
             let kept = get_or-set_other new (get_or key_indices i 0) k true false other in
-            ((λ is. there_too k ((w k l).0 (sym kept ∙ is))), (λ is. kept ∙ (w k l).1 (back is)))
-          where
-            back : (get_or old k false ≡ true) ⊎ IsStaleIn h order from readers key_indices (i + 1) k
-                → (get_or old k false ≡ true) ⊎ IsStaleIn h order from readers key_indices i k
-            back (inl is) = inl is
-            back (inr (j, low, e, behind)) = at (cases_eq j i)
-              where
-                at : (j ≡ i) ⊎ (j ≢ i) → (get_or old k false ≡ true) ⊎ IsStaleIn h order from readers key_indices i k
-                at (inl same) = absurd (other (sym e ∙ ap (λ m. get_or key_indices m 0) same))
-                at (inr apart) = inr (j, omega arith, e, behind)
+            ((λ is. there_too k ((w k l).0 (sym kept ∙ is))), (λ is. kept ∙ (w k l).1 (without_last k (λ last. other (sym last.0)) is)))
 
   pub stale_all : AreReadingsByIndex h 0 readers key_indices → (i : ℕ) (new : List Bool) → i ≡ length readers → length old ≡ length (keys h)
       → AreStaleIn h order from readers key_indices i old new → (k : ℕ) → k < length old → (get_or new k false ≡ true)

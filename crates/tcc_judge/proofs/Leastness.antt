@@ -4,14 +4,14 @@ use Rattle.std.specs.Prelude.{IsTrue, false}
 use Rattle.std.specs.List.{All, AllPairs}
 use Rattle.std.proofs.lemmas.List.{get_or_default}
 use Rattle.std.proofs.lemmas.Bool.{cases_eq, false≢true}
-use Rattle.tcc_reads.specs.History.{History, IsBySession, count, owner}
+use Rattle.tcc_reads.specs.History.{History, count}
 use Rattle.tcc_graph.specs.Keys.{keys}
 use Rattle.tcc_graph.specs.Levels.{judged}
-use Rattle.tcc_graph.specs.Orders.{Before, IsNumbering}
+use Rattle.tcc_graph.specs.Orders.{Before}
 use Rattle.tcc_graph.specs.declared.level.Level.{Level}
 use Rattle.tcc_cert.specs.declared.large.LinksClaim.{LinksClaim}
 use Rattle.tcc_cert.specs.declared.large.Run.{Run}
-use Rattle.tcc_judge.specs.Runs.{AreWhole, order_of}
+use Rattle.tcc_judge.specs.Runs.{order_of}
 use Rattle.tcc_least.specs.Shapes.{NoneBelow}
 use Rattle.tcc_judge.specs.Cycles.{BreaksOnward, HasLinksSizes, IsRightCycle}
 use Rattle.tcc_judge.specs.Spanned.{AreFew, IsBounded, IsSpanned, IsStaleKey}
@@ -25,22 +25,13 @@ use Rattle.tcc_check.specs.declared.verdict.Verdict.TheVariants as verdict
 use Rattle.tcc_judge.specs.private.Decoding.{IsOrdered}
 use Rattle.tcc_judge.specs.private.Contradicted.{AreContradicted}
 use Rattle.tcc_judge.specs.private.Members.{AreMarkedUnder, AreThose, IsMarked}
-use Rattle.tcc_judge.specs.private.Onward.{onward_rules}
-use Rattle.tcc_judge.specs.private.Positions.{ArePositions}
+use Rattle.tcc_judge.specs.private.Onward.{AreNarrowed, onward_rules}
+use Rattle.tcc_judge.specs.private.Positions.{ArePositions, KeepsPairs}
 use Rattle.tcc_graph.proofs.Numberings.{has_index}
-use Rattle.tcc_clocks.specs.Clocks.{LeadsOnward}
 use Rattle.tcc_lanes.specs.Among.{HasCheaperAmong, HasCheaperIntoInit}
 use Rattle.tcc_lanes.specs.declared.limits.TheConstants.{MOST_MEMBERS, MOST_STEPS}
 use Rattle.tcc_judge.proofs.Cheaper.{below_among, below_into, none_costs_less}
-use Rattle.tcc_judge.proofs.Laid.{told_numbering, told_sessions}
 use Rattle.tcc_judge.proofs.MemberLemmas.{few_same, marked_spanned, marked_stale, spanned_marked, stale_marked, those_all, those_few, those_same}
-
-pub runs_ordered : (h : History) → IsBySession h.entries → 0 < count h → ((n : ℕ) → 0 < n → n < count h → owner h n < length h.sessions) → (runs : List Run)
-    → AreWhole h runs → IsOrdered h (order_of h runs)
-runs_ordered h numbered some owned runs whole = record {
-  numbering = told_numbering h numbered some owned runs whole;
-  sessions = λ a b pair. told_sessions h numbered some owned runs whole a b pair;
-}
 
 by_order : (h : History) (level : Level) (most : ℕ) (runs : List Run) → 4 < most → (rule : Rule) (at : ℕ × ℕ)
     → IsFirstBroken (onward_rules (judged h level) (order_of h runs) most) rule at
@@ -79,11 +70,10 @@ either_found Among Into into among none first second = ((λ is. inl (second.0 is
     back (inr is) = absurd (false≢true (sym none ∙ first.1 is))
 
 -- ---- where a cycle that costs less can be
-module _ (h : History) (order positions : List ℕ) (numbering : IsNumbering (count h) order) (first : get_or order 0 0 ≡ 0) (some : 0 < length order)
-    (are : ArePositions (count h) order positions) (lasts : List ℕ) (stale : List Bool) (w : AreContradicted h order positions lasts stale)
+module _ (h : History) (order positions : List ℕ) (ordered : IsOrdered h order) (are : ArePositions (count h) order positions) (lasts : List ℕ) (stale : List Bool) (w : AreContradicted h order positions lasts stale)
     (marks : List Bool) (m : AreMarkedUnder (count h) order lasts (length order) marks) (most : ℕ) where
   spanned : (v : ℕ) → IsMarked marks v → IsSpanned h order v
-  spanned v is = marked_spanned h order positions lasts stale numbering first some are w marks m v is
+  spanned v is = marked_spanned h order positions lasts stale ordered.numbering ordered.init ordered.some are w marks m v is
 
   pub too_many_members : (AreFew MOST_MEMBERS (IsMarked marks) → ⊥) → IsBounded h order most → ⊥
   too_many_members none bounded = none (few_same MOST_MEMBERS (IsSpanned h order) (IsMarked marks) spanned bounded.members)
@@ -98,7 +88,7 @@ module _ (h : History) (order positions : List ℕ) (numbering : IsNumbering (co
   narrowed members key_indices low these keys =
       let members_are : AreThose MOST_MEMBERS (IsSpanned h order) members
       = those_same MOST_MEMBERS (IsMarked marks) (IsSpanned h order) members spanned
-      (λ v is. spanned_marked h order positions lasts stale numbering first some are w marks m v is) these in
+      (λ v is. spanned_marked h order positions lasts stale ordered.numbering ordered.init ordered.some are w marks m v is) these in
       let keys_are : AreThose MOST_MEMBERS (IsStaleKey h) key_indices
       = those_same MOST_MEMBERS (IsMarked stale) (IsStaleKey h) key_indices (λ k is. marked_stale h order positions lasts stale w k is)
       (λ k is. stale_marked h order positions lasts stale w k is) keys in (
@@ -111,9 +101,9 @@ module _ (h : History) (order positions : List ℕ) (numbering : IsNumbering (co
       )
 
 -- ---- and what is found there
-module _ (h : History) (order : List ℕ) (numbering : IsNumbering (count h) order) (first : get_or order 0 0 ≡ 0) (some : 0 < length order)
+module _ (h : History) (order : List ℕ) (ordered : IsOrdered h order)
     (members key_indices : List ℕ) (these : AreThose MOST_MEMBERS (IsSpanned h order) members) (keys_are : AreThose MOST_MEMBERS (IsStaleKey h) key_indices) where
-  pub members_inside : All (λ v. v < count h) members
+  members_inside : All (λ v. v < count h) members
   members_inside = those_all MOST_MEMBERS (IsSpanned h order) (λ v. v < count h) members these (λ v is. is.7)
 
   -- `init` stands before all others
@@ -124,31 +114,37 @@ module _ (h : History) (order : List ℕ) (numbering : IsNumbering (count h) ord
       before (i, l, e) none = by (cases_eq i 0)
         where
           by : (i ≡ 0) ⊎ (i ≢ 0) → Before order v a
-          by (inl zero_) = absurd (omega (arith, more, e, ap (λ z. get_or order z 0) zero_, first))
-          by (inr other) = (0, i, omega arith, l, first ∙ sym none, e)
+          by (inl zero_) = absurd (omega (arith, more, e, ap (λ z. get_or order z 0) zero_, ordered.init))
+          by (inr other) = (0, i, omega arith, l, ordered.init ∙ sym none, e)
 
       go : (v ≡ 0) ⊎ (v ≢ 0) → 0 < v
-      go (inl none) = absurd (late (before (has_index numbering a reason.0.1.0) none))
+      go (inl none) = absurd (late (before (has_index ordered.numbering a reason.0.1.0) none))
       go (inr other) = omega arith
 
-  pub members_aside : All (λ v. 0 < v) members
+  members_aside : All (λ v. 0 < v) members
   members_aside = those_all MOST_MEMBERS (IsSpanned h order) (λ v. 0 < v) members these never_init
 
-  pub members_ascend : AllPairs (λ u v. u < v) members
+  members_ascend : AllPairs (λ u v. u < v) members
   members_ascend i j d less l =
       omega (arith, get_or_default members i d 0 (omega arith), get_or_default members j d 0 l, these.ascend i j less l)
 
-  pub keys_inside : All (λ k. k < length (keys h)) key_indices
+  keys_inside : All (λ k. k < length (keys h)) key_indices
   keys_inside = those_all MOST_MEMBERS (IsStaleKey h) (λ k. k < length (keys h)) key_indices keys_are (λ k is. is.0)
 
-  module _ (level : Level) (there : 0 < count h) (most : ℕ) where
+  pub are_narrowed : AreNarrowed h members key_indices
+  are_narrowed = record { inside = members_inside; aside = members_aside; ascend = members_ascend; few = these.few; keys = keys_inside }
+
+  module _ (level : Level) (most : ℕ) where
+    there : 0 < count h
+    there = omega (arith, ordered.numbering.below 0 0 ordered.some)
+
     pub some_cheaper : HasCheaperAmong (judged h level) members most ⊎ HasCheaperIntoInit (judged h level) key_indices most
         → NoneBelow (judged h level) most → ⊥
     some_cheaper (inl is) none = below_among (judged h level) members most none is
     some_cheaper (inr is) none = below_into (judged h level) key_indices most there none is
 
-    pub none_cheaper : (positions : List ℕ) → ArePositions (count h) order positions → LeadsOnward h order
+    pub none_cheaper : (positions : List ℕ) → KeepsPairs h order positions
         → (HasCheaperAmong (judged h level) members most ⊎ HasCheaperIntoInit (judged h level) key_indices most → ⊥) → NoneBelow (judged h level) most
-    none_cheaper positions are onward none =
-        none_costs_less h level order positions numbering some first are onward members key_indices (λ v is. (these.each v).1 is)
+    none_cheaper positions kept none =
+        none_costs_less h level order positions ordered.numbering ordered.some ordered.init kept.positions_are kept.onward members key_indices (λ v is. (these.each v).1 is)
         (λ k is. (keys_are.each k).1 is) there most (λ is. none (inl is)) (λ is. none (inr is))

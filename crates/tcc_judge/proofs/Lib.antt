@@ -3,6 +3,7 @@ pub mod ReadingLemmas
 pub mod PositionLemmas
 pub mod HeldLemmas
 pub mod NextLemmas
+pub mod BlockLemmas
 pub mod FoundLemmas
 pub mod BehindLemmas
 pub mod ContradictedLemmas

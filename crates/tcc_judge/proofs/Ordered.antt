@@ -1,5 +1,5 @@
 -- What the rules on an order say.
-use Rattle.std.proofs.Common.{◌≡◌, ◌≢◌, ◌<◌, ◌≤◌, ◌⊎◌, ◌↔◌, inl, inr, ℕ, Option, None, List, [], ◌∷◌, length, get_or, sym, ◌∙◌, arith}
+use Rattle.std.proofs.Common.{◌≡◌, ◌≢◌, ◌<◌, ◌≤◌, ◌⊎◌, ◌↔◌, inl, inr, ℕ, Option, None, List, [], ◌∷◌, length, get_or, refl, sym, ◌∙◌, arith}
 use Rattle.std.proofs.lemmas.Bool.{cases_eq, cases_lt}
 use Rattle.tcc_reads.specs.History.{History, IsBySession, count, owner}
 use Rattle.tcc_graph.specs.Levels.{judged}
@@ -9,7 +9,8 @@ use Rattle.tcc_graph.proofs.Numberings.{order_of_two}
 use Rattle.tcc_clocks.specs.Clocks.{LeadsOnward}
 use Rattle.tcc_cert.specs.declared.large.RunsClaim.{RunsClaim}
 use Rattle.tcc_judge.specs.Orders.{BreaksPair}
-use Rattle.tcc_judge.specs.Runs.{order_of}
+use Rattle.tcc_cert.specs.declared.large.Run.{Run}
+use Rattle.tcc_judge.specs.Runs.{AreWhole, order_of}
 use Rattle.tcc_judge.specs.Verdicts.{HasOrderSizes, order_rules, pair_rules}
 use Rattle.tcc_judge.specs.declared.verdict.Rule.{Rule}
 use Rattle.tcc_check.specs.declared.verdict.Verdict.{Verdict}
@@ -50,11 +51,14 @@ module _ (h : History) (order positions : List ℕ) (numbering : IsNumbering (co
       go b c (inr (x, pair)) = read b c x pair (cases_lt (get_or positions b 0) (get_or positions c 0))
 
 -- the order of whole runs
-pub told_ordered : (h : History) → IsBySession h.entries → 0 < count h → ((n : ℕ) → 0 < n → n < count h → owner h n < length h.sessions) → (k : RunsClaim)
-    → HasOrderSizes h k → IsOrdered h (order_of h k.runs)
-told_ordered h numbered some owned k sizes = record {
-  numbering = told_numbering h numbered some owned k.runs sizes.whole;
-  sessions = λ a b pair. told_sessions h numbered some owned k.runs sizes.whole a b pair;
+pub told_ordered : (h : History) → IsBySession h.entries → 0 < count h → ((n : ℕ) → 0 < n → n < count h → owner h n < length h.sessions) → (runs : List Run)
+    → AreWhole h runs → IsOrdered h (order_of h runs)
+told_ordered h numbered some owned runs whole = record {
+  numbered = numbered;
+  numbering = told_numbering h numbered some owned runs whole;
+  some = omega arith;
+  init = refl;
+  sessions = λ a b pair. told_sessions h numbered some owned runs whole a b pair;
 }
 
 -- the rules hold exactly for commit orders
@@ -64,7 +68,7 @@ accepted_order h numbered some owned k = ((λ all. there all), λ both. back bot
   where
     there : AllHold (order_rules h k) → HasOrderSizes h k × IsCommitOrder (judged h k.level) (order_of h k.runs)
     there (sizes, (pairs, (axioms, rest))) =
-        let ordered = told_ordered h numbered some owned k sizes in (
+        let ordered = told_ordered h numbered some owned k.runs sizes.whole in (
           sizes,
           record {
             numbering = ordered.numbering;

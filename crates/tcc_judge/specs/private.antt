@@ -4,6 +4,7 @@ pub mod Positions
 pub mod NextWriters
 pub mod Readings
 pub mod Behind
+pub mod Blocks
 pub mod Contradicted
 pub mod Members
 pub mod Decoding

@@ -1,6 +1,5 @@
 //! The judge of a claim that links are a cycle, and perhaps a least one.
 ghost use Rattle.std.specs.Prelude.{◌≡◌, ◌≤◌, ◌↔◌, [], IfOk, IsTrue, List};
-ghost use Rattle.tcc_reads.specs.History.{IsBySession, count};
 ghost use Rattle.tcc_graph.specs.declared.level.Level.{Level};
 ghost use Rattle.tcc_cert.specs.declared.large.Run.{Run};
 ghost use Rattle.tcc_judge.specs.declared.cycles.TheConstants.{SHORT};
@@ -11,6 +10,7 @@ ghost use Rattle.tcc_check.specs.Asked.{IsVerdictOf};
 use crate::decoding::told;
 use crate::links::judge_links;
 use crate::onward::onward_verdict;
+use crate::verdict::rejected;
 use crate::{Rule, Verdict};
 use std::alloc::Global;
 use tcc_cert::{LinksClaim, Run};
@@ -31,7 +31,6 @@ fn is_none(runs: &[Run]) -> bool
 
 /// Whether the runs are those that are needed for a claim that no cycle costs less.
 fn are_needed(alloc: Global, graph: &LargeGraph, cost: u32, runs: &[Run]) -> Result<bool, NoMemory>
-    requires { IsBySession graph.now.entries }
     ensures { IfOk result (λ needed. IsTrue needed ↔ AreNeeded graph.now cost runs.now) }
 {
     if cost <= SHORT {
@@ -45,7 +44,6 @@ fn are_needed(alloc: Global, graph: &LargeGraph, cost: u32, runs: &[Run]) -> Res
 
 /// Whether the sizes of a claim are those of the history.
 fn has_links_sizes(alloc: Global, graph: &LargeGraph, claim: &LinksClaim) -> Result<bool, NoMemory>
-    requires { IsBySession graph.now.entries }
     ensures { IfOk result (λ right. IsTrue right ↔ HasLinksSizes graph.now claim.now) }
 {
     if claim.transactions != graph.count() {
@@ -93,21 +91,14 @@ fn least_verdict(
     cost: u32,
     runs: &[Run],
 ) -> Result<Verdict, NoMemory>
-    requires numbered { IsBySession graph.now.entries }
-    requires needed { AreNeeded graph.now cost runs.now }
+    requires { AreNeeded graph.now cost runs.now }
     ensures { IfOk result (IsVerdictOf (least_rules graph.now level cost runs.now)) }
 {
     if cost <= SHORT {
         return Ok(short_verdict(graph, cost));
     }
-    // each transaction is of a session, and there is `init`, as these calls say
-    graph.sessions();
-    graph.count();
     let Some(order) = told(alloc, graph, runs)? else {
-        return Ok(Verdict::Rejected {
-            rule: Rule::Sizes,
-            at: (0, 0),
-        });
+        return Ok(rejected(Rule::Sizes));
     };
     let verdict = onward_verdict(alloc, graph, level, cost, &order)?;
     Ok(verdict)
@@ -123,13 +114,8 @@ pub fn judge_cycle(
 ) -> Result<Verdict, NoMemory>
     ensures { IfOk result (IsVerdictOf (cycle_rules graph.now claim.now)) }
 {
-    // transactions stand by session and by place, as this call says
-    graph.sessions();
     if !has_links_sizes(alloc, graph, claim)? {
-        return Ok(Verdict::Rejected {
-            rule: Rule::Sizes,
-            at: (0, 0),
-        });
+        return Ok(rejected(Rule::Sizes));
     }
     let verdict = judge_links(graph, claim)?;
     if verdict != Verdict::Accepted {

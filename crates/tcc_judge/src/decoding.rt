@@ -1,10 +1,10 @@
 //! Run-length decoding: the order that runs tell, run by run. For N transactions, S sessions and R runs that takes N + S + R steps.
-ghost use Rattle.std.specs.Prelude.{◌≡◌, ◌<◌, ◌≤◌, ◌+◌, ◌-◌, ◌++◌, ◌↔◌, [], List, length, slice_index, IfOk, IsTrue, MatchOption, OnOk};
+ghost use Rattle.std.specs.Prelude.{◌≡◌, ◌<◌, ◌≤◌, ◌+◌, ◌-◌, ◌++◌, ◌↔◌, [], List, length, slice_index, IfOk, IfSome, IsTrue, MatchOption, OnOk};
 ghost use Rattle.std.specs.List.{range_with_len};
 ghost use Rattle.tcc_reads.specs.History.{History, IsBySession, count};
 ghost use Rattle.tcc_cert.specs.declared.large.Run.{Run};
 ghost use Rattle.tcc_judge.specs.Runs.{AreWhole, first_of, order_of};
-ghost use Rattle.tcc_judge.specs.private.Decoding.{AreFirsts, IsTold, IsToldOn};
+ghost use Rattle.tcc_judge.specs.private.Decoding.{AreFirsts, IsOrdered, IsTold, IsToldOn};
 
 use std::alloc::Global;
 use tcc_cert::Run;
@@ -142,11 +142,14 @@ pub(crate) fn told(
     graph: &LargeGraph,
     runs: &[Run],
 ) -> Result<Option<Vec<u32>>, NoMemory>
-    requires { IsBySession graph.now.entries }
-    ensures { IfOk result (λ found. MatchOption found
+    ensures whole { IfOk result (λ found. MatchOption found
         (AreWhole graph.now runs.now → ⊥)
         (λ order. AreWhole graph.now runs.now × (order.items ≡ order_of graph.now runs.now))) }
+    ensures ordered { IfOk result (λ found. IfSome found (λ order. IsOrdered graph.now order.items)) }
 {
+    // each transaction is of a session, and there is `init`, as these calls say
+    graph.sessions();
+    graph.count();
     let mut decoder = begin(alloc, graph)?;
     for run in runs {
         if !tell(&mut decoder, *run)? {

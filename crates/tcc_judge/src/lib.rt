@@ -3,6 +3,7 @@
 #![tactic(auto)]
 
 mod behind;
+mod blocks;
 mod claims;
 mod contradicted;
 mod cycles;

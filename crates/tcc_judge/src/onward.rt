@@ -1,23 +1,20 @@
 //! The rules on that no cycle costs less, past a cost of 4. Where the order that runs tell keeps all pairs, a cycle that costs less
 //! goes through `init`, or else a derived link leads back in the order over each of its transactions; so it is looked for there.
-ghost use Rattle.std.specs.Prelude.{◌≡◌, ◌<◌, ◌≤◌, ◌⊎◌, ◌↔◌, length, slice_index, All, AllPairs, IfOk, IsTrue, MatchOption};
-ghost use Rattle.tcc_reads.specs.History.{IsBySession, count};
-ghost use Rattle.tcc_graph.specs.Keys.{keys};
+ghost use Rattle.std.specs.Prelude.{◌≤◌, ◌⊎◌, ◌↔◌, IfOk, IsTrue, MatchOption};
 ghost use Rattle.tcc_graph.specs.Levels.{judged};
-ghost use Rattle.tcc_graph.specs.Orders.{IsNumbering};
-ghost use Rattle.tcc_clocks.specs.Clocks.{LeadsOnward};
 ghost use Rattle.tcc_lanes.specs.Among.{HasCheaperAmong, HasCheaperIntoInit};
 ghost use Rattle.tcc_lanes.specs.declared.limits.TheConstants.{MOST_MEMBERS, MOST_STEPS};
 ghost use Rattle.tcc_judge.specs.Spanned.{IsBounded, IsSpanned, IsStaleKey};
 ghost use Rattle.tcc_check.specs.Asked.{IsVerdictOf};
 ghost use Rattle.tcc_judge.specs.private.Members.{AreThose};
-ghost use Rattle.tcc_judge.specs.private.Onward.{onward_rules};
-ghost use Rattle.tcc_judge.specs.private.Positions.{ArePositions};
+ghost use Rattle.tcc_judge.specs.private.Onward.{AreNarrowed, onward_rules};
+ghost use Rattle.tcc_judge.specs.private.Positions.{KeepsPairs};
 ghost use Rattle.tcc_judge.specs.private.Decoding.{IsOrdered};
 
 use crate::contradicted::contradicted_along;
 use crate::members::{marked, marked_under};
 use crate::turned::kept_positions;
+use crate::verdict::rejected;
 use crate::{Rule, Verdict};
 use std::alloc::Global;
 use tcc_graph::{LargeGraph, Level};
@@ -41,12 +38,8 @@ fn narrow_down(
     positions: &[u32],
     most: u32,
 ) -> Result<Option<Narrowed>, NoMemory>
-    requires numbered { IsBySession graph.now.entries }
-    requires numbering { IsNumbering (count graph.now) order.now }
-    requires some { 0 < length order.now }
-    requires init { slice_index order.now 0 ≡ 0 }
-    requires onward { LeadsOnward graph.now order.now }
-    requires positions { ArePositions (count graph.now) order.now positions.now }
+    requires ordered { IsOrdered graph.now order.now }
+    requires kept { KeepsPairs graph.now order.now positions.now }
     ensures { IfOk result (λ found. MatchOption found
         (IsBounded graph.now order.now most → ⊥)
         (λ narrowed. IsBounded graph.now order.now most
@@ -78,11 +71,7 @@ fn has_cheaper(
     narrowed: &Narrowed,
     most: u32,
 ) -> Result<bool, NoMemory>
-    requires inside { All (λ v. v < count graph.now) narrowed.now.members.items }
-    requires aside { All (λ v. 0 < v) narrowed.now.members.items }
-    requires ascend { AllPairs (λ u v. u < v) narrowed.now.members.items }
-    requires few { length narrowed.now.members.items ≤ MOST_MEMBERS }
-    requires keys { All (λ k. k < length (keys graph.now)) narrowed.now.key_indices.items }
+    requires narrowed { AreNarrowed graph.now narrowed.now.members.items narrowed.now.key_indices.items }
     requires steps { most ≤ MOST_STEPS }
     ensures { IfOk result (λ found. IsTrue found
         ↔ (HasCheaperAmong (judged graph.now level) narrowed.now.members.items most
@@ -103,11 +92,7 @@ pub(crate) fn onward_verdict(
     most: u32,
     order: &[u32],
 ) -> Result<Verdict, NoMemory>
-    requires numbered { IsBySession graph.now.entries }
-    requires there { 0 < count graph.now }
-    requires ordered { IsOrdered graph.now order.now }
-    requires some { 0 < length order.now }
-    requires init { slice_index order.now 0 ≡ 0 }
+    requires { IsOrdered graph.now order.now }
     ensures { IfOk result (IsVerdictOf (onward_rules (judged graph.now level) order.now most)) }
 {
     let positions = match kept_positions(alloc, graph, order)? {
@@ -120,16 +105,10 @@ pub(crate) fn onward_verdict(
         }
     };
     let Some(narrowed) = narrow_down(alloc, graph, order, &positions, most)? else {
-        return Ok(Verdict::Rejected {
-            rule: Rule::Limits,
-            at: (0, 0),
-        });
+        return Ok(rejected(Rule::Limits));
     };
     if has_cheaper(alloc, graph, level, &narrowed, most)? {
-        return Ok(Verdict::Rejected {
-            rule: Rule::Cheaper,
-            at: (0, 0),
-        });
+        return Ok(rejected(Rule::Cheaper));
     }
     Ok(Verdict::Accepted)
 }

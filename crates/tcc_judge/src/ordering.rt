@@ -1,14 +1,11 @@
 //! The judge of a claim that runs tell a commit order.
-ghost use Rattle.std.specs.Prelude.{◌≡◌, IfOk, MatchOption};
-ghost use Rattle.tcc_reads.specs.History.{IsBySession, count};
+ghost use Rattle.std.specs.Prelude.{◌≡◌, IfOk, IfSome, MatchOption};
 ghost use Rattle.tcc_graph.specs.Levels.{judged};
-ghost use Rattle.tcc_graph.specs.Orders.{IsNumbering};
-ghost use Rattle.tcc_clocks.specs.Clocks.{LeadsOnward};
 ghost use Rattle.tcc_judge.specs.Orders.{BreaksAxiom};
 ghost use Rattle.tcc_judge.specs.Runs.{order_of};
 ghost use Rattle.tcc_judge.specs.Verdicts.{HasOrderSizes, order_rules, pair_rules};
 ghost use Rattle.tcc_judge.specs.private.Least.{IsFoundFirst};
-ghost use Rattle.tcc_judge.specs.private.Positions.{ArePositions};
+ghost use Rattle.tcc_judge.specs.private.Positions.{KeepsPairs};
 ghost use Rattle.tcc_judge.specs.private.Decoding.{IsOrdered};
 ghost use Rattle.tcc_check.specs.Asked.{IsVerdictOf};
 
@@ -16,6 +13,7 @@ use crate::behind::first_behind;
 use crate::decoding::told;
 use crate::singles::first_single;
 use crate::turned::kept_positions;
+use crate::verdict::rejected;
 use crate::{Rule, Verdict};
 use std::alloc::Global;
 use tcc_cert::RunsClaim;
@@ -30,10 +28,8 @@ fn first_broken(
     order: &[u32],
     positions: &[u32],
 ) -> Result<Option<(u32, u32)>, NoMemory>
-    requires numbered { IsBySession graph.now.entries }
-    requires numbering { IsNumbering (count graph.now) order.now }
-    requires positions { ArePositions (count graph.now) order.now positions.now }
-    requires onward { LeadsOnward graph.now order.now }
+    requires ordered { IsOrdered graph.now order.now }
+    requires kept { KeepsPairs graph.now order.now positions.now }
     ensures { IfOk result (IsFoundFirst (BreaksAxiom (judged graph.now level) order.now)) }
 {
     match level {
@@ -49,8 +45,7 @@ pub(crate) fn pairs_verdict(
     level: Level,
     order: &[u32],
 ) -> Result<Verdict, NoMemory>
-    requires numbered { IsBySession graph.now.entries }
-    requires ordered { IsOrdered graph.now order.now }
+    requires { IsOrdered graph.now order.now }
     ensures { IfOk result (IsVerdictOf (pair_rules (judged graph.now level) order.now)) }
 {
     let positions = match kept_positions(alloc, graph, order)? {
@@ -77,10 +72,10 @@ fn claimed_order(
     graph: &LargeGraph,
     claim: &RunsClaim,
 ) -> Result<Option<Vec<u32>>, NoMemory>
-    requires { IsBySession graph.now.entries }
-    ensures { IfOk result (λ found. MatchOption found
+    ensures sizes { IfOk result (λ found. MatchOption found
         (HasOrderSizes graph.now claim.now → ⊥)
         (λ order. HasOrderSizes graph.now claim.now × (order.items ≡ order_of graph.now claim.now.runs))) }
+    ensures ordered { IfOk result (λ found. IfSome found (λ order. IsOrdered graph.now order.items)) }
 {
     if claim.transactions != graph.count() || claim.sessions as usize != graph.sessions().len() {
         return Ok(None);
@@ -100,14 +95,8 @@ pub fn judge_order(
 ) -> Result<Verdict, NoMemory>
     ensures { IfOk result (IsVerdictOf (order_rules graph.now claim.now)) }
 {
-    // transactions stand by session and by place, and there is `init`, as these calls say
-    graph.sessions();
-    graph.count();
     let Some(order) = claimed_order(alloc, graph, claim)? else {
-        return Ok(Verdict::Rejected {
-            rule: Rule::Sizes,
-            at: (0, 0),
-        });
+        return Ok(rejected(Rule::Sizes));
     };
     let verdict = pairs_verdict(alloc, graph, claim.level, &order)?;
     Ok(verdict)

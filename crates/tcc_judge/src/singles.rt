@@ -6,15 +6,13 @@ ghost use Rattle.std.specs.List.Sorted.{IsNonDecreasing, IsPartitionPoint};
 ghost use Rattle.tcc_reads.specs.History.{IsBySession, count};
 ghost use Rattle.tcc_graph.specs.Keys.{keys, key_at, writers};
 ghost use Rattle.tcc_graph.specs.Levels.{atomically};
-ghost use Rattle.tcc_graph.specs.Orders.{IsNumbering};
 ghost use Rattle.tcc_graph.specs.Relations.{IsSessionPair};
-ghost use Rattle.tcc_clocks.specs.Clocks.{LeadsOnward};
 ghost use Rattle.tcc_judge.specs.declared.least.TheConstants.{NONE};
 ghost use Rattle.tcc_judge.specs.Orders.{BreaksAxiom};
 ghost use Rattle.tcc_judge.specs.private.Least.{IsFoundFirst, IsLeastOf};
-ghost use Rattle.tcc_judge.specs.private.Positions.{ArePositions};
+ghost use Rattle.tcc_judge.specs.private.Positions.{KeepsPairs};
 ghost use Rattle.tcc_judge.specs.private.Singles.{DoRise, IsBegin, IsInSession, IsSingle, IsSingleOf, IsSource, is_passed};
-ghost use Rattle.tcc_judge.specs.private.Decoding.{AreFirsts};
+ghost use Rattle.tcc_judge.specs.private.Decoding.{AreFirsts, IsOrdered};
 
 use crate::behind::first_with;
 use crate::decoding::firsts_of;
@@ -162,10 +160,8 @@ pub(crate) fn first_single(
     order: &[u32],
     positions: &[u32],
 ) -> Result<Option<(u32, u32)>, NoMemory>
-    requires numbered { IsBySession graph.now.entries }
-    requires numbering { IsNumbering (count graph.now) order.now }
-    requires onward { LeadsOnward graph.now order.now }
-    requires positions { ArePositions (count graph.now) order.now positions.now }
+    requires ordered { IsOrdered graph.now order.now }
+    requires kept { KeepsPairs graph.now order.now positions.now }
     ensures { IfOk result (IsFoundFirst (BreaksAxiom (atomically graph.now) order.now)) }
 {
     let firsts = firsts_of(alloc, graph)?;

@@ -1,5 +1,6 @@
 //! What is answered of a claim, and the rules that it names.
 ghost use Rattle.std.specs.Prelude.{◌≡◌};
+ghost use Rattle.tcc_check.specs.declared.verdict.Verdict.TheVariants as verdict;
 ghost use Rattle.tcc_judge.specs.Verdicts.{rule_number};
 
 /// The rules, in the order in which they are judged. Of a claim that runs tell a commit order the first and the last two are
@@ -48,3 +49,10 @@ impl Rule {
 
 /// What the rules say of a claim.
 pub type Verdict = tcc_check::Verdict<Rule>;
+
+/// The verdict that this rule is the first broken one, of a rule that names nothing.
+pub(crate) fn rejected(rule: Rule) -> Verdict
+    ensures { result ≡ verdict.Rejected rule (0, 0) }
+{
+    Verdict::Rejected { rule, at: (0, 0) }
+}

@@ -1,6 +1,6 @@
 -- An order as its runs come.
 use Rattle.std.specs.Prelude.{ℕ, ◌<◌, ◌≤◌, ◌≡◌, ◌+◌, ◌++◌, ◌∷◌, [], Bool, true, false, List, All, length, slice_index}
-use Rattle.tcc_reads.specs.History.{History, count}
+use Rattle.tcc_reads.specs.History.{History, IsBySession, count}
 use Rattle.tcc_graph.specs.Orders.{Before, IsNumbering}
 use Rattle.tcc_graph.specs.Relations.{IsSessionPair}
 use Rattle.tcc_cert.specs.declared.large.Run.{Run}
@@ -25,7 +25,10 @@ abbrev pub IsToldOn : History → List Run → Run → List ℕ → List ℕ →
 IsToldOn h runs run firsts next order true = IsTold h (runs ++ run ∷ []) firsts next order
 IsToldOn h runs run firsts next order false = (later : List Run) → AreWhole h (runs ++ run ∷ later) → ⊥
 
--- an order has each transaction once, and every session pair in order
+-- transactions are numbered by session, and an order has each of them once, `init` first, and every session pair in order
 pub record IsOrdered (h : History) (order : List ℕ) : Type 0 where
+  pub numbered : IsBySession h.entries
   pub numbering : IsNumbering (count h) order
+  pub some : 0 < length order
+  pub init : slice_index order 0 ≡ 0
   pub sessions : (a b : ℕ) → IsSessionPair h a b → Before order a b

@@ -3,39 +3,50 @@ use Rattle.tcc_graph.specs.Keys.{key_at}
 use Rattle.tcc_graph.specs.Tables.{row_of}
 use Rattle.tcc_judge.specs.private.Least.{IsLeastOf}
 use Rattle.tcc_judge.specs.private.Behind.{IsBehindBy}
+use Rattle.tcc_judge.proofs.BlockLemmas.{wide_at}
 use Rattle.tcc_judge.proofs.ReadingLemmas.{least_begun, least_next, least_of_all, reading_at, reader_below}
 use Rattle.tcc_judge.proofs.BehindLemmas.{behind_by}
 use Rattle.tcc_judge.proofs.behind.least_behind.Goals as goal
 
 pub loop-index-init : goal.loop-index-init
-loop-index-init c = λ from clocks nexts.
+loop-index-init c =
     least_begun c.args.graph.now (get_or c.args.order.now c.args.place 0) c.readings_at.result.0.now c.readings_at.result.1.now
-    (IsBehindBy c.args.graph.now c.args.order.now from (c.args.place + 1))
+    (IsBehindBy c.args.graph.now c.args.order.now c.args.block.now.from (c.args.place + 1))
 
-pub get-requires-in-loop-index : goal.get-requires-in-loop-index
-get-requires-in-loop-index c =
+pub get-next-requires : goal.get-next-requires
+get-next-requires c =
+    let reading =
+    reading_at c.args.graph.now (get_or c.args.order.now c.args.place 0) c.readings_at.result.0.now c.readings_at.result.1.now c.readings_at.ensures
+    c.loop-index.index c.loop-index-test.true in
+    omega (arith, reading.key, c.requires.at.next.long)
+
+pub get-requires : goal.get-requires
+get-requires c =
     omega (
       arith,
       reader_below c.args.graph.now (get_or c.args.order.now c.args.place 0) c.readings_at.result.0.now c.readings_at.result.1.now
           c.readings_at.ensures c.loop-index.index c.loop-index-test.true,
-      c.requires.table.long,
+      c.requires.at.clocks.long,
     )
 
 pub least_within-within-requires : goal.least_within-within-requires
 least_within-within-requires c =
     let h = c.args.graph.now in
     let i = c.loop-index.index in
+    let wide = wide_at h c.args.order.now (c.args.place + 1) c.args.block.now c.requires.at in
     let reading =
     reading_at h (get_or c.args.order.now c.args.place 0) c.readings_at.result.0.now c.readings_at.result.1.now c.readings_at.ensures i c.loop-index-test.true in
-    rw (c.get.ensures, c.get-in-loop-index.ensures)
-    (c.requires.next.wide (get_or c.readings_at.result.1.now i 0) reading.key
-    ∙ sym (c.requires.table.wide (get_or c.readings_at.result.0.now i 0) reading.pair.1))
+    rw (c.get-next.ensures, c.get.ensures)
+    (wide.next.wide (get_or c.readings_at.result.1.now i 0) reading.key ∙ sym (wide.clocks.wide (get_or c.readings_at.result.0.now i 0) reading.pair.1))
 
 pub loop-index-preserved : goal.loop-index-preserved
-loop-index-preserved c = λ from clocks nexts.
+loop-index-preserved c =
     let h = c.args.graph.now in
     let order = c.args.order.now in
+    let block = c.args.block.now in
+    let from = block.from in
     let place = c.args.place + 1 in
+    let at = c.requires.at in
     let a : ℕ = get_or order c.args.place 0 in
     let readers = c.readings_at.result.0.now in
     let key_indices = c.readings_at.result.1.now in
@@ -44,14 +55,13 @@ loop-index-preserved c = λ from clocks nexts.
     let key : ℕ = get_or key_indices i 0 in
     let reader : ℕ = get_or readers i 0 in
     let one : IsLeastOf (IsBehindBy h order from place (key_at h key) reader) c.least_within-within.result
-    = behind_by h c.requires.numbered order from place (key_at h key) reader (row_of c.args.next.now key) (row_of c.args.table.now reader)
-    (nexts.wide key reading.key) c.requires.few (clocks.each reader reading.pair.1 reading.pair.1) (λ session narrow. nexts.each key session reading.key narrow)
-    c.least_within-within.result (rw (c.get.ensures, c.get-in-loop-index.ensures) at c.least_within-within.ensures) in
-    rw c.min-least.ensures
-    (least_next h a readers key_indices (IsBehindBy h order from place) i c.least_within-within.result c.loop-index.least one (c.loop-index.invariant from clocks nexts))
+    = behind_by h at.ready.ordered.numbered order from place (key_at h key) reader (row_of block.next key) (row_of block.clocks reader)
+    (at.next.wide key reading.key) at.ready.few (at.clocks.each reader reading.pair.1 reading.pair.1) (λ session narrow. at.next.each key session reading.key narrow)
+    c.least_within-within.result (rw (c.get-next.ensures, c.get.ensures) at c.least_within-within.ensures) in
+    rw c.min-least.ensures (least_next h a readers key_indices (IsBehindBy h order from place) i c.least_within-within.result c.loop-index.least one c.loop-index.invariant)
 
 pub returns : goal.returns
-returns c = λ from a clocks nexts same.
-    rw same
-    (least_of_all c.args.graph.now (get_or c.args.order.now c.args.place 0) c.readings_at.result.0.now c.readings_at.result.1.now
-    (IsBehindBy c.args.graph.now c.args.order.now from (c.args.place + 1)) c.readings_at.ensures c.loop-index.index c.loop-index.least (omega arith) (c.loop-index.invariant from clocks nexts))
+returns c =
+    least_of_all c.args.graph.now (get_or c.args.order.now c.args.place 0) c.readings_at.result.0.now c.readings_at.result.1.now
+    (IsBehindBy c.args.graph.now c.args.order.now c.args.block.now.from (c.args.place + 1)) c.readings_at.ensures c.loop-index.index c.loop-index.least (omega arith)
+    c.loop-index.invariant

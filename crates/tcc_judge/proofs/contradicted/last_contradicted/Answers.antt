@@ -1,12 +1,16 @@
 use Rattle.std.proofs.Common.{◌+◌, ℕ, get_or, arith}
+use Rattle.tcc_judge.proofs.BlockLemmas.{wide_at}
 use Rattle.tcc_judge.proofs.ReadingLemmas.{reading_at}
 use Rattle.tcc_judge.proofs.ContradictedLemmas.{to_all, to_more, to_none}
 use Rattle.tcc_judge.proofs.contradicted.last_contradicted.Goals as goal
 
 pub loop-index-init : goal.loop-index-init
-loop-index-init c = λ from clocks nexts.
-    to_none c.args.graph.now c.args.order.now c.args.positions.now from (c.args.place + 1) (get_or c.args.order.now c.args.place 0)
+loop-index-init c =
+    to_none c.args.graph.now c.args.order.now c.args.positions.now c.args.block.now.from (c.args.place + 1) (get_or c.args.order.now c.args.place 0)
     c.readings_at.result.0.now c.readings_at.result.1.now
+
+pub contradicted_to-to-requires-clause-wide : goal.contradicted_to-to-requires-clause-wide
+contradicted_to-to-requires-clause-wide c = wide_at c.args.graph.now c.args.order.now (c.args.place + 1) c.args.block.now c.requires.at
 
 pub contradicted_to-to-requires-clause-key : goal.contradicted_to-to-requires-clause-key
 contradicted_to-to-requires-clause-key c =
@@ -23,7 +27,7 @@ contradicted_to-to-requires-clause-reader c =
     reading.pair.1
 
 pub loop-index-preserved : goal.loop-index-preserved
-loop-index-preserved c = λ from clocks nexts.
+loop-index-preserved c =
     let h = c.args.graph.now in
     let order = c.args.order.now in
     let place = c.args.place + 1 in
@@ -33,12 +37,10 @@ loop-index-preserved c = λ from clocks nexts.
     let i = c.loop-index.index in
     let reading = reading_at h a readers key_indices c.readings_at.ensures i c.loop-index-test.true in
     rw c.max-last.ensures
-    (to_more h order c.args.positions.now from place a readers key_indices i c.contradicted_to-to.result c.loop-index.last
-    (c.contradicted_to-to.ensures order from place a clocks nexts c.requires.numbering c.requires.positions c.requires.onward reading.pair) (c.loop-index.invariant from clocks nexts))
+    (to_more h order c.args.positions.now c.args.block.now.from place a readers key_indices i c.contradicted_to-to.result c.loop-index.last
+    (c.contradicted_to-to.ensures order place a c.requires.at c.requires.positions reading.pair) c.loop-index.invariant)
 
 pub returns : goal.returns
-returns c = λ from a clocks nexts same.
-    rw same
-    (to_all c.args.graph.now c.args.order.now c.args.positions.now from (c.args.place + 1) (get_or c.args.order.now c.args.place 0)
-    c.readings_at.result.0.now c.readings_at.result.1.now c.readings_at.ensures c.loop-index.index c.loop-index.last (omega arith)
-    (c.loop-index.invariant from clocks nexts))
+returns c =
+    to_all c.args.graph.now c.args.order.now c.args.positions.now c.args.block.now.from (c.args.place + 1) (get_or c.args.order.now c.args.place 0)
+    c.readings_at.result.0.now c.readings_at.result.1.now c.readings_at.ensures c.loop-index.index c.loop-index.last (omega arith) c.loop-index.invariant

@@ -1,4 +1,4 @@
-use Rattle.std.proofs.Common.{◌<◌, ℕ, true, false, length, get_or, sym, ◌∙◌, arith}
+use Rattle.std.proofs.Common.{◌<◌, ℕ, true, length, get_or, sym, ◌∙◌, arith}
 use Rattle.std.proofs.lemmas.Bool.{false≢true}
 use Rattle.std.proofs.lemmas.List.{length-set}
 use Rattle.tcc_judge.proofs.ReadingLemmas.{reading_at}
@@ -6,16 +6,21 @@ use Rattle.tcc_judge.proofs.ContradictedLemmas.{stale_all, stale_more, stale_sam
 use Rattle.tcc_judge.proofs.contradicted.mark_stale.Goals.{then-is_contradicted, else-is_contradicted}
 use Rattle.tcc_judge.proofs.contradicted.mark_stale.Goals as goal
 
+pub is_contradicted-requires-clause-key : goal.is_contradicted-requires-clause-key
+is_contradicted-requires-clause-key c =
+    let reading = reading_at c.args.graph.now 0 c.readings_at.result.0.now c.readings_at.result.1.now c.readings_at.ensures c.loop-index.index c.loop-index-test.true in
+    omega (arith, reading.key, c.requires.wide.next.long)
+
 pub is_contradicted-requires-clause-reader : goal.is_contradicted-requires-clause-reader
 is_contradicted-requires-clause-reader c =
     let reading = reading_at c.args.graph.now 0 c.readings_at.result.0.now c.readings_at.result.1.now c.readings_at.ensures c.loop-index.index c.loop-index-test.true in
-    omega (arith, reading.pair.1, c.requires.table.long)
+    omega (arith, reading.pair.1, c.requires.wide.clocks.long)
 
 pub is_contradicted-requires-clause-wide : goal.is_contradicted-requires-clause-wide
 is_contradicted-requires-clause-wide c =
     let i = c.loop-index.index in
     let reading = reading_at c.args.graph.now 0 c.readings_at.result.0.now c.readings_at.result.1.now c.readings_at.ensures i c.loop-index-test.true in
-    c.requires.next.wide (get_or c.readings_at.result.1.now i 0) reading.key ∙ sym (c.requires.table.wide (get_or c.readings_at.result.0.now i 0) reading.pair.1)
+    c.requires.wide.next.wide (get_or c.readings_at.result.1.now i 0) reading.key ∙ sym (c.requires.wide.clocks.wide (get_or c.readings_at.result.0.now i 0) reading.pair.1)
 
 pub loop-index-preserved : goal.loop-index-preserved
 loop-index-preserved c =
@@ -32,20 +37,20 @@ loop-index-preserved c =
     elim c.if-is_contradicted.branch [
       | then-is_contradicted w ↦ rw w.stale-is record {
         same = length-set stale key true ∙ inv.same;
-        each = λ order from clocks nexts.
-            stale_more h order from readers key_indices old i stale (inv.each order from clocks nexts) inside
-            ((c.is_contradicted.ensures h order from 1 c.requires.numbered c.requires.few clocks nexts reading.key).0 w.if-is_contradicted.true);
+        each = λ order at.
+            stale_more h order c.args.block.now.from readers key_indices old i stale (inv.each order at) inside
+            ((c.is_contradicted.ensures h order 1 at reading.key).0 w.if-is_contradicted.true);
       }
       | else-is_contradicted w ↦ rw w.stale-is record {
         same = inv.same;
-        each = λ order from clocks nexts.
-            stale_same h order from readers key_indices old i stale (inv.each order from clocks nexts)
+        each = λ order at.
+            stale_same h order c.args.block.now.from readers key_indices old i stale (inv.each order at)
             (λ is. false≢true (sym w.if-is_contradicted.false
-            ∙ (c.is_contradicted.ensures h order from 1 c.requires.numbered c.requires.few clocks nexts reading.key).1 is));
+            ∙ (c.is_contradicted.ensures h order 1 at reading.key).1 is));
       }
     ]
 
 pub returns-clause-each : goal.returns-clause-each
-returns-clause-each c = λ order from clocks nexts.
-    stale_all c.args.graph.now order from c.readings_at.result.0.now c.readings_at.result.1.now c.args.stale.now c.readings_at.ensures c.loop-index.index
-    c.loop-index.stale (omega arith) c.requires.long (c.loop-index.invariant.each order from clocks nexts)
+returns-clause-each c = λ order at.
+    stale_all c.args.graph.now order c.args.block.now.from c.readings_at.result.0.now c.readings_at.result.1.now c.args.stale.now c.readings_at.ensures c.loop-index.index
+    c.loop-index.stale (omega arith) c.requires.long (c.loop-index.invariant.each order at)

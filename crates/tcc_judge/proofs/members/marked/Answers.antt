@@ -1,4 +1,4 @@
-use Rattle.std.proofs.Common.{◌≡◌, ◌+◌, ◌++◌, ◌∷◌, [], arith}
+use Rattle.std.proofs.Common.{◌≡◌, ◌++◌, ◌∷◌, [], arith}
 use Rattle.tcc_judge.proofs.MemberLemmas.{marked_same, marked_more, marked_all, too_many}
 use Rattle.tcc_judge.proofs.members.marked.Goals.{then-mark+else-len-most+in-Ok+in_ok-push, else-mark}
 use Rattle.tcc_judge.proofs.members.marked.Goals as goal

@@ -4,11 +4,8 @@ use Rattle.tcc_judge.proofs.ordering.pairs_verdict.Goals as goal
 pub returns-in-Err : goal.returns-in-Err
 returns-in-Err c = inl (refl, rw c.in-Err.is at c.in_ok-positions.ensures)
 
-pub first_broken-requires-clause-positions : goal.first_broken-requires-clause-positions
-first_broken-requires-clause-positions c = rw c.deref.ensures.value ((rw c.in-Ok.is at c.in_ok-positions.ensures).positions_are)
-
-pub first_broken-requires-clause-onward : goal.first_broken-requires-clause-onward
-first_broken-requires-clause-onward c = (rw c.in-Ok.is at c.in_ok-positions.ensures).onward
+pub first_broken-requires-clause-kept : goal.first_broken-requires-clause-kept
+first_broken-requires-clause-kept c = rw c.deref.ensures.value (rw c.in-Ok.is at c.in_ok-positions.ensures)
 
 pub returns-in-Some : goal.returns-in-Some
 returns-in-Some c = inr ((rw c.in-Ok.is at c.in_ok-positions.ensures).reads, inl (refl, rw c.in-Some.is at c.in_ok-at.ensures))

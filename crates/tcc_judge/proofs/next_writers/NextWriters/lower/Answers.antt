@@ -1,5 +1,4 @@
 use Rattle.std.proofs.Common.{rules, ◌≡◌, ◌<◌, ℕ, ◌∷◌, ◌++◌, [], length, get_or, map, set, replicate, sym, arith}
-use Rattle.std.specs.Prelude.{min}
 use Rattle.std.proofs.lemmas.List.{get_or_read, length-map}
 use Rattle.tcc_graph.specs.Tables.{row_of}
 use Rattle.tcc_clocks.proofs.NamedRows.{own_row}

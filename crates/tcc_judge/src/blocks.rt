@@ -1,0 +1,94 @@
+//! Blocks of 64 sessions, one after the other, and for each of them a pass back along an order of the causal pairs: with the vector
+//! clocks of the block, and of each key and each of its sessions the next writer behind a place. For N transactions, R reads, W writes
+//! and S sessions that takes some 64 (N + 2 R) + W steps a block, all of them maxima and comparisons of rows.
+ghost use Rattle.std.specs.Prelude.{◌≡◌, ◌<◌, ◌+◌, ◌*◌, length, IfOk, OnOk};
+ghost use Rattle.tcc_clocks.specs.Clocks.{LeadsOnward};
+ghost use Rattle.tcc_clocks.specs.declared.latest.TheConstants.{WIDE};
+ghost use Rattle.tcc_judge.specs.private.Blocks.{IsAt, IsReady};
+ghost use Rattle.tcc_judge.specs.private.Decoding.{IsOrdered};
+
+use crate::next_writers::{NextWriters, note_writer};
+use std::alloc::Global;
+use tcc_clocks::{SharedRows, Steps, WIDE, find_clocks, owners, previous_of_each, steps_along};
+use tcc_graph::LargeGraph;
+use tcc_txn::NoMemory;
+
+/// What is known of a block at a place of the order.
+#[derive(Drop)]
+pub(crate) struct Block {
+    /// Of each transaction the index of its session.
+    owners: Vec<u32>,
+    /// The transactions right before each one of the order.
+    steps: Steps,
+    /// The first session of the block.
+    from: u32,
+    /// Of each transaction its clock.
+    pub(crate) clocks: SharedRows,
+    /// Of each key the next writers.
+    pub(crate) next: NextWriters,
+}
+
+impl Block {
+    /// What is known before the first block is begun.
+    pub(crate) fn new(alloc: Global, graph: &LargeGraph, order: &[u32]) -> Result<Block, NoMemory>
+        requires ordered { IsOrdered graph.now order.now }
+        requires onward { LeadsOnward graph.now order.now }
+        ensures { IfOk result (IsReady graph.now order.now) }
+    {
+        let owners = owners(alloc, graph)?;
+        let parents = previous_of_each(alloc, graph)?;
+        let steps = steps_along(alloc, graph, &parents, order)?;
+        let clocks = SharedRows::new(alloc, graph.count())?;
+        let next = NextWriters::new(alloc, graph.keys().len())?;
+        Ok(Block {
+            owners,
+            steps,
+            from: 0,
+            clocks,
+            next,
+        })
+    }
+
+    /// Begins a block behind the last place.
+    pub(crate) fn begin(
+        &mut self,
+        graph: &LargeGraph,
+        order: &[u32],
+        number: usize,
+    ) -> Result<(), NoMemory>
+        requires inside { number * WIDE < length graph.now.sessions }
+        requires ready { IsReady graph.now order.now self.old }
+        ensures from { OnOk result (self.new.from ≡ number * WIDE) }
+        ensures at { OnOk result (IsAt graph.now order.now (length order.now) self.new) }
+    {
+        // there are few sessions, as this call says
+        graph.sessions();
+        self.from = (number * WIDE) as u32;
+        find_clocks(
+            &mut self.clocks,
+            graph,
+            &self.owners,
+            self.from,
+            order,
+            &self.steps,
+        )?;
+        self.next.clear();
+        Ok(())
+    }
+
+    /// Goes back to a place.
+    pub(crate) fn go_back(
+        &mut self,
+        graph: &LargeGraph,
+        order: &[u32],
+        place: usize,
+    ) -> Result<(), NoMemory>
+        requires inside { place < length order.now }
+        requires at { IsAt graph.now order.now (place + 1) self.old }
+        ensures from { self.new.from ≡ self.old.from }
+        ensures at { OnOk result (IsAt graph.now order.now place self.new) }
+    {
+        note_writer(&mut self.next, graph, &self.owners, self.from, order, place)?;
+        Ok(())
+    }
+}
