@@ -50,14 +50,14 @@ module _ {X : Type 0} (q : List ℕ) where
       by rest true is = absurd (none-some e.1 (sym (rw is at none)))
       by rest false is = rw is (rest (rw is at none))
 
-  -- it does not stand here either
+  -- a name that was not found before an index, and is not the one there, is not found behind it
   pub unfound-more : (es : List (List ℕ × X)) (i : ℕ) (n : List ℕ) (v : X) → finite.find name_cmp q (take i es) ≡ None
       → slice_get es i ≡ Some (n, v) → same n q ≡ false → finite.find name_cmp q (take (i + 1) es) ≡ None
   unfound-more es i n v none here other =
       let next : i + 1 ≡ suc i = omega arith in
       ap (λ k. finite.find name_cmp q (take k es)) next ∙ unfound-suc es i n v none here other
 
-  -- it does not stand anywhere
+  -- a name that was not found up to the end is not found
   pub unfound-all : (es : List (List ℕ × X)) (i : ℕ) → finite.find name_cmp q (take i es) ≡ None → length es ≤ i → finite.find name_cmp q es ≡ None
   unfound-all es i none past = ap (finite.find name_cmp q) (sym (take_all i es past)) ∙ none
 
@@ -143,7 +143,7 @@ torn-same s ps p (Some n) least agrees = (
   All-push (λ pass. Agrees s pass ⊎ (is_lt (name_cmp pass.session n) ≡ false)) ps p least.1 (inl agrees),
 )
 
--- and one with which they do not
+-- one pass more, with which the sessions do not agree
 pub torn-more : (s : Sessions) (ps : List Passed) (p : Passed) (o : Option (List ℕ)) → LeastTorn s ps o → (Agrees s p → ⊥)
     → LeastTorn s (ps ++ p ∷ []) (Some (lesser o p.session))
 torn-more s ps p None all torn = (

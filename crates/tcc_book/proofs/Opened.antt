@@ -59,13 +59,13 @@ opened old new journal session list is none room empty updates entries unique = 
     few = let longer = ap length (entries ∙ insert_entry-new same old session list none) in
         omega (arith, longer, length-append old.entries ((session, list) ∷ []), room)
 
--- the names after it
+-- the names after one more was opened
 pub opened-names : (old new : Positions) (session : List ℕ) (list : Vec ℕ) → get same old session ≡ None
     → new.entries ≡ insert_entry same old.entries session list → keys new ≡ keys old ++ session ∷ []
 opened-names old new session list none entries =
     ap keys_of (entries ∙ insert_entry-new same old session list none) ∙ map-append (λ e. e.0) old.entries ((session, list) ∷ [])
 
--- the same entries
+-- where no entry changed the journal is stored as before
 pub unchanged : (old new : Positions) (journal : List Entry) → new.entries ≡ old.entries → IsStored old journal → IsStored new journal
 unchanged old new journal kept is = record {
   each = λ q list at. is.each q list (ap (lookup (same q)) (sym kept) ∙ at);

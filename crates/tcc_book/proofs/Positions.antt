@@ -22,7 +22,7 @@ length-positions session n (e ∷ es) = by (length-positions session (n + 1) es)
     by rest true is = rw is (omega (arith, rest))
     by rest false is = rw is rest
 
--- and no more than there are records
+-- a session has no more positions than there are records
 pub few-positions : (session : List ℕ) (n : ℕ) (es : List Entry) → length (positions_from session n es) ≤ length es
 few-positions session n [] = omega arith
 few-positions session n (e ∷ es) = by (few-positions session (n + 1) es) (same session e.session) refl

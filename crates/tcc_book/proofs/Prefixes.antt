@@ -31,7 +31,7 @@ module _ (small large : Sessions) where
   abbrev pub GoesOn : List ℕ → Type 0
   GoesOn name = IsPrefix (list_of small name) (list_of large name)
 
-  -- so do the lists of the first sessions
+  -- the lists of the first sessions go on
   abbrev pub GoOn : ℕ → Type 0
   GoOn n = (k : ℕ) (e : Named) → k < n → slice_get (entries small) k ≡ Some e → GoesOn e.0
 

@@ -143,7 +143,7 @@ refusal-keeps old new session held position (refused.Full most) is = absurd is
 refusal-keeps old new session held position (refused.Torn torn) is = is.2
 refusal-keeps old new session held position refused.NoMemory is = is
 
--- and is refused for what it says
+-- a refusal is for what it says
 pub refusal-is : (old new : Positions) (journal : List Entry) (session : List ℕ) (held position : ℕ) (txn : Transaction) (fault : RecordFault)
     → IsStored old journal → length journal < MAX_TRANSACTIONS
     → AddsPosition {U = Unit {0}} old session held position (Err fault) new

@@ -171,7 +171,7 @@ module _ (names : List (List ℕ)) (entries : List Entry) (indexed : List Indexe
   pub writes_within : All (λ p. All (λ k. k < length names) p.writes) indexed
   writes_within n d h = rw (get_or_default indexed n d unindexed h) ((are.each n (omega (arith, are.long))).writes_within)
 
-  -- so are those of keys that are read
+  -- indices of keys that are read are within the names
   pub reads_within : All (λ p. All (λ read. read.0 < length names) p.reads) indexed
   reads_within n d h = rw (get_or_default indexed n d unindexed h) ((are.each n (omega (arith, are.long))).reads_within)
 

@@ -78,7 +78,7 @@ module _ (sessions names : List (List ℕ)) (indexed : List Indexed) (ordered : 
   pub parted : (mine : ℕ) → IsPartitionedBy (λ (p : Indexed). nat_le p.owner mine) indexed
   parted mine = IsPartitionedBy-leb (λ (p : Indexed). p.owner) indexed mine owners_rise
 
-  -- and what its answer says
+  -- what the answer of a search for the first transaction of a later session says
   module _ (u end : ℕ) (below : u < count h) (within : end ≤ count h)
       (point : IsPartitionPoint (λ (p : Indexed). nat_le p.owner (indexed_of indexed u).owner ≡ true)
       (λ (p : Indexed). nat_le p.owner (indexed_of indexed u).owner ≡ false) indexed end) where

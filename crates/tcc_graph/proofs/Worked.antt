@@ -239,14 +239,14 @@ walks_by_start = refl
 walks_by_start-back : walk_cmp (step.Session 1 4 ∷ step.Session 4 9 ∷ []) (step.Session 2 3 ∷ step.Session 3 9 ∷ []) ≡ Greater
 walks_by_start-back = refl
 
--- that differ in a kind
+-- walks that differ in a kind
 walks_by_kind : walk_cmp (step.Session 1 2 ∷ step.Session 2 3 ∷ []) (step.Session 1 2 ∷ step.Reads 2 3 x ∷ []) ≡ Less
 walks_by_kind = refl
 
 walks_by_kind-back : walk_cmp (step.Session 1 2 ∷ step.Reads 2 3 x ∷ []) (step.Session 1 2 ∷ step.Session 2 3 ∷ []) ≡ Greater
 walks_by_kind-back = refl
 
--- that differ in a key alone
+-- walks that differ in a key alone
 walks_by_key : walk_cmp (step.Reads 1 2 x ∷ step.Session 2 3 ∷ []) (step.Reads 1 2 y ∷ step.Session 2 3 ∷ []) ≡ Less
 walks_by_key = refl
 
@@ -268,6 +268,6 @@ links_by_reader = refl
 cycles_by_start : cycle_cmp (1, link.Derived 1 0 x 2 (step.Session 1 2 ∷ []) ∷ link.Reads 0 1 x ∷ []) (2, link.Session 2 3 ∷ link.Session 0 2 ∷ []) ≡ Less
 cycles_by_start = refl
 
--- and of one start the last link, the first one being the other way round
+-- of one start the last link decides, the first one being the other way round
 cycles_by_last : cycle_cmp (1, link.Reads 1 2 x ∷ link.Session 2 1 ∷ []) (1, link.Session 1 2 ∷ link.Reads 2 1 x ∷ []) ≡ Less
 cycles_by_last = refl

@@ -85,7 +85,7 @@ module _ (named : List (List ℕ × List Transaction)) (names : List (List ℕ))
         ∙ ap (λ es. history_of (map (λ part. part.0) es) (stands_from 0 es)) (sym is),
   )
 
-  -- and where there are faults they are those of a snapshot with these sessions
+  -- faults that are found are those of a snapshot with these sessions
   pub refusal_of_findings : (faults ≡ [] → ⊥) → (s : Sessions) → entries s ≡ named → (faults ≡ read_faults s) × (faults ≡ [] → ⊥)
   refusal_of_findings some s is = (faults_of_findings ∙ ap (λ es. faults_of (stands_from 0 es)) (sym is), some)
 

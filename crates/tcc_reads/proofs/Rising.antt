@@ -170,6 +170,6 @@ module _ (named : List (List ℕ × List Transaction)) (reads : Stand → List (
     rises_at (λ (a b : Entry). a.owner ≡ b.owner → a.place < b.place) list i k initial (omega arith) (omega arith) placed,
   )
 
--- so those of a snapshot
+-- the transactions of a snapshot stand by session and place
 pub by_session : (s : Sessions) → IsBySession (history s).entries
 by_session s = by_sessions (entries s) (reads_of (stands s))

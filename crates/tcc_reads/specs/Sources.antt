@@ -72,7 +72,7 @@ writes_of stand = sorted_once name_cmp (filter_map key_put stand.txn.ops)
 abbrev pub external_reads : Stand → List (List ℕ × ℕ)
 external_reads stand = filter_map external_read (sites_of stand)
 
--- and as key and source
+-- the external reads of a transaction, as key and source
 abbrev pub reads_of : List Stand → Stand → List (List ℕ × ℕ)
 reads_of all stand = sorted_once pair_cmp (map (λ r. (r.0, source all r.0 r.1)) (external_reads stand))
 

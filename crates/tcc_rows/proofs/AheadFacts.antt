@@ -102,7 +102,7 @@ module _ (limits : Limits) where
         answers = refl;
       }) has
 
-  -- and all its records are left
+  -- a reader at its beginning has all its records left
   pub all-left : {R : Type 0} (remaining : R → Option (List ℕ)) (reader : R) (records : Records R)
       → IfSome (remaining reader) (λ text. HasLeft remaining records (records_within limits text)) → records.count ≡ 0 → records.stage ≡ records_stage.Going
       → IfSome (remaining reader) (λ text. StandsIn remaining records (records_within limits text))

@@ -74,7 +74,7 @@ line-of_record (session ∷ word ∷ key ∷ value ∷ []) =
     (in-of_record session _ (op-of_record true key value)) refl))
 line-of_record (a ∷ b ∷ c ∷ d ∷ e ∷ more) = refl
 
--- the same of a kind that there may be
+-- no kind, or one that does not come at the end of the input
 abbrev none_at_end : Option RowFaultKind → Bool
 none_at_end None = true
 none_at_end (Some k) = not (at_end k)

@@ -29,7 +29,7 @@ use Rattle.tcc_rows.specs.declared.fault.RowFaultKind.TheVariants as kind
 use Rattle.tcc_rows.specs.Line.{Line}
 use Rattle.tcc_rows.specs.Line as line
 use Rattle.tcc_rows.proofs.FinishedFacts.{AreLawful, few_begun, few_seated, fits, judged-free, no-begin-fault, no-finish-fault}
-use Rattle.tcc_rows.proofs.Interleaving.{does, drops, judged-line, keeps, lines-filter, lines_after, noted, ops-kept, same-lines}
+use Rattle.tcc_rows.proofs.Interleaving.{begun-kept, does, drops, judged-line, keeps, lines-filter, lines_after, noted, ops-kept, same-lines}
 use Rattle.tcc_rows.proofs.LeastOpen.{none-open}
 use Rattle.tcc_txn.proofs.Lists.{from_filter, in_filter}
 use Rattle.tcc_rows.proofs.PastFacts.{begun-seen, same-itself, same-name, seen-noted, seen-other}
@@ -64,7 +64,7 @@ only-owner (Some q) (line.Begin session) e = ap Some (sym (same-name session q e
 only-owner (Some q) (line.Finish session committed) e = ap Some (sym (same-name session q e))
 only-owner (Some q) (line.Operation session op) e = ap Some (sym (same-name session q e))
 
--- the same lines of each session, and of none
+-- each session has the same lines in both, and so have seals
 abbrev AreSame : List Line → List Line → Type 0
 AreSame some other = (o : Option (List ℕ)) → filter (stands o) some ≡ filter (stands o) other
 
@@ -248,37 +248,15 @@ FollowsIn begun ops (line.Begin session) = begun ≡ false
 FollowsIn begun ops (line.Finish session committed) = begun ≡ true
 FollowsIn begun ops (line.Operation session op) = (begun ≡ true) × (length (ops ++ op ∷ []) ≤ MAX_OPERATIONS)
 
--- so may each line of the session
+-- each line of the session may follow those before it
 abbrev FollowBy : List ℕ → List Line → Type 0
 FollowBy q [] = Unit {0}
 FollowBy q (l ∷ past) = (does q l ≡ true → FollowsIn (is_begun q past) (ops_since q past) l) × FollowBy q past
 
-begun-kept : (q : List ℕ) (past : List Line) → is_begun q past ≡ is_begun q (filter (does q) past)
-begun-kept q [] = refl
-begun-kept q (line.Seal ∷ past) = begun-kept q past
-begun-kept q (line.Operation session op ∷ past) = by (same session q) (begun-kept q past)
-  where
-    by : (b : Bool) → is_begun q past ≡ is_begun q (filter (does q) past)
-        → is_begun q past ≡ is_begun q (cond b (line.Operation session op ∷ filter (does q) past) (filter (does q) past))
-    by true more = more
-    by false more = more
-begun-kept q (line.Begin session ∷ past) = by (same session q) refl (begun-kept q past)
-  where
-    by : (b : Bool) → same session q ≡ b → is_begun q past ≡ is_begun q (filter (does q) past)
-        → cond b true (is_begun q past) ≡ is_begun q (cond b (line.Begin session ∷ filter (does q) past) (filter (does q) past))
-    by true e more = rw e refl
-    by false e more = more
-begun-kept q (line.Finish session committed ∷ past) = by (same session q) refl (begun-kept q past)
-  where
-    by : (b : Bool) → same session q ≡ b → is_begun q past ≡ is_begun q (filter (does q) past)
-        → cond b false (is_begun q past) ≡ is_begun q (cond b (line.Finish session committed ∷ filter (does q) past) (filter (does q) past))
-    by true e more = rw e refl
-    by false e more = more
-
 follows-as : (l : Line) (a b : Bool) (xs ys : List Op) → a ≡ b → xs ≡ ys → FollowsIn a xs l → FollowsIn b ys l
 follows-as l a b xs ys e f follows = subst (λ ops. FollowsIn b ops l) f (subst (λ begun. FollowsIn begun xs l) e follows)
 
--- that depends on the lines of the session alone
+-- whether lines may follow one another depends on those of the session alone
 follow-kept : (q : List ℕ) (past : List Line) → FollowBy q past → FollowBy q (filter (does q) past)
 follow-kept q [] all = tt
 follow-kept q (l ∷ past) all = by (does q l) refl (follow-kept q past all.1)

@@ -14,7 +14,7 @@ use Rattle.tcc_rows.specs.Interleaved.{AreInterleaved, is_by}
 use Rattle.tcc_txn.specs.Bytes.{same}
 use Rattle.tcc_rows.specs.Lines.{Record, in_session, is_cut, line_of, op_of}
 use Rattle.tcc_txn.specs.Names.{name_fault}
-use Rattle.tcc_rows.specs.Past.{item_of, ops_since, fault_within}
+use Rattle.tcc_rows.specs.Past.{is_begun, item_of, ops_since, fault_within}
 use Rattle.tcc_txn.specs.Transactions.{Transaction}
 use Rattle.tcc_txn.specs.declared.limits.Limits.{Limits}
 use Rattle.tcc_txn.specs.declared.limits.Limits.TheVariants.{Small}
@@ -107,7 +107,7 @@ module _ (p : Line → Bool) (s : Record → Bool) (agree : (fields : Record) (l
       by (Err k) e true t more = more past ∙ first (Err k) e (filter p past)
       by (Err k) e false t more = more past
 
--- the same lines of each session
+-- each session has the same lines in both
 abbrev pub SameLines : List Line → List Line → Type 0
 SameLines some other = (q : List ℕ) → filter (does q) some ≡ filter (does q) other
 
@@ -115,29 +115,7 @@ pub same-lines : (some other : List Record) → AreInterleaved some other → Sa
 same-lines some other interleaved = λ q.
     lines-filter (does q) (is_by q) (whose q) some [] ∙ ap (lines_after []) (interleaved q) ∙ sym (lines-filter (does q) (is_by q) (whose q) other [])
 
--- ---- what a session has finished
-
-pub ops-kept : (q : List ℕ) (past : List Line) → ops_since q past ≡ ops_since q (filter (does q) past)
-ops-kept q [] = refl
-ops-kept q (line.Seal ∷ past) = append-nil (ops_since q past) ∙ ops-kept q past
-ops-kept q (line.Begin s ∷ past) = by (same s q) refl (ops-kept q past)
-  where
-    by : (b : Bool) → same s q ≡ b → ops_since q past ≡ ops_since q (filter (does q) past)
-        → cond b [] (ops_since q past ++ []) ≡ ops_since q (cond b (line.Begin s ∷ filter (does q) past) (filter (does q) past))
-    by true e more = rw e refl
-    by false e more = append-nil (ops_since q past) ∙ more
-ops-kept q (line.Finish s committed ∷ past) = by (same s q) refl (ops-kept q past)
-  where
-    by : (b : Bool) → same s q ≡ b → ops_since q past ≡ ops_since q (filter (does q) past)
-        → cond b [] (ops_since q past ++ []) ≡ ops_since q (cond b (line.Finish s committed ∷ filter (does q) past) (filter (does q) past))
-    by true e more = rw e refl
-    by false e more = append-nil (ops_since q past) ∙ more
-ops-kept q (line.Operation s op ∷ past) = by (same s q) refl (ops-kept q past)
-  where
-    by : (b : Bool) → same s q ≡ b → ops_since q past ≡ ops_since q (filter (does q) past)
-        → ops_since q past ++ cond b (op ∷ []) [] ≡ ops_since q (cond b (line.Operation s op ∷ filter (does q) past) (filter (does q) past))
-    by true e more = rw e (ap (λ ops. ops ++ op ∷ []) more)
-    by false e more = append-nil (ops_since q past) ∙ more
+-- ---- what lines say of a session
 
 -- a list with one more, where there is one to add
 abbrev one_more : Bool → Transaction → Option (List Transaction) → Option (List Transaction)
@@ -150,31 +128,57 @@ done q (line.Begin s ∷ past) = done q past
 done q (line.Finish s committed ∷ past) = one_more (same s q) (record { ops = ops_since q past; committed = committed }) (done q past)
 done q (line.Operation s op ∷ past) = done q past
 
-done-kept : (q : List ℕ) (past : List Line) → done q past ≡ done q (filter (does q) past)
-done-kept q [] = refl
-done-kept q (line.Seal ∷ past) = done-kept q past
-done-kept q (line.Begin s ∷ past) = by (same s q) (done-kept q past)
-  where
-    by : (b : Bool) → done q past ≡ done q (filter (does q) past) → done q past ≡ done q (cond b (line.Begin s ∷ filter (does q) past) (filter (does q) past))
-    by true more = more
-    by false more = more
-done-kept q (line.Operation s op ∷ past) = by (same s q) (done-kept q past)
-  where
-    by : (b : Bool) → done q past ≡ done q (filter (does q) past)
-        → done q past ≡ done q (cond b (line.Operation s op ∷ filter (does q) past) (filter (does q) past))
-    by true more = more
-    by false more = more
-done-kept q (line.Finish s committed ∷ past) = by (same s q) refl (done-kept q past)
-  where
-    txn : List Line → Transaction
-    txn lines = record { ops = ops_since q lines; committed = committed }
+-- what lines say of a session: whether it has begun a transaction, its operations since its last mark, and what it has finished
+abbrev Said : Type 0
+Said = Bool × List Op × Option (List Transaction)
 
-    by : (b : Bool) → same s q ≡ b → done q past ≡ done q (filter (does q) past)
-        → one_more b (txn past) (done q past) ≡ done q (cond b (line.Finish s committed ∷ filter (does q) past) (filter (does q) past))
-    by true e more =
-        rw e (ap (λ ops. one_more true (record { ops = ops; committed = committed }) (done q past)) (ops-kept q past)
-        ∙ ap (one_more true (txn (filter (does q) past))) more)
-    by false e more = more
+abbrev said : List ℕ → List Line → Said
+said q past = (is_begun q past, ops_since q past, done q past)
+
+-- what one more line makes of that
+abbrev after_line : List ℕ → Line → Said → Said
+after_line q line.Seal x = (x.0, x.1 ++ [], x.2)
+after_line q (line.Begin s) x = (cond (same s q) true x.0, cond (same s q) [] (x.1 ++ []), x.2)
+after_line q (line.Finish s committed) x = (
+  cond (same s q) false x.0,
+  cond (same s q) [] (x.1 ++ []),
+  one_more (same s q) (record { ops = x.1; committed = committed }) x.2,
+)
+after_line q (line.Operation s op) x = (x.0, x.1 ++ cond (same s q) (op ∷ []) [], x.2)
+
+said-line : (q : List ℕ) (l : Line) (past : List Line) → said q (l ∷ past) ≡ after_line q l (said q past)
+said-line q line.Seal past = refl
+said-line q (line.Begin s) past = refl
+said-line q (line.Finish s committed) past = refl
+said-line q (line.Operation s op) past = refl
+
+nothing-more : (x : Said) → (x.0, x.1 ++ [], x.2) ≡ x
+nothing-more x = λ i. (x.0, append-nil x.1 i, x.2)
+
+-- the lines of others change nothing of it
+said-other : (q : List ℕ) (l : Line) (x : Said) → does q l ≡ false → after_line q l x ≡ x
+said-other q line.Seal x e = nothing-more x
+said-other q (line.Begin s) x e = rw e (nothing-more x)
+said-other q (line.Finish s committed) x e = rw e (nothing-more x)
+said-other q (line.Operation s op) x e = rw e (nothing-more x)
+
+said-kept : (q : List ℕ) (past : List Line) → said q past ≡ said q (filter (does q) past)
+said-kept q [] = refl
+said-kept q (l ∷ past) = by (does q l) refl (said-kept q past)
+  where
+    by : (b : Bool) → does q l ≡ b → said q past ≡ said q (filter (does q) past)
+        → said q (l ∷ past) ≡ said q (cond b (l ∷ filter (does q) past) (filter (does q) past))
+    by true e more = said-line q l past ∙ ap (after_line q l) more ∙ sym (said-line q l (filter (does q) past))
+    by false e more = said-line q l past ∙ said-other q l (said q past) e ∙ more
+
+pub begun-kept : (q : List ℕ) (past : List Line) → is_begun q past ≡ is_begun q (filter (does q) past)
+begun-kept q past = ap (λ (x : Said). x.0) (said-kept q past)
+
+pub ops-kept : (q : List ℕ) (past : List Line) → ops_since q past ≡ ops_since q (filter (does q) past)
+ops-kept q past = ap (λ (x : Said). x.1) (said-kept q past)
+
+done-kept : (q : List ℕ) (past : List Line) → done q past ≡ done q (filter (does q) past)
+done-kept q past = ap (λ (x : Said). x.2) (said-kept q past)
 
 -- the list of a session in what some lines finish
 get-done : (past : List Line) (q : List ℕ) → finite.get (finished_by past) q ≡ done q past

@@ -40,7 +40,7 @@ lesser-first a b not_above = by (name_cmp a b) refl
     by Equal e = rw e refl
     by Greater e = absurd (not_above e)
 
--- and the second, where that is not above the first
+-- the lesser of two names is the second, where that is not above the first
 lesser-second : (a b : List ℕ) → name_cmp b a ≢ Greater → lesser a b ≡ b
 lesser-second a b not_above = by (name_cmp a b) refl
   where

@@ -16,7 +16,7 @@ use Rattle.tcc_txn.specs.declared.op.Op.{Op}
 use Rattle.tcc_rows.specs.Line.{Line}
 use Rattle.tcc_rows.specs.Line as line
 
--- the order of names ties where they are the same
+-- the order of names ties where their bytes are equal
 pub at-same : (a b : List ℕ) → is_at (slice_cmp nat_cmp a) b ≡ same a b
 at-same a b = sym (texts_ties a b)
 
@@ -112,7 +112,7 @@ equal-from Less e = cc e
 equal-from Equal e = refl
 equal-from Greater e = cc e
 
--- the same name
+-- names of equal bytes are one
 pub same-name : (a b : List ℕ) → same a b ≡ true → a ≡ b
 same-name a b e = slice_cmp-IsAntisymmetric nat_cmp-IsAntisymmetric a b (equal-from _ (at-same a b ∙ e))
 

@@ -82,7 +82,7 @@ within_the_limit = refl
 seals : (fault_of (replicate 256 line.Seal) line.Seal ≡ Some kind.TooManySeals) × (fault_of (replicate 255 line.Seal) line.Seal ≡ None)
 seals = (refl, refl)
 
--- so many transactions of one session, all aborted
+-- the lines of some transactions of one session, all aborted
 aborted : ℕ → List Line
 aborted zero = []
 aborted (suc n) = line.Finish (codes "a") false ∷ line.Begin (codes "a") ∷ aborted n
@@ -92,7 +92,7 @@ transactions : (fault_of (aborted 4095) (line.Begin (codes "a")) ≡ Some kind.T
 unfolding aborted
 transactions = (refl, refl)
 
--- so many operations of one transaction
+-- the lines of some operations of one transaction
 operations : ℕ → List Line
 operations zero = line.Begin (codes "a") ∷ []
 operations (suc n) = line.Operation (codes "a") (Get (codes "x") 0) ∷ operations n

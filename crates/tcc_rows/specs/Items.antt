@@ -3,10 +3,8 @@ use Rattle.std.specs.Prelude.{List, fold}
 use Rattle.std.specs.FinMap as map
 use Rattle.tcc_txn.specs.Finished.{with_transaction}
 use Rattle.tcc_txn.specs.Snapshots.{Sessions}
-use Rattle.tcc_txn.specs.declared.snapshot.GrowFault.TheVariants as grow
 use Rattle.tcc_rows.specs.declared.rows.Item.{Item}
 use Rattle.tcc_rows.specs.declared.rows.Item.TheVariants as item
-use Rattle.tcc_rows.specs.declared.fault.RowFaultKind.TheVariants as kind
 
 -- what is finished after one more item
 abbrev pub with_item : Sessions → Item → Sessions

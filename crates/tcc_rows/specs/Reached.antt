@@ -5,7 +5,6 @@ use Rattle.tcc_rows.specs.Lines.{Record}
 use Rattle.tcc_rows.specs.RecordsLeft.{HasLeft, record_of}
 use Rattle.tcc_rows.specs.declared.rows.Stage.{Stage}
 use Rattle.tcc_rows.specs.declared.rows.Stage.TheVariants as stage
-use Rattle.tcc_rows.specs.declared.fault.RowFaultKind.TheVariants as kind
 use Rattle.tcc_rows.specs.declared.rows.Rows.{Rows}
 use Rattle.tcc_rows.specs.declared.rows.records.RecordsStage.{RecordsStage}
 use Rattle.tcc_rows.specs.declared.rows.records.RecordsStage.TheVariants as records_stage

@@ -11,9 +11,7 @@ use Rattle.tcc_rows.specs.Past.{begin_count, is_begun, keys, ops_since, seal_cou
 use Rattle.tcc_txn.specs.declared.limits.Limits.{Limits}
 use Rattle.tcc_txn.specs.declared.limits.TheConstants.{MAX_SEALS}
 use Rattle.tcc_txn.specs.declared.op.Op.{Op}
-use Rattle.tcc_rows.specs.declared.fault.RowFaultKind.TheVariants as kind
 use Rattle.tcc_rows.specs.Line.{Line}
-use Rattle.tcc_rows.specs.Line as line
 use Rattle.tcc_rows.specs.declared.rows.progress.Progress.{Progress}
 
 -- a session's seat: none before its first begin; then the operations of its transaction, if one is begun

@@ -121,7 +121,7 @@ module _ (keep : List Op → Op → Bool) where
               (filter_map external_read (sites_from stand (other ++ op ∷ []) rest)) (both c)
           go false = one c
 
-      -- it is the read
+      -- the operation that is kept is the read
       here : (o : Op) → op ≡ o → external_part o (λ y. visible_write y before) ≡ Some (x, v) → Reads (sites_from stand other (cond (keep before op) (op ∷ rest) rest))
       here (Put y w) same e = absurd cc
       here (Get y w) same e = split (visible_write y before) refl e
@@ -178,7 +178,7 @@ visible_put x (op ∷ ops) v is = go (visible_write x ops) refl is (λ w. visibl
     go None none e more = here op refl e
     go (Some w) there e more = later (more (there ∙ e))
 
--- and where a key is written something is visible
+-- where a key is written some value of it is visible
 pub put_visible : (x : List ℕ) (ops : List Op) (v : ℕ) → Contains ops (Put x v) → (w : ℕ) × (visible_write x ops ≡ Some w)
 put_visible x [] v (k, l, e) = absurd (omega (arith, l))
 put_visible x (op ∷ ops) v (zero, l, e) = go (visible_write x ops) (ap (value_put x) e ∙ same_write x x v refl)

@@ -89,7 +89,7 @@ entry_of_stand session (named ∷ later) t c =
         (named, (0, omega arith, refl), w.name_is, (w.k, w.within, omega (arith, w.place_is), w.txn_is))
     go (inr there) rest = let w = rest there in (w.0, after named w.0 later w.1, w.2, w.3)
 
--- and what stands in the list of a name stands in the snapshot
+-- what stands in the list of a name stands in the snapshot
 pub stand_of_entry : (session : ℕ) (es : List Named) (e : Named) (place : ℕ) (txn : Transaction) → Contains es e → HasAt e.1 place txn
     → (u : Stand) × Contains (stands_from session es) u × (u.name ≡ e.0) × (u.place ≡ place) × (u.txn ≡ txn)
 stand_of_entry session [] e place txn (i, l, is) at = absurd (omega arith)

@@ -146,7 +146,7 @@ module _ (f : ℕ → ℕ) (small large : Sessions) (slice : IsSlice f small lar
       lower_first k (f a) (f b) (f_some a some w.from) (f_below a w.from) (f_some b w.some w.to) (f_below b w.to) owners
       ((by_session large (f a) (f b) (slice.rises a b some p) (f_below b w.to)).1 owners)
 
-  -- so two numbers that go to one would be of one session, and one of them lower
+  -- two numbers that go to one would be of one session, and one of them lower
   back_owners : (a b : ℕ) → 0 < a → a < count h → 0 < b → b < count h → f a ≡ f b → owner h a ≡ owner h b
   back_owners a b some low more high same =
       let v = at a some low in

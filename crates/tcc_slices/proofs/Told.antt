@@ -6,6 +6,7 @@ use Rattle.std.proofs.lemmas.List.{get_or_default}
 use Rattle.std.proofs.lemmas.List.Elements.{All-contains_itself, All-head, All-tail}
 use Rattle.std.proofs.lemmas.List.Sorted.{Contains-permutation}
 use Rattle.tcc_txn.proofs.Lists.{in_map}
+use Rattle.tcc_graph.specs.Links.{link_of}
 use Rattle.tcc_graph.specs.Renumbered.{link_by, step_by}
 use Rattle.tcc_graph.specs.Walks.{step_from, step_to}
 use Rattle.tcc_graph.specs.declared.step.Step.{Step}
@@ -54,8 +55,8 @@ module _ (numbers : List ℕ) (rising : IsRising numbers) (links : List Link) (a
       λ i. here i ∷ rest i
 
   link_back : (l : Link) → Contains links l → link_by (carry numbers) (link_by (place numbers) l) ≡ l
-  link_back (link.Session a b) has = let ends = ends_back (step.Session a b) (session_step links a b has) in λ i. link.Session (ends.0 i) (ends.1 i)
-  link_back (link.Reads a b x) has = let ends = ends_back (step.Reads a b x) (reads_step links a b x has) in λ i. link.Reads (ends.0 i) (ends.1 i) x
+  link_back (link.Session a b) has = ap link_of (step_back (step.Session a b) (session_step links a b has))
+  link_back (link.Reads a b x) has = ap link_of (step_back (step.Reads a b x) (reads_step links a b x has))
   link_back (link.Derived b a x c walk) has =
       let from = back b (inr (x, a, c, walk, has)) in
       let read = ends_back (step.Reads a c x) (contradicted_step links b a x c walk has) in

@@ -22,7 +22,7 @@ IsMet links n =
     ((s : Step) × HasStep links s × ((step_from s ≡ n) ⊎ (step_to s ≡ n)))
     ⊎ ((x : List ℕ) × (a : ℕ) × (c : ℕ) × (walk : List Step) × Contains links (link.Derived n a x c walk))
 
--- it reads the key in one of the steps
+-- the transaction of a number reads the key in one of the steps
 abbrev pub IsReader : List Link → ℕ → List ℕ → Type 0
 IsReader links n x = (a : ℕ) × HasStep links (step.Reads a n x)
 
@@ -37,17 +37,17 @@ abbrev pub IsNeeded : List Link → ℕ → Op → Type 0
 IsNeeded links n (Get key value) = IsReader links n key
 IsNeeded links n (Put key value) = IsWritten links n key
 
--- it is committed, the links need it, and each of its operations
+-- the transaction of a number is committed, and the links need it and each of its operations
 pub record IsNeededWhole (links : List Link) (n : ℕ) (t : Transaction) : Type 0 where
   pub committed : t.committed ≡ true
   pub met : IsMet links n
   pub operations : All (IsNeeded links n) t.ops
 
--- so each of some transactions, which have the numbers from n on
+-- the links need each of some transactions, which have the numbers from n on
 abbrev pub AreNeeded : List Link → ℕ → List Transaction → Type 0
 AreNeeded links n [] = Unit {0}
 AreNeeded links n (t ∷ later) = IsNeededWhole links n t × AreNeeded links (n + 1) later
 
--- so each of a snapshot
+-- the links need each transaction of a snapshot
 abbrev pub IsNothingSpare : List Link → Sessions → Type 0
 IsNothingSpare links s = AreNeeded links 1 (flat_map (λ part. part.1) (entries s))

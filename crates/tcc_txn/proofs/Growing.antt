@@ -123,7 +123,7 @@ none-if : {X : Type 0} (o : Option X) (n : ℕ) → n + 1 ≡ cond (is_some o) n
 none-if None n e = refl
 none-if (Some x) n e = absurd (omega arith)
 
--- and none is found
+-- no value is found at a key that makes the list longer
 pub find-absent : {X : Type 0} (k : List ℕ) (v : X) (es : List (List ℕ × X)) → T (is_sorted name_cmp es)
     → length (put name_cmp k v es) ≡ length es + 1 → find name_cmp k es ≡ None
 find-absent k v es sorted longer = none-if (find name_cmp k es) (length es) (sym longer ∙ length-put name_cmp nat_list_cmp_total k v es sorted)

@@ -57,7 +57,7 @@ module _ {limits : Limits} (parts : List Named) (s : Sessions) (stored : IsStore
   pub few-finished : (i : ℕ) → length (finished_at s i) ≤ most_transactions limits
   few-finished i = omega (arith, short-parts, short-at (finite.entries s) i)
 
-  -- it is stored within other limits too, if it keeps these
+  -- a snapshot is stored within other limits too, if it keeps these
   pub stored-within : (other : Limits) → IsWithinLimits other s → IsStoredWithin other parts
   stored-within other within = record {
     sorted = stored.sorted;
@@ -98,7 +98,7 @@ stored_sorted limits parts sorted none moved rising =
       short = omega (arith, facts.short, sum_by-IsPermutation (λ part. length part.1.items) parts sorted moved, sum_by-parts_of sorted);
     }
 
--- and show the map that the parts make
+-- sorted parts show the map that the parts make
 pub shown_parts : (limits : Limits) (parts sorted : List (List ℕ × Vec Transaction)) → snapshot_fault_within limits (parts_of parts) ≡ None → IsPermutation parts sorted
     → IsSortedByKey (λ part. part.0) (slice_cmp nat_cmp) sorted → shown (parts_of sorted) ≡ finite.from_entries (parts_of parts)
 shown_parts limits parts sorted none moved rising =

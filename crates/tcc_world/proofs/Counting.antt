@@ -55,7 +55,7 @@ times_twice x (y ∷ xs) zero (suc j) less within one two =
     omega (arith, same, times_in x xs (j, inside, get_or_default xs j x 0 inside ∙ two))
 times_twice x (y ∷ xs) (suc i) (suc j) less within one two = omega (arith, times_twice x xs i j (omega arith) (omega arith) one two)
 
--- no two places have the same
+-- no two places have one number
 abbrev AreApart : List ℕ → Type 0
 AreApart xs = (i j : ℕ) → i < j → j < length xs → get_or xs i 0 ≢ get_or xs j 0
 

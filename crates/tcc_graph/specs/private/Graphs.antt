@@ -38,7 +38,7 @@ pub record Named : Type 0 where
 abbrev pub named_of : List Named → ℕ → Named
 named_of names n = slice_index_or names n (record { writes = []; reads = []; readings = [] })
 
--- so the transaction of a number
+-- what is named has what the transaction of a number has
 pub record IsNamed (h : History) (n : ℕ) (p : Named) : Type 0 where
   pub writes : p.writes ≡ (entry_at h n).writes
   pub reads : p.reads ≡ (entry_at h n).reads
@@ -46,7 +46,7 @@ pub record IsNamed (h : History) (n : ℕ) (p : Named) : Type 0 where
   pub from : (b : ℕ) → b < count h → of_group p.readings b ≡ reads_from h n b
   pub readings : AreReadings h n (map (λ q. q.0) p.readings) (map (λ q. q.1) p.readings)
 
--- so each of the first m
+-- what is named has, number by number, what the first m transactions have
 pub record AreNamed (h : History) (m : ℕ) (names : List Named) : Type 0 where
   pub long : length names ≡ m
   pub each : (n : ℕ) → n < m → IsNamed h n (named_of names n)

@@ -64,7 +64,7 @@ pub record IsIndexed (names : List (List ℕ)) (e : Entry) (p : Indexed) : Type 
   pub writes_within : All (λ k. k < length names) p.writes
   pub reads_within : All (λ read. read.0 < length names) p.reads
 
--- so for each transaction
+-- each transaction is held by the indices of its keys
 pub record AreIndexed (names : List (List ℕ)) (entries : List Entry) (indexed : List Indexed) : Type 0 where
   pub long : length indexed ≡ length entries
   pub each : (n : ℕ) → n < length entries → IsIndexed names (slice_index_or entries n initial) (indexed_of indexed n)

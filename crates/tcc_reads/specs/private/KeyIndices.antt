@@ -32,7 +32,7 @@ AreKnownIn keys [] = Unit {0}
 AreKnownIn keys (Get key value ∷ later) = AreKnownIn keys later
 AreKnownIn keys (Put key value ∷ later) = (has_key keys key ≡ true) × AreKnownIn keys later
 
--- and that these transactions write
+-- the keys that these transactions write are among the keys
 abbrev pub AreKnown : List (List ℕ) → List Numbered → Type 0
 AreKnown keys [] = Unit {0}
 AreKnown keys (n ∷ later) = AreKnownIn keys n.stand.txn.ops × AreKnown keys later

@@ -37,7 +37,7 @@ write_at n position last = record {
   last = last;
 }
 
--- and after these operations of its transaction and before those
+-- what the table keeps of a write of a key after these operations of its transaction and before those
 abbrev pub writer_at : Numbered → List Op → List ℕ → List Op → Writer
 writer_at n before key after = write_at n (length before + 1) (not (list_any (puts_at key) after))
 

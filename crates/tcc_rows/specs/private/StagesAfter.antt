@@ -1,7 +1,6 @@
 -- How far a reader of rows has come by what it gave last.
 use Rattle.std.specs.Prelude.{Option, None, Some}
 use Rattle.tcc_rows.specs.declared.rows.Item.{Item}
-use Rattle.tcc_rows.specs.declared.rows.Item.TheVariants as item
 use Rattle.tcc_rows.specs.declared.rows.Stage.{Stage}
 use Rattle.tcc_rows.specs.declared.rows.Stage.TheVariants as stage
 use Rattle.tcc_rows.specs.Ahead.{stage_after}

@@ -69,7 +69,7 @@ own_needs needs n = filter (λ one. one.0 == n) needs
 abbrev pub IsNamed : Sessions → History → ℕ → List ℕ → Type 0
 IsNamed s h n x = (i : ℕ) × (p : ℕ) × (at h n ≡ Some (i, p)) × (i < length (entries s)) × ((slice_index_or (entries s) i (x, [])).0 ≡ x)
 
--- it has none
+-- the transaction of a number has no session
 abbrev pub IsNameless : Sessions → History → ℕ → Type 0
 IsNameless s h n = (i : ℕ) (p : ℕ) → at h n ≡ Some (i, p) → length (entries s) ≤ i
 
@@ -81,7 +81,7 @@ pub record IsPartOf (s : Sessions) (h : History) (own : List (ℕ × Need)) (n :
   pub ended : t.committed ≡ true
   pub kept : t.ops ≡ kept_by s h own n whole.ops
 
--- it stands in a session of that one's name
+-- what is kept of the transaction of a number stands in a session of its session's name
 pub record IsPartAt (s : Sessions) (h : History) (needs : List (ℕ × Need)) (n : ℕ) (t : Stand) : Type 0 where
   pub named : IsNamed s h n t.name
   pub part : IsPartOf s h (own_needs needs n) n t.txn

@@ -33,6 +33,6 @@ IsNeedOf links n need.There = IsMet links n
 IsNeedOf links n (need.Write key) = IsWritten links n key
 IsNeedOf links n (need.Read key source) = HasStep links (step.Reads source n key)
 
--- so each of some needs, by number
+-- each of some needs, by number, is one of the links
 abbrev pub AreNeeds : List Link → List (ℕ × Need) → Type 0
 AreNeeds links needs = All (λ one. IsNeedOf links one.0 one.1) needs

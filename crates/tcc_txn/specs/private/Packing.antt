@@ -40,7 +40,7 @@ pub record ArePacked (names : Names) (txns : PackedTxns) : Type 0 where
   pub spanned : All (λ span. span.start + span.len ≤ length txns.ops.items) txns.spans.items
   pub lawful : All (λ span. txn_fault (txn_in names txns.ops.items span).ops ≡ None) txns.spans.items
 
--- so do those of all sessions
+-- the transactions of each session are packed by the table
 abbrev pub AllPacked : Names → List (List ℕ × PackedTxns) → Type 0
 AllPacked names sessions = All (λ part. ArePacked names part.1) sessions
 

@@ -58,7 +58,7 @@ returns-in_default-2-clause-none c = λ found links same met.
     absurd (has_part c.args.snapshot.now c.args.graph.now same (slice_index c.args.numbers.now index) (omega (arith, up)) here.1
     (c.in_ok-part.ensures.none c.in_default-2.is))
 
--- that there are too many isn't that memory was refused
+-- where there are too many, no memory was refused
 too_many : (fault : GrowFault) → (fault ≡ TooManySessions) ⊎ (fault ≡ TooManyTransactions) → fault ≡ NoMemory → ⊥
 too_many fault (inl sessions) memory = cc
 too_many fault (inr transactions) memory = cc

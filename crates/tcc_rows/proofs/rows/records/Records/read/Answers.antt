@@ -1,34 +1,41 @@
-use Rattle.std.proofs.Common.{◌≡◌, inl, refl, rules, ◌∙◌}
-use Rattle.csv.specs.Reading.{Ready, has_failed, is_flexible, reader_config, reader_trim}
-use Rattle.csv.specs.declared.reader.Reader.{Reader}
-use Rattle.tcc_rows.specs.RecordsLeft.{IsPlain}
+use Rattle.std.proofs.Common.{◌≡◌, ℕ, Bool, true, List, Option, inl, refl, rules, ◌∙◌}
+use Rattle.csv.specs.Reading.{ReadRecord, Ready, has_failed, is_flexible, reader_trim, took_first}
+use Rattle.csv.specs.declared.reader.Trim.TheVariants as trim
+use Rattle.tcc_rows.specs.ByteLimit.{limited_remaining}
+use Rattle.tcc_rows.specs.Lines.{Record}
+use Rattle.tcc_rows.specs.RecordsLeft.{HasLeft, record_of}
+use Rattle.tcc_rows.specs.private.Stages.{TakesRecord}
+use Rattle.tcc_rows.specs.declared.rows.records.Records.{Records}
 use Rattle.tcc_rows.proofs.RecordSteps.{stands-ended, stands-on, takes-record}
 use Rattle.tcc_rows.proofs.rows.records.Records.read.Goals as goal
 
--- a reader that keeps its settings and has not failed stays a plain one
-still-plain : {R : Type 0} (old new : Reader R) → IsPlain old → Ready new → reader_config new ≡ reader_config old → reader_trim new ≡ reader_trim old
-    → is_flexible new ≡ is_flexible old → has_failed new ≡ has_failed old → IsPlain new
-still-plain old new plain ready config trim flexible going = record {
-  ready = ready;
-  config = config ∙ plain.config;
-  trim = trim ∙ plain.trim;
-  flexible = flexible ∙ plain.flexible;
-  going = going ∙ plain.going;
-}
+-- what a read by a plain reader takes, where it keeps its settings and doesn't fail
+takes : {R : Type 0} (remaining : R → Option (List ℕ)) (old new : Records R) (left : List Record) (found : Bool) → HasLeft remaining old left
+    → (reader_trim old.reader ≡ trim.None → took_first new.reader ≡ true)
+    → (reader_trim old.reader ≡ trim.None → Ready old.reader
+    → ReadRecord (limited_remaining remaining) old.reader new.reader found (record_of new))
+    → is_flexible new.reader ≡ is_flexible old.reader → has_failed new.reader ≡ has_failed old.reader → TakesRecord remaining left found new
+takes remaining old new left found has took reads flexible goes =
+    let plain = has.plain in
+    let read = reads plain.trim plain.ready in
+    takes-record remaining old new left found has read (record {
+      ready = inl (took plain.trim);
+      config = read.2 ∙ plain.config;
+      trim = read.3 ∙ plain.trim;
+      flexible = flexible ∙ plain.flexible;
+      going = goes ∙ plain.going;
+    })
 
 pub returns-in-Ok-true-clause-taken : goal.returns-in-Ok-true-clause-taken
 returns-in-Ok-true-clause-taken g c left has =
     let e = c.in-Ok-true.ensures in
-    let read = e.reads has.plain.trim has.plain.ready in
-    let plain = still-plain _ c.read_byte_record.new.self has.plain (inl (e.ready has.plain.trim)) read.2 read.3 e.flexible e.goes in
     rw c.in-Ok-true.field-0-test at
-    (takes-record g.R.Read.remaining c.args.self.now
-    (record {
+    (takes g.R.Read.remaining c.args.self.now (record {
       reader = c.read_byte_record.new.self;
       «record» = c.read_byte_record.new.row;
       count = c.in-Some.count;
       stage = c.args.self.now.stage;
-    }) left c.in-Ok-true.field-0 has read plain)
+    }) left c.in-Ok-true.field-0 has e.ready e.reads e.flexible e.goes)
 
 pub returns-in-Ok-true-clause-stands : goal.returns-in-Ok-true-clause-stands
 returns-in-Ok-true-clause-stands g c all stands =
@@ -37,16 +44,13 @@ returns-in-Ok-true-clause-stands g c all stands =
 pub returns-in-Ok-false-clause-taken : goal.returns-in-Ok-false-clause-taken
 returns-in-Ok-false-clause-taken g c left has =
     let e = c.in-Ok-false.ensures in
-    let read = e.reads has.plain.trim has.plain.ready in
-    let plain = still-plain _ c.read_byte_record.new.self has.plain (inl (e.ready has.plain.trim)) read.2 read.3 e.flexible e.goes in
     rw c.in-Ok-false.field-0-test at
-    (takes-record g.R.Read.remaining c.args.self.now
-    (record {
+    (takes g.R.Read.remaining c.args.self.now (record {
       reader = c.read_byte_record.new.self;
       «record» = c.read_byte_record.new.row;
       count = c.args.self.now.count;
       stage = c.args.self.now.stage;
-    }) left c.in-Ok-false.field-0 has read plain)
+    }) left c.in-Ok-false.field-0 has e.ready e.reads e.flexible e.goes)
 
 pub returns-in-Ok-false-clause-stands : goal.returns-in-Ok-false-clause-stands
 returns-in-Ok-false-clause-stands g c all stands =
