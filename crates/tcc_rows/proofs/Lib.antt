@@ -1,4 +1,5 @@
 mod AheadFacts
+mod BothLimits
 mod Continuing
 mod FieldBytes
 mod FinishedFacts

@@ -1,5 +1,6 @@
 pub mod Ahead
 pub mod Answers
+pub mod BothLimits
 pub mod ByteLimit
 pub mod Failing
 pub mod Interleaved

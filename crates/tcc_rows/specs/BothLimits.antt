@@ -1,0 +1,17 @@
+-- The faults that records have within the small limits alone, where the large ones may have room.
+use Rattle.std.specs.Prelude.{Bool, true, false, Option, None, Some}
+use Rattle.tcc_rows.specs.declared.fault.RowFault.{RowFault}
+use Rattle.tcc_rows.specs.declared.fault.RowFaultKind.{RowFaultKind}
+use Rattle.tcc_rows.specs.declared.fault.RowFaultKind.TheVariants as kind
+
+-- too many sessions, transactions or keys: the large limits have more room for these, and for nothing else that records show
+abbrev pub is_beyond_small : RowFaultKind → Bool
+is_beyond_small kind.TooManySessions = true
+is_beyond_small kind.TooManyTransactions = true
+is_beyond_small kind.TooManyKeys = true
+is_beyond_small _ = false
+
+-- the answers end with such a fault
+abbrev pub ends_beyond_small : Option RowFault → Bool
+ends_beyond_small None = false
+ends_beyond_small (Some fault) = is_beyond_small fault.kind
