@@ -51,7 +51,7 @@ fn recorded(
     Some(recorded)
 }
 
-/// The same one after the other, in this order.
+/// What the recorders of `passes` record where they work one after the other, in this order.
 fn recorded_in_turn(
     rt: &(impl Threads + Wait + Sync),
     alloc: Global,

@@ -112,7 +112,7 @@ fn said(alloc: Global, answer: &Answer, form: Form) -> Option<Vec<u8>> {
     }
 }
 
-/// The same is said by 1, 2 and 32 workers.
+/// What is said is the same by 1, 2 and 32 workers.
 fn assert_said(
     rt: &(impl Threads + Sync + Abort),
     alloc: Global,

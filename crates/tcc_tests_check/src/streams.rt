@@ -11,7 +11,7 @@ use tcc_check::{Claim, Judgement, Rule, StreamFault, Verdict, check_stream, judg
 const STALE_READ: &str = "tcc-certificate 1\ncycle 3 2 3\nS 0 1\nD 1 0 x 2 1\nS 1 2\n\
     near\n3 1 1\n3 3 1\n3 3 3\nfar\n3 1 1\n2 3 1\n3 3 3\nend\n";
 
-/// The same with a number of `near` above 1 for a causal pair, and a number of `far` above 1.
+/// The certificate of that read with a number of `near` above 1 for a causal pair, and a number of `far` above 1.
 const ALTERED: &str = "tcc-certificate 1\ncycle 3 2 3\nS 0 1\nD 1 0 x 2 1\nS 1 2\n\
     near\n3 2 1\n3 3 1\n3 3 3\nfar\n3 2 1\n3 3 1\n3 3 2\nend\n";
 

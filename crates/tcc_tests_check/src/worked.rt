@@ -8,7 +8,7 @@ use tcc_rows::snapshot_of;
 /// a/1 writes x, and a/2 reads its initial value.
 pub const STALE: &str = "a,begin\na,w,x,1\na,commit\na,begin\na,r,x,0\na,commit\n";
 
-/// The same, and a/3 writes y.
+/// a/1 writes x, a/2 reads its initial value, and a/3 writes y.
 pub const LONGER: &str = "a,begin\na,w,x,1\na,commit\na,begin\na,r,x,0\na,commit\n\
     a,begin\na,w,y,1\na,commit\n";
 

@@ -371,7 +371,7 @@ fn records_up_to_each_seal(rt: HostRuntime) -> Result<(), Fail> {
     Ok(())
 }
 
-// The same texts by both limits: 65 sessions, 1,025 keys, and a word that is none.
+// Texts that are read within both limits: 65 sessions, 1,025 keys, and a word that is none.
 #[test]
 fn records_within_large_limits(rt: HostRuntime) -> Result<(), Fail> {
     let alloc = rt.alloc();
