@@ -16,7 +16,7 @@ known floor sight offers = record { floor = floor; sight = sight; offers = offer
 first_offer : with_sight (with_offer (newcomer 3) 7) 7 ≡ known 3 7 (7 ∷ [])
 first_offer = refl
 
--- then one of 9, where another seat offered 5
+-- an offer of 9 behind one of 7, where another seat offered 5
 higher_offer : with_sight (with_offer (known 3 7 (7 ∷ [])) 9) 5 ≡ known 3 5 (7 ∷ 9 ∷ [])
 higher_offer = refl
 
@@ -30,11 +30,11 @@ five_is_at_most_all : IsAtMostAll 5 (known 3 6 (9 ∷ 5 ∷ []))
 five_is_at_most_all =
     (omega arith, All-cons (λ (c : ℕ). 5 ≤ c) 9 (5 ∷ []) (omega arith) (All-cons (λ (c : ℕ). 5 ≤ c) 5 [] (omega arith) (All-nil (λ (c : ℕ). 5 ≤ c))))
 
--- it is above an offer
+-- 6 is above the offer of 5
 six_is_not : IsAtMostAll 6 (known 3 6 (5 ∷ 9 ∷ [])) → ⊥
 six_is_not below = let five : 6 ≤ 5 = All-head (λ (c : ℕ). 6 ≤ c) 5 (9 ∷ []) below.1 in omega arith
 
--- it is above the sight
+-- 7 is above the sight, which is 6
 seven_is_not : IsAtMostAll 7 (known 3 6 []) → ⊥
 seven_is_not below = let six : 7 ≤ 6 = below.0 in omega arith
 
@@ -58,7 +58,7 @@ word_too_high kept =
     let offer : kept.word ≤ 5 = All-head (λ (c : ℕ). kept.word ≤ c) 5 [] seat.0.1 in
     omega arith
 
--- nor are two floors
+-- two floors are not kept
 two_floors : (word : ℕ) → IsKept (word ∷ []) (Live (newcomer 3) ∷ Live (newcomer 4) ∷ []) → ⊥
 two_floors word kept =
     let one : 3 ≡ kept.floor = (kept.agree 0 (Live (newcomer 3)) refl).1 in

@@ -16,7 +16,7 @@ use Rattle.tcc_core.proofs.Offered.{lower_least, lower_some, lower_then, offered
 use Rattle.tcc_core.proofs.FrontierLemmas.{way_below}
 use Rattle.tcc_core.specs.declared.queue.TheConstants.{NO_WAY}
 
--- ---- from all that the row has
+-- ---- ways on from all that the row has
 
 -- a way on from what the row has below k
 abbrev pub IsWayBelow : Tables → ℕ → List (Option ℕ) → ℕ → ℕ → ℕ → ℕ → Type 0
@@ -68,7 +68,7 @@ module _ (t : Tables) (s : ℕ) (row : List (Option ℕ)) (cap floor : ℕ) wher
       (λ v n within (u, d, has, way) above. inl (u, d, omega (arith, whole, within_row row u d has), has, way))
       is
 
-  -- ---- and from the start
+  -- ---- ways on from the start
 
   -- a way on from where the search has come to
   abbrev pub IsWayCome : ℕ → ℕ → Type 0

@@ -143,7 +143,7 @@ module _ {floor most : ℕ} {costs buckets : List ℕ} (is : IsFiled floor most 
             window = omega (arith, same, down, is.window);
           }
 
--- ---- those that were reached
+-- ---- transactions that were reached
 
 -- whether a cost is one of no way
 abbrev Tells : ℕ → Type 0

@@ -164,7 +164,7 @@ module _ {search : Search} {floor cap v : ℕ} (joins : IsJoining search floor c
           lower_some distance (set search.costs v 0) new x lower (omega (arith, length-set search.costs v 0, joins.bounds.long))
           (omega (arith, joins.bounds.outside x within out, get_or-set_other search.costs v x 0 0 other))
 
-  -- ---- with its distance, and the row stays one of distances
+  -- ---- the nearest joins with its distance, and the row stays one of distances
 
   module _ {j : Judged} {s : ℕ} (is : IsSearchOf j s search) where
     below : v < count j.history
@@ -273,7 +273,7 @@ module _ {search : Search} {floor cap v : ℕ} (joins : IsJoining search floor c
             (within_cap search.limit (0 + link_cost l) (omega (arith, paid, under, joins.known))) in
             omega (arith, found.1, paid, equal)
 
-    -- ---- and the frontier one of ways
+    -- ---- the frontier stays one of ways
 
     module _ {t : Tables} {new : List ℕ} (priced : IsPricesOf j t) (led : IsLedOn t s v (slice_index search.costs v) cap search.costs new) where
       way_kept : (x n : ℕ) → IsWay j s search.row x n → IsWay j s (set search.row v (Some distance)) x n

@@ -38,7 +38,7 @@ levels_lower floor old new levels lower are = record {
   each = All-weaker (IsLevel old) (IsLevel new) (λ level is. level_lower floor old new level lower is) levels are.each;
 }
 
--- one of them is another one now
+-- one of the levels is another one now
 pub levels_set : (floor : ℕ) (old new : List ℕ) (levels : List Level) (k : ℕ) (level : Level) → IsLower floor old new → AreLevels old levels
     → IsLevel new level → AreLevels new (set levels k level)
 levels_set floor old new levels k level lower are is = record {
@@ -99,7 +99,7 @@ module _ (classes : List Class) (class : Class) (s d left floor : ℕ) (old mid 
       split v n up one mark cheap equal (inr same) =
           inr (up, rw same mark, rw same equal)
 
-  -- or are passed over, as dear or as known
+  -- the ways by one more class are passed over, as dear or as known
   pub classes_passed : (left < class.cost) ⊎ (d + class.cost ≤ floor) → IsOffered (IsClassWay classes s d left) floor old mid
       → IsOffered (IsClassWay (classes ++ class ∷ []) s d left) floor old mid
   classes_passed out first =

@@ -51,7 +51,7 @@ offered_none IsOne floor costs known = record {
   from = λ v within. inl refl;
 }
 
--- those of one kind after those of another
+-- offers of one kind after offers of another
 pub offered_then : (First Then Both : ℕ → ℕ → Type 0) (floor : ℕ) (old mid new : List ℕ) → ((v n : ℕ) → Both v n → First v n ⊎ Then v n)
     → ((v n : ℕ) → First v n → Both v n) → ((v n : ℕ) → Then v n → Both v n)
     → IsOffered First floor old mid → IsOffered Then floor mid new → IsOffered Both floor old new
@@ -197,7 +197,7 @@ module _ {links : List (ℕ × ℕ)} {s d left k : ℕ} {old new : Queue} (is : 
           let there : (at links k).0 ≡ v = rw same at to in
           inr (sym there, rw same at equal)
 
-  -- or is passed over
+  -- the next link is passed over
   pub next_passed : ((at links k).0 < s) ⊎ (left < (at links k).1) → HasOffered links s d left (k + 1) old new
   next_passed out = record {
     floor = is.floor;

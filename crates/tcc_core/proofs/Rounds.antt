@@ -245,7 +245,7 @@ module _ {j : Judged} {near : NearTable} {t : Tables} {c : ℕ} (is : IsNearOf j
       let closed = closing_around (steps_at near a a) (price_in t a a) a steps.0 in
       (omega (arith, low, closed, steps.1), omega (arith, low, closed, few_steps j near a a is ends.0 ends.0 steps.0))
 
-  -- nor does a walk and a derived link back
+  -- no walk and a derived link back cost less
   back : (a b : ℕ) (walk : List Step) (l : Link) → IsAllowedWalk j a b walk → IsDerived j b a l
       → (c ≤ length walk + link_cost l) × (c ≤ count j.history + (count j.history + 1))
   back a b walk l allowed derived =

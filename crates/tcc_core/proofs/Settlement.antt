@@ -93,7 +93,7 @@ above_returns j shares word settle s links back =
     let same : IsUpwardRoute j f.start f.start links = subst (λ (z : ℕ). IsUpwardRoute j z z links) (sym w.4) back in
     return_above j word w.0 f.start f.row f.stop (share_at j shares word settle w.0 w.1) finished.row finished.stopped links same
 
--- and so not above the cost of any cycle: begun at its lowest number, it is such a route
+-- the word is not above the cost of any cycle, which, begun at its lowest number, is a route that comes back
 above_cycles : (j : Judged) (shares : List Share) (word : Option ℕ) → SettleAt j shares word → (s : ℕ) (links : List Link) → IsCycle j s links
     → IsNotAbove word (Some (cost links))
 above_cycles j shares word settle s links cycle =

@@ -94,7 +94,7 @@ first_joins = record {
 first_settles : Settles stale 0 1 empty (None ∷ Some 1 ∷ None ∷ []) settled.More
 first_settles = (1, 1, λ e. absurd (omega arith), first_joins)
 
--- so the search is cut below that, and not at it
+-- a search is cut below the cost of the nearest, and not at it
 first_cut : Settles stale 0 0 empty empty (settled.Cut 0)
 first_cut = (refl, refl, λ v links out route within. omega (arith, within, route_some stale 0 v links route))
 
@@ -120,7 +120,7 @@ returned = (refl, (0, omega arith, refl))
 not_offered : IsStopped stale (worker [] (Some 3)) 0 (Some 3 ∷ Some 1 ∷ Some 1 ∷ []) (Returned 3) → ⊥
 not_offered w = absurd (omega (arith, w.1.1))
 
--- and is not cut below what was seen last
+-- a search is not cut below what was seen last
 not_cut : IsStopped stale (worker [] (Some 3)) 0 empty (Cut (Some 2)) → ⊥
 not_cut w = omega (arith, w.0)
 

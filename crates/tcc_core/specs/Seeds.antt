@@ -14,7 +14,7 @@ pub record IsSeed (j : Judged) (c : ℕ) : Type 0 where
   pub around : (a : ℕ) (walk : List Step) → IsAllowedWalk j a a walk → c ≤ length walk
   pub back : (a : ℕ) (b : ℕ) (walk : List Step) (l : Link) → IsAllowedWalk j a b walk → IsDerived j b a l → c ≤ length walk + link_cost l
 
--- there is no such walk, and no such walk with such a link
+-- no allowed walk ends where it begins, and no derived link leads back from where an allowed walk ends to where it begins
 pub record HasNoSeed (j : Judged) : Type 0 where
   pub around : (a : ℕ) (walk : List Step) → IsAllowedWalk j a a walk → ⊥
   pub back : (a : ℕ) (b : ℕ) (walk : List Step) (l : Link) → IsAllowedWalk j a b walk → IsDerived j b a l → ⊥

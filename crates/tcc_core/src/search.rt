@@ -1,7 +1,7 @@
-//! Dijkstra's algorithm from one start, over links as edges and their costs as weights. The frontier is Dial's bucket queue
-//! (`bucket_queue`). What joined the row has its distance, and nothing outside it is nearer. A session pair leads on to a whole
-//! suffix of a session, of which each transaction is offered once, so a search takes some N + L steps for N transactions and L
-//! other links.
+//! Dijkstra's algorithm (Dijkstra, A note on two problems in connexion with graphs, Numerische Mathematik 1, 1959) from one start, over
+//! links as edges and their costs as weights. The frontier is Dial's bucket queue (`bucket_queue`). What joined the row has its
+//! distance, and nothing outside it is nearer. A session pair leads on to a whole suffix of a session, of which each transaction is
+//! offered once, so a search takes some N + L steps for N transactions and L other links.
 ghost use Rattle.std.specs.Prelude.{◌≡◌, ◌<◌, ◌≤◌, ℕ, length, drop, IfOk};
 ghost use Rattle.tcc_graph.specs.Levels.{Judged};
 ghost use Rattle.tcc_derive.specs.Prices.{IsPricesOf};

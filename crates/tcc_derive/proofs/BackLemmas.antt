@@ -87,7 +87,7 @@ module _ (j : Judged) (near : NearTable) (b : ℕ) (nears : IsNearOf j near) (fr
   several_allowed : (v n : ℕ) (other : List Step) → IsShortest j b v (n + 1) → 0 < n → IsAllowed j.level other
   several_allowed v n other shortest some = let walk = shortest.attained in any_allowed j.level walk.0 other walk.1.1 (omega (arith, walk.2))
 
-  -- and so what is left of it before its last step
+  -- the level allows what is left of a shortest walk before its last step
   way_allowed : (v n : ℕ) (o : Step) (os : List Step) → IsShortest j b v (n + 1) → LeadsBack j.history b v (o ∷ os) → length os ≡ n → 0 < n
       → IsAllowedWalk j b (step_from o) (reverse os)
   way_allowed v n o os shortest back long some =

@@ -146,7 +146,7 @@ module _ (n first end k : ℕ) (others links : List (ℕ × ℕ)) (classes : Lis
       back v c (inl (inr h)) = inr h
       back v c (inr h) = inl (rw is (Contains-append_right rest links (v, c) h))
 
--- all of them, up to the limit
+-- classes and the rest, up to the limit, have all links that are cheap
 pub by_class_of : (j : Judged) (t : Tables) → IsPricesOf j t → (u n : ℕ) → u < count j.history → n ≡ count j.history → (links : ByClass)
     → ArePartedBelow n (u + 1) (end_of t u) (others_at t u) (t.limit + 1) links.classes.items links.rest → IsByClass t u links
 by_class_of j t is u n from size links parted = record {

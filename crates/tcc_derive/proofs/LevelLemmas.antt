@@ -1,10 +1,11 @@
 -- The fewest steps to readers, which level after level lowers.
-use Rattle.std.proofs.Common.{◌≡◌, ◌≢◌, ◌<◌, ◌≤◌, ◌+◌, ◌||◌, ◌⊎◌, ℕ, inl, inr, Bool, true, false, List, length, get_or, set, min, slice_index}
+use Rattle.std.proofs.Common.{◌≡◌, ◌≢◌, ◌<◌, ◌≤◌, ◌+◌, ◌||◌, ◌⊎◌, ℕ, inl, inr, Bool, true, false, List, [], length, get_or, set, take, min, slice_index}
 use Rattle.std.proofs.Common.{refl, sym, ◌∙◌, arith, subst}
 use Rattle.std.specs.Prelude.{All, Contains}
 use Rattle.std.proofs.lemmas.Bool.{cases_eq, cases_lt}
 use Rattle.std.proofs.lemmas.List.{get_or-set_same, get_or-set_other, length-set}
 use Rattle.tcc_bits.specs.Bits.{is_marked, IsFresh}
+use Rattle.tcc_bits.proofs.Lists.{nothing_in, one_of_taken, still_taken, last_taken}
 use Rattle.tcc_near.specs.declared.walk_lengths.TheConstants.{NONE}
 use Rattle.tcc_derive.specs.private.Buckets.{bucket}
 use Rattle.tcc_derive.specs.private.Lowering.{Lowers}
@@ -53,6 +54,18 @@ each_more A B distance p old mid new before inside is parts wider here = record 
         go (inl nearer) _ = inr (here, let e = at_p in omega arith)
         go (inr further) (inl e) = inl (let w = at_p in omega arith)
         go (inr further) (inr w) = inr (here, let e = at_p in let v = w.1 in omega arith)
+
+-- no number, none that is lowered
+pub each_first : (distance : ℕ) (old : List ℕ) → LowersEach (Contains []) distance old old
+each_first distance old = each_none (Contains []) distance old nothing_in
+
+-- the first numbers of a list were lowered, and then the next is
+pub each_next : (numbers : List ℕ) (n distance : ℕ) (old mid new : List ℕ) → n < length numbers → get_or numbers n 0 < length mid
+    → new ≡ set mid (get_or numbers n 0) (min (get_or mid (get_or numbers n 0) 0) distance)
+    → LowersEach (Contains (take n numbers)) distance old mid → LowersEach (Contains (take (n + 1) numbers)) distance old new
+each_next numbers n distance old mid new within inside is before =
+    each_more (Contains (take n numbers)) (Contains (take (n + 1) numbers)) distance (get_or numbers n 0) old mid new before inside is
+    (one_of_taken numbers n within) (still_taken numbers n within) (last_taken numbers n within)
 
 -- ---- a reader
 module _ (seen row fresh old new : List ℕ) (distance : ℕ) (is : IsFresh seen row fresh) (covered : IsCovered seen old distance)

@@ -116,7 +116,7 @@ closing_some near prices n some (inr is) = is
 pub blocks_cover : (n blocks : ℕ) → div_ceil n 32 ≤ blocks → n ≤ blocks * 32
 blocks_cover n blocks enough = omega (arith, enough)
 
--- ---- that all ways back have been looked at
+-- ---- all ways back have been looked at
 
 -- n is no more than what the walk back to any transaction costs, nor than any way back to one with few others, nor than those to
 -- one with many that come from below `to`
@@ -174,7 +174,7 @@ module _ (near prices : List (List ℕ)) (others : List (List (ℕ × ℕ))) (fe
           let at = priced b a (omega (arith, long, inside)) (omega (arith, long, below)) (not_none (row_of prices b) a c link) in
           All-contains (λ (p : ℕ × ℕ). n ≤ back_cost near (row_of prices b) b p.0) (row_of others b) (a, at.0) cheap at.1
 
-  -- so the limit is one
+  -- where n is a cost, and all ways back were looked at, the limit is n
   pub limit_of : (to n : ℕ) → length near ≤ to → length prices ≡ length near → HasPriced prices others → n ≢ NONE → IsClosingOrNone near prices n
       → AreLooked near prices others few to n → IsLimit near prices n
   limit_of to n end long priced some closing all =

@@ -77,7 +77,7 @@ module _ (j : Judged) (near : NearTable) (reads : List (List Read)) (written : L
       (wrote.each b key.0 from key.1 (rw key.2 writer))
       ((read.each key.0 key.1 (record { source = a; reader = c })).1 (rw key.2 pair))
 
-  -- and each of those may be contradicted
+  -- each read of a key that b writes may be contradicted by b
   read_reason : (r : Read) → Contains (flat_map (bucket reads) (bucket written b)) r → r.source ≢ b
       → (x : List ℕ) × MayContradict j.history b r.source x r.reader
   read_reason r there ne =

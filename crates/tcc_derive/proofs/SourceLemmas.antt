@@ -3,10 +3,11 @@ use Rattle.std.proofs.Common.{◌≡◌, ◌<◌, ◌↔◌, ◌⊎◌, ℕ, inl
 use Rattle.std.specs.Prelude.{All, Contains}
 use Rattle.std.proofs.lemmas.List.Elements.{Contains-get_or, Contains-append_left, Contains-push, Contains-push_cases}
 use Rattle.tcc_bits.specs.Bits.{is_marked, words_for}
+use Rattle.tcc_bits.proofs.Lists.{nothing_in}
 use Rattle.tcc_derive.specs.private.Buckets.{bucket, Puts}
 use Rattle.tcc_derive.specs.private.Sources.{AreByReader, AreSources}
 use Rattle.tcc_derive.specs.declared.read.Read.{Read}
-use Rattle.tcc_derive.proofs.BucketLemmas.{no_item, puts_push}
+use Rattle.tcc_derive.proofs.BucketLemmas.{puts_push}
 
 -- a fact of all is one of each
 pub of_all : {X : Type 0} (P : X → Type 0) (xs : List X) (x : X) → All P xs → Contains xs x → P x
@@ -16,8 +17,8 @@ pub by_reader_none : (n : ℕ) (rows : List (List ℕ)) → length rows ≡ n �
 by_reader_none n rows long empty = record {
   long = long;
   each = λ c a below. (
-    λ h. absurd (no_item a (subst (λ (xs : List ℕ). Contains xs a) (empty c [] (omega (arith, long))) h)),
-    λ h. absurd (no_item (record { source = a; reader = c }) h),
+    λ h. absurd (nothing_in a (subst (λ (xs : List ℕ). Contains xs a) (empty c [] (omega (arith, long))) h)),
+    λ h. absurd (nothing_in (record { source = a; reader = c }) h),
   );
 }
 

@@ -73,10 +73,10 @@ two_steps = refl
 lower_start : Ahead (step.Session 1 4 ∷ step.Session 3 1 ∷ []) (step.Session 2 4 ∷ step.Session 0 2 ∷ [])
 lower_start = inl refl
 
--- and of two with one start the session step
+-- of two last steps with one start the session step comes first
 session_first : Ahead (step.Session 1 4 ∷ []) (step.Reads 1 4 (120 ∷ []) ∷ [])
 session_first = inl refl
 
--- and of two reads that of the first key
+-- of two last steps that are reads that of the first key comes first
 key_first : Ahead (step.Reads 1 4 (109 ∷ []) ∷ []) (step.Reads 1 4 (114 ∷ []) ∷ [])
 key_first = inl refl

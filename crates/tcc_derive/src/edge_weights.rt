@@ -60,5 +60,13 @@ pub fn derive(
     let limit = cost_limit(near, &prices, &others);
     let by_class = by_class_rows(rt, alloc, &others, &ends, limit)?;
     let whole = are_within(&others, limit);
-    Ok(Prices::new(near.level(), prices, ends, others, limit, by_class, whole))
+    Ok(Prices {
+        level: near.level(),
+        prices,
+        ends,
+        others,
+        limit,
+        by_class,
+        whole,
+    })
 }

@@ -6,6 +6,7 @@ ghost use Rattle.tcc_txn.specs.declared.limits.TheConstants.{LARGE_COUNT, MAX_CO
 ghost use Rattle.tcc_bits.specs.Bits.{is_marked, words_for};
 ghost use Rattle.tcc_near.specs.declared.walk_lengths.TheConstants.{NONE};
 ghost use Rattle.tcc_derive.specs.private.Lowering.{Lowers};
+ghost use Rattle.tcc_derive.specs.declared.read.Read.{Read};
 ghost use Rattle.tcc_derive.specs.private.Sources.{AreSources, IsCovered, LowersEach, LowersUpTo};
 
 use crate::read::Read;
@@ -60,9 +61,8 @@ fn take_reader(
     Ok(())
 }
 
-/// Takes in the readers at a length; those that are nearer were taken in before.
+/// Takes in the readers at a length, by the rows of marks of some reads; those that are nearer were taken in before.
 fn take_level(
-    _reads: &[Read],
     nearest: &mut [u16],
     seen: &mut [u64],
     fresh: &mut Vec<u32>,
@@ -70,16 +70,16 @@ fn take_level(
     steps: &[u16],
     distance: u16,
 ) -> Result<(), AllocError>
-    requires sources { AreSources (length steps.now) _reads.now rows.now }
-    requires inside { All (λ r. r.source < length nearest.old) _reads.now }
+    requires sources { (reads : List Read) × AreSources (length steps.now) reads rows.now × All (λ r. r.source < length nearest.old) reads }
     requires few { length steps.now ≤ MAX_COUNT }
     requires same { length seen.old ≡ words_for (length steps.now) }
     requires covered { IsCovered seen.old nearest.old distance }
     ensures same { length seen.new ≡ length seen.old }
     ensures long { length nearest.new ≡ length nearest.old }
     ensures covered { OnOk result (IsCovered seen.new nearest.new distance) }
-    ensures lowered { (old : List ℕ) → LowersUpTo _reads.now steps.now distance 0 old nearest.old
-        → OnOk result (LowersUpTo _reads.now steps.now distance (length steps.now) old nearest.new) }
+    ensures lowered { (reads : List Read) (old : List ℕ) → AreSources (length steps.now) reads rows.now
+        → LowersUpTo reads steps.now distance 0 old nearest.old
+        → OnOk result (LowersUpTo reads steps.now distance (length steps.now) old nearest.new) }
 {
     for (reader, row) in rows.iter().enumerate() {
         if steps[reader] == distance {
@@ -108,7 +108,7 @@ pub(crate) fn lower_by_levels(
     let mut seen = vec![in alloc; 0; words_for(steps.len())]?;
     let mut fresh = Vec::new(alloc);
     for distance in 0..levels {
-        take_level(reads, nearest, &mut seen, &mut fresh, rows, steps, distance)?;
+        take_level(nearest, &mut seen, &mut fresh, rows, steps, distance)?;
     }
     Ok(())
 }

@@ -20,15 +20,15 @@ use tcc_near::NONE;
 /// What derived links, and links of all kinds, cost at least between the transactions of a graph at a level.
 #[derive(Drop)]
 pub struct Prices {
-    level: Level,
-    prices: Vec<Row<u16>>,
-    ends: Vec<u32>,
-    others: Vec<Row<(u32, u32)>>,
-    limit: u16,
+    pub(crate) level: Level,
+    pub(crate) prices: Vec<Row<u16>>,
+    pub(crate) ends: Vec<u32>,
+    pub(crate) others: Vec<Row<(u32, u32)>>,
+    pub(crate) limit: u16,
     /// The links other than session links that cost at most the limit, a row for each row of others.
-    by_class: Vec<ByClass>,
+    pub(crate) by_class: Vec<ByClass>,
     /// Whether none costs more.
-    whole: bool,
+    pub(crate) whole: bool,
 }
 
 impl Model for Prices {
@@ -49,33 +49,6 @@ impl Model for Prices {
 }
 
 impl Prices {
-    /// The tables of these rows, at this level.
-    pub(crate) fn new(
-        level: Level,
-        prices: Vec<Row<u16>>,
-        ends: Vec<u32>,
-        others: Vec<Row<(u32, u32)>>,
-        limit: u16,
-        by_class: Vec<ByClass>,
-        whole: bool,
-    ) -> Prices
-        requires shape { IsShaped (length prices.items)
-            (tables_of level prices.items ends.items others.items limit) }
-        requires by_class { HaveByClass (tables_of level prices.items ends.items others.items limit) by_class.items }
-        requires whole { (whole ≡ true) ↔ AreWithin limit others.items }
-        ensures { result ≡ tables_of level prices.items ends.items others.items limit }
-    {
-        Prices {
-            level,
-            prices,
-            ends,
-            others,
-            limit,
-            by_class,
-            whole,
-        }
-    }
-
     /// The level at which links are judged.
     pub fn level(&self) -> Level
         ensures { result ≡ self.now.level }

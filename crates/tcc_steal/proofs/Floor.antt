@@ -178,14 +178,14 @@ pub floor_small : (t : Tables) → least_cost t ≤ 18446744073709551615
 unfolding least_cost
 floor_small t = first_most 18446744073709551615 (is_cycle_cost t)
 
--- no cycle costs less
+-- no cycle costs less than the floor
 pub floor_below : (j : Judged) (t : Tables) → IsPricesOf j t → (c : ℕ) → IsCycleCost j c → least_cost t ≤ c
 unfolding least_cost
 floor_below j t is c (s, links, cycle, costs) =
     let (k, low, found) = cost_of j t is s links cycle in
     subst (λ (z : ℕ). least_cost t ≤ z) costs (le_trans (first_least 18446744073709551615 (is_cycle_cost t) k found) low)
 
--- it is what some cycle costs, or the number for none
+-- the floor is what some cycle costs, or the number for none
 pub floor_attained : (j : Judged) (t : Tables) → IsPricesOf j t → (least_cost t ≡ 18446744073709551615) ⊎ IsCycleCost j (least_cost t)
 unfolding least_cost
 floor_attained j t is = go (first_found 18446744073709551615 (is_cycle_cost t))

@@ -25,7 +25,7 @@ use Rattle.tcc_core.proofs.Settlement.{least_cycle, capped_rows, returned_starts
 use Rattle.tcc_steal.specs.Findings.{IsFirst, IsFound}
 use Rattle.tcc_steal.specs.private.Floors.{least_cost}
 use Rattle.tcc_steal.specs.private.Working.{KnowsMore, IsSeat, HasEnded, whole_row, IsSearched, AreSearches, rows_of, CameBack, IsFirstBack}
-use Rattle.tcc_steal.specs.declared.bringing.Searched.{Searched}
+use Rattle.tcc_steal.specs.declared.searched.Searched.{Searched}
 use Rattle.tcc_steal.specs.declared.found.Found.{Found}
 use Rattle.tcc_steal.proofs.Floor.{floor_attained}
 use Rattle.tcc_steal.proofs.Slots.{knows_more}

@@ -1,13 +1,17 @@
 -- Searches that workers bring back, in any order, and the slots that they have by their starts.
 use Rattle.std.proofs.Common.{◌≡◌, ◌<◌, ◌++◌, ◌⊎◌, inl, inr, ℕ, zero, suc, List, [], ◌∷◌, length, length-set, set}
 use Rattle.std.proofs.Common.{replicate, get_or, All, Option, None, Some, slice_get, refl, sym, ◌∙◌, ap}
+use Rattle.std.specs.Prelude.{Result, Ok, IfOk}
 use Rattle.std.proofs.Common.{subst}
 use Rattle.std.proofs.lemmas.List.Elements.{All-pop, All-push, All-weaker}
 use Rattle.std.proofs.lemmas.Option.{slice_get_read}
 use Rattle.tcc_derive.specs.Prices.{Tables}
 use Rattle.tcc_bound.specs.declared.known.Known.{Known}
-use Rattle.tcc_steal.specs.private.Working.{KnowsMore, IsSearched, AreKept, whole_row}
-use Rattle.tcc_steal.specs.declared.bringing.Searched.{Searched}
+use Rattle.tcc_bound.specs.Seated.{BoundId, Seated}
+use Rattle.tcc_txn.specs.declared.memory.NoMemory.{NoMemory}
+use Rattle.tcc_steal.specs.private.Working.{KnowsMore, IsSeat, IsSearched, IsShare, AreShares, AreKept, MayTakeIn, whole_row}
+use Rattle.tcc_steal.specs.declared.worker_loop.Share.{Share}
+use Rattle.tcc_steal.specs.declared.searched.Searched.{Searched}
 use Rattle.tcc_steal.proofs.Rows.{ended_more}
 
 no_search : (e : Searched) → None ≡ Some e → ⊥
@@ -32,6 +36,16 @@ module _ (t : Tables) (workers : ℕ) {old new : Known} (more : KnowsMore old ne
   -- one search more, made when more was known
   pub one_more : (e : Searched) → IsSearched t workers new e → All (IsSearched t workers new) (es ++ e ∷ [])
   one_more e is = All-push (IsSearched t workers new) es e all_more is
+
+-- ---- shares
+
+pub next_share : {t : Tables} {id : BoundId} {workers : ℕ} {own : Seated} {slots : List (Option Searched)} → IsSeat t id own → length slots ≡ length t.prices
+    → AreKept t workers own.known slots → (shares left : List (Result Share NoMemory)) (x : Result Share NoMemory) (share : Share)
+    → shares ≡ left ++ x ∷ [] → x ≡ Ok share → AreShares t id workers shares → MayTakeIn t id workers own slots share × AreShares t id workers left
+next_share {t} {id} {workers} seat long kept shares left x share parts is all =
+    let IsOne : Result Share NoMemory → Type 0 = λ s. IfOk s (IsShare t id workers) in
+    let (fewer, one) = All-pop IsOne shares left (Some x) parts all in
+    (record { seat = seat; long = long; kept = kept; share = subst IsOne is one }, fewer)
 
 -- ---- slots
 

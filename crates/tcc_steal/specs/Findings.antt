@@ -27,7 +27,7 @@ pub record IsFound (j : Judged) (workers : ℕ) (found : Found) : Type 0 where
   -- a row for each start: that of its search from the start upward, capped at `least` where there is one
   pub long : length found.rows.items ≡ count j.history
   pub rows : EachFinished shares (λ f. row_of found.rows.items f.start ≡ map (capped found.least) (drop f.start f.row))
-  -- and so the capped distances from each start to each transaction from there upward
+  -- the capped distances from each start to each transaction from there upward
   pub wide : (s : ℕ) → s < count j.history → length (row_of found.rows.items s) ≡ count j.history - s
   pub exact : (s : ℕ) (v : ℕ) → s ≤ v → v < count j.history → IsCappedDistance j s v found.least (slice_index_or (row_of found.rows.items s) (v - s) None)
   pub first : IsFirst j found.least found.first

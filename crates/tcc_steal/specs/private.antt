@@ -1,4 +1,4 @@
 -- What nobody has to believe: private functions say it to one another, or proofs to themselves.
-pub mod Dealing
 pub mod Floors
+pub mod StartQueues
 pub mod Working

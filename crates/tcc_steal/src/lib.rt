@@ -4,21 +4,21 @@
 //! ended, worker 0 takes in what they bring back, and searches each start that none came back with.
 #![tactic(auto)]
 
-mod bringing;
+mod bounded_search;
+mod branch_and_bound;
 mod crew;
-mod dealing;
+mod deque;
+mod deque_rule;
+mod deque_view;
+mod fork_join;
 mod found;
 mod gate;
-mod gathering;
-mod many;
-mod running;
-mod searching;
-mod sharing;
-mod taken;
-mod taking;
+mod merging;
+mod searched;
 mod worker;
+mod worker_loop;
 
+pub use branch_and_bound::{search, search_with};
 pub use crew::{AllStart, Crew};
 pub use found::Found;
 pub use gate::{Gate, OpenGate};
-pub use searching::{search, search_with};

@@ -8,8 +8,8 @@ ghost use Rattle.tcc_steal.specs.Findings.{HasJudged};
 ghost use Rattle.tcc_steal.specs.private.Working.{IsWorker, IsDone, KnowsMore};
 
 use crate::Gate;
-use crate::bringing::Searched;
-use crate::running::run;
+use crate::bounded_search::run;
+use crate::searched::Searched;
 use std::alloc::Global;
 use tcc_bits::PackedRow;
 use tcc_bound::{Bound, Seat};

@@ -39,13 +39,13 @@ Own = Me (Unit {0}) View
 abbrev pub own_of : Known → Own
 own_of known = (Live known, [])
 
--- what it knows
+-- what a seat knows, by its view
 abbrev pub known_of : View → Known
 known_of Unnamed = newcomer 0
 known_of (Live known) = known
 known_of Spent = newcomer 0
 
--- it was handed out, and did not join another
+-- a seat that was handed out, and did not join another
 abbrev pub IsLive : Own → Type 0
 IsLive me = me ≡ own_of (known_of me.0)
 
@@ -53,11 +53,11 @@ IsLive me = me ≡ own_of (known_of me.0)
 abbrev pub IsTold : Known → ℕ → Own → Type 0
 IsTold known word after = (after ≡ own_of (with_sight known word)) × (known.floor ≤ word)
 
--- it is told the word that was found, which is at most all that it knew
+-- a look: the seat is told the word that was found, which is at most all that it knew
 abbrev pub Looks : Own → ℕ → Own → Type 0
 Looks before found after = IsAtMostAll found (known_of before.0) × IsTold (known_of before.0) found after
 
--- its offer is noted, and it is told the word that the offer leaves, which is at most all that it knew
+-- an offer: it is noted, and the seat is told the word that the offer leaves, which is at most all that it knew
 abbrev pub Offers : ℕ → Own → ℕ → Own → Type 0
 Offers cost before found after =
     IsAtMostAll (min found cost) (known_of before.0) × IsTold (with_offer (known_of before.0) cost) (min found cost) after

@@ -8,16 +8,16 @@ use Rattle.tcc_core.specs.declared.levels.Level.{Level}
 use Rattle.tcc_core.specs.declared.levels.TheConstants.{LEVELS}
 use Rattle.tcc_core.specs.private.Marked.{IsMet}
 
--- it has room for n marks
+-- a level with room for n marks
 abbrev pub HasRoom : ℕ → Level → Type 0
 HasRoom n level = length level.marks.items ≡ words_for n
 
--- what it marks is met at its cost, if that isn't 0
+-- a level marks what is met at its cost, if that isn't 0
 pub record IsLevel (costs : List ℕ) (level : Level) : Type 0 where
   pub room : HasRoom (length costs) level
   pub met : 0 < level.cost → IsMet level.cost level.marks.items costs
 
--- so many of them
+-- as many levels as there may be costs at a time
 pub record AreLevels (costs : List ℕ) (levels : List Level) : Type 0 where
   pub long : length levels ≡ LEVELS
   pub each : All (IsLevel costs) levels

@@ -14,16 +14,16 @@ use Rattle.tcc_bound.specs.declared.known.Known.{Known}
 use Rattle.tcc_core.specs.Rows.{in_row, IsSearchRow, cap_of, IsCutOff}
 use Rattle.tcc_core.specs.Searches.{Search, IsSearchOf}
 use Rattle.tcc_core.specs.Shares.{IsCycleCost}
-use Rattle.tcc_steal.specs.private.Dealing.{IsTaker}
+use Rattle.tcc_steal.specs.private.StartQueues.{IsTaker}
 use Rattle.tcc_steal.specs.private.Floors.{least_cost}
-use Rattle.tcc_steal.specs.declared.bringing.Searched.{Searched}
-use Rattle.tcc_steal.specs.declared.sharing.Hand.{Hand}
-use Rattle.tcc_steal.specs.declared.sharing.Hand.TheVariants.{Owner, Thief}
-use Rattle.tcc_steal.specs.declared.sharing.Job.{Job}
-use Rattle.tcc_steal.specs.declared.sharing.Share.{Share}
+use Rattle.tcc_steal.specs.declared.searched.Searched.{Searched}
+use Rattle.tcc_steal.specs.declared.worker_loop.Hand.{Hand}
+use Rattle.tcc_steal.specs.declared.worker_loop.Hand.TheVariants.{Owner, Thief}
+use Rattle.tcc_steal.specs.declared.worker_loop.Job.{Job}
+use Rattle.tcc_steal.specs.declared.worker_loop.Share.{Share}
 use Rattle.tcc_steal.specs.declared.worker.Worker.{Worker}
 
--- one knows all that the other does: it has its offers, and has seen no more than it
+-- who knows `new` knows all of `old`: it has its offers, and has seen no more
 pub record KnowsMore (old new : Known) : Type 0 where
   pub floor : new.floor ≡ old.floor
   pub small : old.sight < 2 ^ 64
@@ -61,7 +61,7 @@ pub record HasEnded (j : Judged) (known : Known) (s : ℕ) (row : List (Option �
 abbrev pub whole_row : ℕ → List (Option ℕ) → List (Option ℕ)
 whole_row s row = replicate s None ++ row
 
--- it has ended for a seat that knows so much
+-- a search that has ended for a seat that knows so much
 abbrev pub IsDone : Tables → Known → Searched → Type 0
 IsDone t known e = (j : Judged) → IsPricesOf j t → HasEnded j known e.start (whole_row e.start e.row)
 
@@ -89,7 +89,6 @@ AreThieves workers thieves = All (λ number. (0 < number) × (number < workers))
 
 -- what a thief of this deque begins with
 pub record IsJob (t : Tables) (id : BoundId) (deque : RowsId × Global) (job : Job) : Type 0 where
-  pub thief : 0 < job.worker.number
   pub worker : IsWorker t id job.worker
   pub pass : IsPassOf deque job.pass
   pub taker : IsTaker (length t.prices) (view job.pass)
@@ -99,16 +98,20 @@ abbrev pub IsHand : ℕ → Hand → Type 0
 IsHand count (Owner owner) = (worker_flavor owner ≡ 0) × IsTaker count (worker_view owner)
 IsHand count (Thief thief pass retries) = IsPassOf (stealer_deque thief.now) pass × IsTaker count (view pass)
 
--- what the thieves of so many workers begin with
-abbrev pub AreJobs : Tables → BoundId → RowsId × Global → ℕ → List Job → Type 0
-AreJobs t id deque workers jobs = All (λ job. IsJob t id deque job × (job.worker.number < workers)) jobs
+-- what the thieves of this deque begin with
+abbrev pub AreJobs : Tables → BoundId → RowsId × Global → List Job → Type 0
+AreJobs t id deque jobs = All (IsJob t id deque) jobs
+
+-- jobs of some of so many workers
+abbrev pub AreJobsOf : ℕ → List Job → Type 0
+AreJobsOf workers jobs = All (λ job. job.worker.number < workers) jobs
 
 -- what one of so many workers brings back
 pub record IsShare (t : Tables) (id : BoundId) (workers : ℕ) (share : Share) : Type 0 where
   pub seat : IsSeat t id share.seat
   pub searches : All (IsSearched t workers share.seat.known) share.searches.items
 
--- they are searches of the worker with this number
+-- searches of the worker with this number
 abbrev pub AreBy : ℕ → List Searched → Type 0
 AreBy number searches = All (λ e. e.worker ≡ number) searches
 
@@ -119,6 +122,18 @@ AreShares t id workers shares = All (λ share. IfOk share (IsShare t id workers)
 -- each slot is empty, or has the search of its start
 abbrev pub AreKept : Tables → ℕ → Known → List (Option Searched) → Type 0
 AreKept t workers known slots = (k : ℕ) (e : Searched) → slice_get slots k ≡ Some (Some e) → (e.start ≡ k) × IsSearched t workers known e
+
+-- a share of so many workers, and the seat and the slots that it may be taken into
+pub record MayTakeIn (t : Tables) (id : BoundId) (workers : ℕ) (own : Seated) (slots : List (Option Searched)) (brought : Share) : Type 0 where
+  pub seat : IsSeat t id own
+  pub long : length slots ≡ length t.prices
+  pub kept : AreKept t workers own.known slots
+  pub share : IsShare t id workers brought
+
+-- the seat and the slots that it was taken into
+pub record HasTakenIn (t : Tables) (id : BoundId) (workers : ℕ) (own : Seated) (slots : List (Option Searched)) : Type 0 where
+  pub seat : IsSeat t id own
+  pub kept : AreKept t workers own.known slots
 
 -- the row of the search from k, from there upward
 abbrev pub rows_of : List Searched → List (List (Option ℕ))

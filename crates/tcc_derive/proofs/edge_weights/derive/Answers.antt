@@ -8,19 +8,25 @@ use Rattle.tcc_derive.proofs.edge_weights.derive.Goals as goal
 pub returns-clause-prices : goal.returns-clause-prices
 returns-clause-prices g c =
     let j : Judged = judged c.args.graph.now c.args.near.now.level in
-    rw (c.new.ensures, c.level.ensures)
+    rw c.level.ensures
     (prices_of j c.args.near.now c.in_ok-prices.prices.items c.in_ok-ends.ends.items c.in_ok-others.others.items c.cost_limit-limit.result c.requires
     c.in_ok-prices.ensures.rows
     c.in_ok-ends.ensures (rw c.deref.ensures.value at c.in_ok-others.ensures))
 
-pub new-requires-clause-shape : goal.new-requires-clause-shape
-new-requires-clause-shape g c =
+pub invariant_of-result : goal.invariant_of-result
+invariant_of-result g c =
     let j : Judged = judged c.args.graph.now c.args.near.now.level in
     let rows = c.in_ok-prices.ensures.rows in
-    let few : count c.args.graph.now ≤ MAX_COUNT = omega (arith, c.in_ok-prices.ensures.few, rows.long) in
-    rw c.level.ensures
-    (shaped j c.args.near.now c.in_ok-prices.prices.items c.in_ok-ends.ends.items c.in_ok-others.others.items c.cost_limit-limit.result c.requires rows
-    c.in_ok-ends.ensures (rw c.deref.ensures.value at c.in_ok-others.ensures) few)
+    let others = rw c.deref.ensures.value at c.in_ok-others.ensures in
+    let few : count c.args.graph.now ≤ MAX_COUNT = omega (arith, c.in_ok-prices.ensures.few, rows.long) in (
+      rw c.level.ensures
+          (shaped j c.args.near.now c.in_ok-prices.prices.items c.in_ok-ends.ends.items c.in_ok-others.others.items c.cost_limit-limit.result c.requires rows
+          c.in_ok-ends.ensures others few),
+      rw c.level.ensures
+          (have_by_class j c.args.near.now c.in_ok-prices.prices.items c.in_ok-ends.ends.items c.in_ok-others.others.items c.cost_limit-limit.result c.requires
+          rows c.in_ok-ends.ensures others c.in_ok-by_class.by_class.items (rw (c.deref-4.ensures.value, c.deref-5.ensures.value) at c.in_ok-by_class.ensures)),
+      rw c.deref-6.ensures.value at c.are_within-whole.ensures,
+    )
 
 pub cost_limit-limit-requires-clause-within : goal.cost_limit-limit-requires-clause-within
 cost_limit-limit-requires-clause-within g c =
@@ -38,17 +44,8 @@ by_class_rows-requires-clause-within g c κs inside =
     c.in_ok-ends.ensures (rw c.deref.ensures.value at c.in_ok-others.ensures) (length c.in_ok-others.others.items)
     (omega (arith, (rw c.deref.ensures.value at c.in_ok-others.ensures).long)))
 
-pub new-requires-clause-by_class : goal.new-requires-clause-by_class
-new-requires-clause-by_class g c =
-    let j : Judged = judged c.args.graph.now c.args.near.now.level in
-    rw c.level.ensures
-    (have_by_class j c.args.near.now c.in_ok-prices.prices.items c.in_ok-ends.ends.items c.in_ok-others.others.items c.cost_limit-limit.result c.requires
-    c.in_ok-prices.ensures.rows
-    c.in_ok-ends.ensures (rw c.deref.ensures.value at c.in_ok-others.ensures)
-    c.in_ok-by_class.by_class.items (rw (c.deref-4.ensures.value, c.deref-5.ensures.value) at c.in_ok-by_class.ensures))
-
 pub returns-clause-limit : goal.returns-clause-limit
-returns-clause-limit g c = rw c.new.ensures (rw c.deref-2.ensures.value at c.cost_limit-limit.ensures)
+returns-clause-limit g c = rw c.deref-2.ensures.value at c.cost_limit-limit.ensures
 
 pub cost_limit-limit-requires-clause-priced : goal.cost_limit-limit-requires-clause-priced
 cost_limit-limit-requires-clause-priced g c =

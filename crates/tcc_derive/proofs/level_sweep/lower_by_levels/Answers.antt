@@ -34,7 +34,7 @@ loop-distance-preserved c =
       same ∙ inv.0,
       c.take_level.ensures.long ∙ inv.1,
       covered_later c.take_level.new.seen c.take_level.new.nearest d (d + 1) (omega arith) c.in_ok-take_level.ensures.covered,
-      upto_next reads steps below d c.args.nearest.now c.take_level.new.nearest (c.in_ok-take_level.ensures.lowered c.args.nearest.now inv.3),
+      upto_next reads steps below d c.args.nearest.now c.take_level.new.nearest (c.in_ok-take_level.ensures.lowered reads c.args.nearest.now c.requires.rows inv.3),
       inv.4,
     )
 

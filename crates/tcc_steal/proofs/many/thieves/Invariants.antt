@@ -1,5 +1,0 @@
-use Rattle.tcc_steal.specs.private.Working.{AreThieves}
-use Rattle.tcc_steal.proofs.many.thieves.Given as goal
-
-abbrev pub invariant-loop-number : goal.invariant-loop-number
-invariant-loop-number g l = AreThieves l.workers l.thieves.items
