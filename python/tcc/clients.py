@@ -137,6 +137,10 @@ class Client:
     def some_key(self) -> str:
         return "k%d" % self.chance.randrange(self.keys)
 
+    def some_keys(self, prefix: str = "") -> List[str]:
+        """One or two keys in order, each behind the prefix."""
+        return sorted({prefix + self.some_key() for _ in range(2)})
+
     def new_value(self) -> int:
         """A counter, and the client's number in the lowest bits."""
         self.written += 1

@@ -155,16 +155,12 @@ class Servers(Store):
         return server
 
     def turn(self, client: Client, connections: Sequence) -> None:
-        keys = self.transact(client, connections[0], "primary", some_keys(client), some_keys(client))
+        keys = self.transact(client, connections[0], "primary", client.some_keys(), client.some_keys())
         if len(connections) > 1:
             self.transact(client, connections[1], "replica", keys, [])
 
     def transact(self, client: Client, server, node: str, reads: List[str], writes: List[str]) -> List[str]:
         return REGISTERS.transact(client, server, node, reads, writes, (self.driver.extensions.TransactionRollbackError,))
-
-
-def some_keys(client: Client) -> List[str]:
-    return sorted({client.some_key() for _ in range(2)})
 
 
 @contextlib.contextmanager

@@ -260,7 +260,7 @@ links_by_key = refl
 links_by_key-back : link_cmp (link.Derived 1 0 y 2 (step.Session 1 2 ∷ [])) (link.Derived 1 0 x 9 (step.Session 1 9 ∷ [])) ≡ Greater
 links_by_key-back = refl
 
--- then the reader, though the walks stand the other way round
+-- of two derived links of one key the reader comes first, though the walks stand the other way round
 links_by_reader : link_cmp (link.Derived 1 0 x 2 (step.Reads 1 2 y ∷ [])) (link.Derived 1 0 x 9 (step.Session 1 9 ∷ [])) ≡ Less
 links_by_reader = refl
 

@@ -30,7 +30,7 @@ pub record Records (first : Writer) (site : Site) : Type 0 where
   pub number : is_some first.number ≡ site.stand.txn.committed
   pub last : first.last ≡ is_last_at_key site
 
--- both find nothing, or the same write
+-- the table and the history both have no write, or have the same one
 abbrev pub Agree : Option Writer → Option Site → Type 0
 Agree None None = Unit {0}
 Agree None (Some site) = ⊥

@@ -214,7 +214,7 @@ module _ (limits : Limits) where
       → HasLeft remaining records ys → xs ≡ ys
   same-left remaining records xs ys one two = (let both : ◌≡◌ {A = Option (List Record)} (Some xs) (Some ys) = sym one.known ∙ two.known in cc both)
 
-  -- which records were judged before it failed
+  -- which records were judged before the reading failed
   pub failed-reading : {R : Type 0} (remaining : R → Option (List ℕ)) (old : Rows R) (records : Records R) (all : List Record) (ahead : Answers)
       → IsMidway limits remaining old ahead → StandsIn remaining old.records all → (k : RowFaultKind) → Counts old.records (Err k) records
       → FailsIn limits all ahead (row_in records.stage records.count)

@@ -286,7 +286,7 @@ module _ (limits : Limits) where
             (sym (plain-item (item_of q last) (answers_after_within limits (last ∷ q) rest)))),
       )
 
-  -- those of the records before a row are the first of all
+  -- the items of the records before a row are the first of all items
   pub first-items : (row : ℕ) (all : List Record) → AreLawfulWithin limits [] (records_before row all)
       → take (length (items_before_within limits row all)) (answers_after_within limits [] all).items ≡ items_before_within limits row all
   first-items row all lawful =

@@ -6,7 +6,7 @@ use Rattle.std.proofs.lemmas.Bool.Decides.{nat_tests}
 use Rattle.csv.specs.Records.{cut_from}
 use Rattle.tcc_rows.specs.ByteLimit.{past_limit}
 
--- neither of two tests
+-- where neither of two tests holds, the first fails
 neither-first : (a b : Bool) → (a || b) ≡ false → a ≡ false
 neither-first true b e = e
 neither-first false b e = refl

@@ -107,7 +107,7 @@ none-open test (n ∷ ns) none = by (test n) refl (none-open test ns none)
 abbrev Entry : Type 0
 Entry = List ℕ × Option (List Op)
 
--- not above the other
+-- a name is not above another
 abbrev IsUpTo : List ℕ → List ℕ → Type 0
 IsUpTo a b = name_cmp a b ≢ Greater
 

@@ -22,7 +22,7 @@ module _ {X : Type 0} (p : X → Bool) where
       ap (λ (b : Bool). cond b (x ∷ filter p xs) (filter p xs)) (All-head (λ (z : X). p z ≡ true) x xs all)
       ∙ ap (λ (z : List X). x ∷ z) (all_pass xs (All-tail (λ (z : X). p z ≡ true) x xs all))
 
-  -- those from one index to before another, where these alone pass
+  -- the items from one index to before another are those that pass, where these alone do
   pub passing_range : (xs : List X) (start end : ℕ) → start ≤ end → end ≤ length xs → ((k : ℕ) (d : X) → k < start → p (slice_index_or xs k d) ≡ false)
       → ((k : ℕ) (d : X) → start ≤ k → k < end → p (slice_index_or xs k d) ≡ true)
       → ((k : ℕ) (d : X) → end ≤ k → k < length xs → p (slice_index_or xs k d) ≡ false) → take (end - start) (drop start xs) ≡ filter p xs

@@ -27,7 +27,7 @@ module _ (s slice : Sessions) (links : List Link) (needs : List (ℕ × Need)) (
   ended : committed (stands slice) ≡ stands slice
   ended = all_pass is_committed (stands slice) (λ i d inside. (fit.cut.each i d inside).part.ended)
 
-  -- as many numbers as transactions
+  -- there are as many numbers as transactions of the slice
   pub long : length numbers ≡ count (history slice)
   long =
       omega (arith, fit.cut.long, ap length ended, length-map (committed (stands slice)) (entry_of (stands slice)))

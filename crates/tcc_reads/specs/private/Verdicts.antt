@@ -189,7 +189,7 @@ source_found table n site = source_in site.op (site_judgement table n site)
 abbrev pub faults_found : Writes → Numbered → List ReadFault
 faults_found table n = filter_map (fault_found table n) (sites_of n.stand)
 
--- its external reads, as key and source
+-- the external reads of a transaction, as key and source
 abbrev pub sources_found : Writes → Numbered → List (List ℕ × ℕ)
 sources_found table n = filter_map (source_found table n) (sites_of n.stand)
 

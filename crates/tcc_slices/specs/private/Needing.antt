@@ -27,7 +27,7 @@ needs_of_link (link.Derived b a x c walk) = need_at b (need.Write x) ++ (needs_o
 abbrev pub AreByNumber : List (ℕ × Need) → Type 0
 AreByNumber needs = IsNonDecreasingBy (λ one. one.0) needs
 
--- this of the transaction of this number is needed by the links
+-- the links need this of the transaction of a number
 abbrev pub IsNeedOf : List Link → ℕ → Need → Type 0
 IsNeedOf links n need.There = IsMet links n
 IsNeedOf links n (need.Write key) = IsWritten links n key
