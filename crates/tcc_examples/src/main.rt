@@ -12,27 +12,40 @@ use std::alloc::{Alloc, Global};
 use std::io::{self, Write};
 use std::sync::Wait;
 use std::thread::Threads;
+use tcc_answer::Answer;
 use tcc_explain::Workers;
 use tcc_graph::Graph;
 use tcc_reads::resolve;
+use tcc_txn::Snapshot;
 
 /// A session writes x, and its next transaction reads the initial x.
 const RECORDS: &[u8] = b"a,begin\na,w,x,1\na,commit\na,begin\na,r,x,0\na,commit\n";
 
-/// The examples of histories and of their answers.
-fn show_answers<W: Write>(rt: &(impl Threads + Sync), alloc: Global, out: &mut W) -> Result<()> {
-    let snapshot = example_snapshot(alloc)?;
-    writeln!(out, "{} faults", example_resolve(alloc, &snapshot)?)?;
+/// The examples of histories.
+fn show_history<W: Write>(alloc: Global, snapshot: &Snapshot, out: &mut W) -> Result<()> {
+    writeln!(out, "{} faults", example_resolve(alloc, snapshot)?)?;
     writeln!(
         out,
         "{} readers",
-        example_graph_build(alloc, &snapshot)?.len()
+        example_graph_build(alloc, snapshot)?.len()
     )?;
+    Ok(())
+}
+
+/// Whether the certificate of an answer is accepted.
+fn is_accepted(alloc: Global, snapshot: &Snapshot, answer: &Answer) -> Result<bool> {
+    let resolved = resolve(alloc, snapshot)?;
+    let graph = Graph::build(alloc, resolved)?;
+    example_check(alloc, &graph, answer)
+}
+
+/// The examples of answers.
+fn show_answers<W: Write>(rt: &(impl Threads + Sync), alloc: Global, out: &mut W) -> Result<()> {
+    let snapshot = example_snapshot(alloc)?;
+    show_history(alloc, &snapshot, out)?;
     let answer = example_explain(rt, alloc, &snapshot, Workers::ONE, out)?;
     out.write_all(&example_write_text(alloc, &answer)?)?;
-    let resolved = resolve(alloc, &snapshot)?;
-    let graph = Graph::build(alloc, resolved)?;
-    writeln!(out, "accepted: {}", example_check(alloc, &graph, &answer)?)?;
+    writeln!(out, "accepted: {}", is_accepted(alloc, &snapshot, &answer)?)?;
     Ok(())
 }
 
