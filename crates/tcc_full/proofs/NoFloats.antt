@@ -1,5 +1,5 @@
 -- No object has floats.
-use Rattle.std.proofs.Common.{◌≡◌, ℕ, ◌-◌, Bool, false, List, [], ◌∷◌, map, Option, None, Some, refl}
+use Rattle.std.proofs.Common.{◌≡◌, ℕ, ◌-◌, Bool, false, List, map, Option, None, Some, refl}
 use Rattle.serde_json.specs.Data.{Data}
 use Rattle.serde_json.specs.View.{items_of}
 use Rattle.serde_json.specs.Written.{has_float, items_have_float, members_have_float}
@@ -11,7 +11,7 @@ use Rattle.tcc_graph.specs.declared.step.Step.{Step}
 use Rattle.tcc_graph.specs.declared.step.Step.TheVariants as step
 use Rattle.tcc_graph.specs.declared.link.Link.{Link}
 use Rattle.tcc_graph.specs.declared.link.Link.TheVariants as link
-use Rattle.tcc_answer.specs.Json.{label_json}
+use Rattle.tcc_answer.proofs.NoFloats.{in_items, in_labels}
 use Rattle.tcc_print.specs.Json.{row_fault_json, row_session_json}
 use Rattle.tcc_print.specs.declared.status.Status.{Status}
 use Rattle.tcc_full.specs.Links.{link_json, reads_json, row_json, step_json}
@@ -32,8 +32,7 @@ in_step r (step.Session u v) = refl
 in_step r (step.Reads u v key) = in_reads r u v key
 
 in_walk : (r : Records) (walk : List Step) → items_have_float (items_of (map (step_json r) walk)) ≡ false
-in_walk r [] = refl
-in_walk r (one ∷ walk) = rw (in_step r one, in_walk r walk) refl
+in_walk r walk = in_items (step_json r) (in_step r) walk
 
 in_link : (r : Records) (one : Link) → has_float (link_json r one) ≡ false
 in_link r (link.Session u v) = refl
@@ -41,12 +40,7 @@ in_link r (link.Reads u v key) = in_reads r u v key
 in_link r (link.Derived b a key c walk) = rw (in_row (write_row r b key), in_row (read_row r a c key), in_walk r walk, in_row (write_row r a key)) refl
 
 in_links : (r : Records) (links : List Link) → items_have_float (items_of (map (link_json r) links)) ≡ false
-in_links r [] = refl
-in_links r (one ∷ links) = rw (in_link r one, in_links r links) refl
-
-in_labels : (labels : List (List ℕ)) (order : List ℕ) → items_have_float (items_of (map (label_json labels) order)) ≡ false
-in_labels labels [] = refl
-in_labels labels (n ∷ order) = rw (in_labels labels order) refl
+in_links r links = in_items (link_json r) (in_link r) links
 
 in_name : (name : Option (List ℕ)) → has_float (name_json name) ≡ false
 in_name None = refl
@@ -56,8 +50,7 @@ in_fault : (r : Records) (fault : ReadFault) → has_float (fault_json r fault) 
 in_fault r fault = rw (in_name (field_name fault.kind), in_row (row_of r.rows fault.session fault.place (fault.op - 1))) refl
 
 in_faults : (r : Records) (faults : List ReadFault) → items_have_float (items_of (map (fault_json r) faults)) ≡ false
-in_faults r [] = refl
-in_faults r (fault ∷ faults) = rw (in_fault r fault, in_faults r faults) refl
+in_faults r faults = in_items (fault_json r) (in_fault r) faults
 
 pub in_consistent : (asked : Asked) (r : Records) (order : List ℕ) (status : Status) → has_float (consistent_json asked r order status) ≡ false
 in_consistent asked r order status = rw (in_labels r.labels order) refl

@@ -1,13 +1,13 @@
 //! The links of a cycle as JSON, each with the value that was read and the rows of its operations.
-ghost use Rattle.std.specs.Prelude.{◌≡◌, IfOk, map, string_bytes};
-ghost use Rattle.serde_json.specs.Data.{array};
-ghost use Rattle.serde_json.specs.View.{items_of, view};
+ghost use Rattle.std.specs.Prelude.{◌≡◌, IfOk, string_bytes};
+ghost use Rattle.serde_json.specs.View.{view};
 ghost use Rattle.tcc_full.specs.Links.{derived_json, derived_object, link_json, reads_json, row_json, session_json, step_json};
 ghost use Rattle.tcc_full.specs.Records.{records_of};
 
 use crate::lookup::Lookup;
 use serde_json::{Value, json};
 use std::alloc::{AllocError, Global};
+use tcc_answer::{Values, list_json};
 use tcc_graph::{Link, Step};
 use tcc_txn::{Bounds, Name};
 
@@ -29,12 +29,10 @@ fn session_json<B: Bounds>(
 ) -> Result<Value, AllocError>
     ensures { IfOk result (λ v. view v ≡ session_json (records_of lookup.now) from to) }
 {
-    let from = lookup.labels.at(from);
-    let to = lookup.labels.at(to);
     json!(in alloc; {
-        "from": from,
+        "from": lookup.labels.at(from),
         "kind": "session",
-        "to": to
+        "to": lookup.labels.at(to)
     })
 }
 
@@ -47,46 +45,29 @@ fn reads_json<B: Bounds>(
 ) -> Result<Value, AllocError>
     ensures { IfOk result (λ v. view v ≡ reads_json (records_of lookup.now) from to key.now) }
 {
-    let read = row_json(alloc, lookup.read_row(from, to, key))?;
-    let value = lookup.value_from(from, key);
-    let written = row_json(alloc, lookup.write_row(from, key))?;
-    let from = lookup.labels.at(from);
-    let to = lookup.labels.at(to);
-    let key = key.to_string(alloc)?;
     json!(in alloc; {
-        "from": from,
-        "key": key,
+        "from": lookup.labels.at(from),
+        "key": key.to_string(alloc)?,
         "kind": "reads",
-        "read": read,
-        "to": to,
-        "value": value,
-        "written": written
+        "read": row_json(alloc, lookup.read_row(from, to, key))?,
+        "to": lookup.labels.at(to),
+        "value": lookup.value_from(from, key),
+        "written": row_json(alloc, lookup.write_row(from, key))?
     })
 }
 
-fn step_json<B: Bounds>(alloc: Global, lookup: &Lookup<B>, step: &Step) -> Result<Value, AllocError>
-    ensures { IfOk result (λ v. view v ≡ step_json (records_of lookup.now) step.now) }
-{
-    match step {
-        Step::Session { from, to } => session_json(alloc, lookup, *from, *to),
-        Step::Reads { from, to, key } => reads_json(alloc, lookup, *from, *to, key),
+impl<B: Bounds> Values<Step> for Lookup<'_, B> {
+    ghost json = { λ lookup step. step_json (records_of lookup) step };
+
+    fn value(&self, alloc: Global, step: &Step) -> Result<Value, AllocError> {
+        match step {
+            Step::Session { from, to } => session_json(alloc, self, *from, *to),
+            Step::Reads { from, to, key } => reads_json(alloc, self, *from, *to, key),
+        }
     }
 }
 
-fn walk_json<B: Bounds>(
-    alloc: Global,
-    lookup: &Lookup<B>,
-    walk: &[Step],
-) -> Result<Value, AllocError>
-    ensures { IfOk result (λ v. view v ≡ array (items_of (map (step_json (records_of lookup.now)) walk.now))) }
-{
-    let mut steps = Vec::new(alloc);
-    for step in walk {
-        steps.push(step_json(alloc, lookup, step)?)?;
-    }
-    Ok(Value::Array(steps))
-}
-
+/// A derived link, by the names of its transactions, its rows, its value and its walk.
 fn derived_object(
     alloc: Global,
     from: &str,
@@ -131,7 +112,7 @@ fn derived_json<B: Bounds>(
     let read = row_json(alloc, lookup.read_row(to, reader, key))?;
     let value = lookup.value_from(to, key);
     let written = row_json(alloc, lookup.write_row(to, key))?;
-    let walk = walk_json(alloc, lookup, walk)?;
+    let walk = list_json(alloc, lookup, walk)?;
     let from = lookup.labels.at(from);
     let reader = lookup.labels.at(reader);
     let to = lookup.labels.at(to);
@@ -141,33 +122,20 @@ fn derived_json<B: Bounds>(
     )
 }
 
-fn link_json<B: Bounds>(alloc: Global, lookup: &Lookup<B>, link: &Link) -> Result<Value, AllocError>
-    ensures { IfOk result (λ v. view v ≡ link_json (records_of lookup.now) link.now) }
-{
-    match link {
-        Link::Session { from, to } => session_json(alloc, lookup, *from, *to),
-        Link::Reads { from, to, key } => reads_json(alloc, lookup, *from, *to, key),
-        Link::Derived {
-            from,
-            to,
-            key,
-            reader,
-            walk,
-        } => derived_json(alloc, lookup, *from, *to, key, *reader, walk.as_slice()),
-    }
-}
+impl<B: Bounds> Values<Link> for Lookup<'_, B> {
+    ghost json = { λ lookup link. link_json (records_of lookup) link };
 
-/// The links of a cycle.
-pub(crate) fn links_json<B: Bounds>(
-    alloc: Global,
-    lookup: &Lookup<B>,
-    links: &[Link],
-) -> Result<Value, AllocError>
-    ensures { IfOk result (λ v. view v ≡ array (items_of (map (link_json (records_of lookup.now)) links.now))) }
-{
-    let mut cycle = Vec::new(alloc);
-    for link in links {
-        cycle.push(link_json(alloc, lookup, link)?)?;
+    fn value(&self, alloc: Global, link: &Link) -> Result<Value, AllocError> {
+        let (from, to) = (link.from(), link.to());
+        match link {
+            Link::Session { .. } => session_json(alloc, self, from, to),
+            Link::Reads { key, .. } => reads_json(alloc, self, from, to, key),
+            Link::Derived {
+                key,
+                reader,
+                walk,
+                ..
+            } => derived_json(alloc, self, from, to, key, *reader, walk.as_slice()),
+        }
     }
-    Ok(Value::Array(cycle))
 }

@@ -1,8 +1,6 @@
 //! The one object that says all about an answer, as a line that is made whole.
-ghost use Rattle.std.specs.Prelude.{◌≡◌, IfOk, map, option_map, codes};
-ghost use Rattle.serde_json.specs.Data.{array};
-ghost use Rattle.serde_json.specs.View.{items_of, view};
-ghost use Rattle.tcc_reads.specs.History.{count};
+ghost use Rattle.std.specs.Prelude.{◌≡◌, IfOk, option_map, codes};
+ghost use Rattle.serde_json.specs.View.{view};
 ghost use Rattle.tcc_graph.specs.Links.{cost};
 ghost use Rattle.tcc_answer.specs.Json.{json_line};
 ghost use Rattle.tcc_print.specs.Json.{row_fault_json};
@@ -10,11 +8,11 @@ ghost use Rattle.tcc_print.specs.Statuses.{row_status};
 ghost use Rattle.tcc_full.specs.Objects.{anomaly_json, committed_count, consistent_json, ended_json, fault_json, field_name, is_large, level_word, limits_json, name_json, none_json, unresolved_json};
 ghost use Rattle.tcc_full.specs.Records.{records_of};
 
-use crate::links::{links_json, row_json};
+use crate::links::row_json;
 use crate::lookup::Lookup;
 use serde_json::{Value, json};
 use std::alloc::{AllocError, Global};
-use tcc_answer::{labels_json, object_line, shape_of, shape_word};
+use tcc_answer::{Values, labels_json, list_json, object_line, shape_of, shape_word};
 use tcc_graph::{LargeGraph, Level, Link};
 use tcc_print::Status;
 use tcc_print::json::row_fault_json;
@@ -53,19 +51,13 @@ fn is_large(limits: Limits) -> bool
 fn limits_json(alloc: Global, limits: Limits) -> Result<Value, AllocError>
     ensures { IfOk result (λ v. view v ≡ limits_json limits) }
 {
-    let bytes = limits.bytes();
-    let keys = limits.keys();
-    let operations = MAX_OPERATIONS;
-    let seals = MAX_SEALS;
-    let sessions = limits.sessions();
-    let transactions = limits.transactions();
     json!(in alloc; {
-        "bytes": bytes,
-        "keys": keys,
-        "operations": operations,
-        "seals": seals,
-        "sessions": sessions,
-        "transactions": transactions
+        "bytes": limits.bytes(),
+        "keys": limits.keys(),
+        "operations": MAX_OPERATIONS,
+        "seals": MAX_SEALS,
+        "sessions": limits.sessions(),
+        "transactions": limits.transactions()
     })
 }
 
@@ -85,24 +77,16 @@ fn consistent_json<B: Bounds>(
 ) -> Result<Value, AllocError>
     ensures { IfOk result (λ v. view v ≡ consistent_json asked.now (records_of lookup.now) order.now status) }
 {
-    let large = is_large(asked.limits);
-    let level = level_word(asked.level);
-    let limits = limits_json(alloc, asked.limits)?;
-    let order = labels_json(alloc, lookup.labels, order)?;
-    let sessions = lookup.graph.sessions().len();
-    let status = status.code();
-    let transactions = committed_count(lookup.graph);
-    let version = asked.version;
     json!(in alloc; {
         "answer": "consistent",
-        "large": large,
-        "level": level,
-        "limits": limits,
-        "order": order,
-        "sessions": sessions,
-        "status": status,
-        "transactions": transactions,
-        "version": version
+        "large": is_large(asked.limits),
+        "level": level_word(asked.level),
+        "limits": limits_json(alloc, asked.limits)?,
+        "order": labels_json(alloc, lookup.labels, order)?,
+        "sessions": lookup.graph.sessions().len(),
+        "status": status.code(),
+        "transactions": committed_count(lookup.graph),
+        "version": asked.version
     })
 }
 
@@ -133,28 +117,19 @@ fn anomaly_json<B: Bounds>(
     requires { steps ≡ cost links.now }
     ensures { IfOk result (λ v. view v ≡ anomaly_json asked.now (records_of lookup.now) links.now least) }
 {
-    let cycle = links_json(alloc, lookup, links)?;
-    let large = is_large(asked.limits);
-    let level = level_word(asked.level);
-    let limits = limits_json(alloc, asked.limits)?;
-    let sessions = lookup.graph.sessions().len();
-    let shape = shape_word(shape_of(links));
-    let status = Status::Anomaly.code();
-    let transactions = committed_count(lookup.graph);
-    let version = asked.version;
     json!(in alloc; {
         "answer": "anomaly",
-        "cycle": cycle,
-        "large": large,
+        "cycle": list_json(alloc, lookup, links)?,
+        "large": is_large(asked.limits),
         "least": least,
-        "level": level,
-        "limits": limits,
-        "sessions": sessions,
-        "shape": shape,
-        "status": status,
+        "level": level_word(asked.level),
+        "limits": limits_json(alloc, asked.limits)?,
+        "sessions": lookup.graph.sessions().len(),
+        "shape": shape_word(shape_of(links)),
+        "status": Status::Anomaly.code(),
         "steps": steps,
-        "transactions": transactions,
-        "version": version
+        "transactions": committed_count(lookup.graph),
+        "version": asked.version
     })
 }
 
@@ -197,46 +172,23 @@ fn name_json(alloc: Global, kind: ReadFaultKind) -> Result<Value, AllocError>
     }
 }
 
-fn fault_json<B: Bounds>(
-    alloc: Global,
-    lookup: &Lookup<B>,
-    fault: &ReadFault,
-) -> Result<Value, AllocError>
-    ensures { IfOk result (λ v. view v ≡ fault_json (records_of lookup.now) fault.now) }
-{
-    let key = fault.key.to_string(alloc)?;
-    let kind = read_word(fault.kind);
-    let name = name_json(alloc, fault.kind)?;
-    let op = fault.op;
-    let place = fault.place;
-    let index = (op as usize).saturating_sub(1);
-    let row = row_json(alloc, lookup.rows.row(&fault.session, place, index))?;
-    let session = fault.session.to_string(alloc)?;
-    let value = fault.value;
-    json!(in alloc; {
-        "key": key,
-        "kind": kind,
-        "name": name,
-        "op": op,
-        "place": place,
-        "row": row,
-        "session": session,
-        "value": value
-    })
-}
+impl<B: Bounds> Values<ReadFault> for Lookup<'_, B> {
+    ghost json = { λ lookup fault. fault_json (records_of lookup) fault };
 
-fn faults_json<B: Bounds>(
-    alloc: Global,
-    lookup: &Lookup<B>,
-    faults: &[ReadFault],
-) -> Result<Value, AllocError>
-    ensures { IfOk result (λ v. view v ≡ array (items_of (map (fault_json (records_of lookup.now)) faults.now))) }
-{
-    let mut list = Vec::new(alloc);
-    for fault in faults {
-        list.push(fault_json(alloc, lookup, fault)?)?;
+    fn value(&self, alloc: Global, fault: &ReadFault) -> Result<Value, AllocError> {
+        let index = (fault.op as usize).saturating_sub(1);
+        let row = self.rows.row(&fault.session, fault.place, index);
+        json!(in alloc; {
+            "key": fault.key.to_string(alloc)?,
+            "kind": read_word(fault.kind),
+            "name": name_json(alloc, fault.kind)?,
+            "op": fault.op,
+            "place": fault.place,
+            "row": row_json(alloc, row)?,
+            "session": fault.session.to_string(alloc)?,
+            "value": fault.value
+        })
     }
-    Ok(Value::Array(list))
 }
 
 fn unresolved_json<B: Bounds>(
@@ -247,24 +199,16 @@ fn unresolved_json<B: Bounds>(
 ) -> Result<Value, AllocError>
     ensures { IfOk result (λ v. view v ≡ unresolved_json asked.now (records_of lookup.now) faults.now) }
 {
-    let faults = faults_json(alloc, lookup, faults)?;
-    let large = is_large(asked.limits);
-    let level = level_word(asked.level);
-    let limits = limits_json(alloc, asked.limits)?;
-    let sessions = lookup.graph.sessions().len();
-    let status = Status::ReadFaults.code();
-    let transactions = committed_count(lookup.graph);
-    let version = asked.version;
     json!(in alloc; {
         "answer": "unresolved",
-        "faults": faults,
-        "large": large,
-        "level": level,
-        "limits": limits,
-        "sessions": sessions,
-        "status": status,
-        "transactions": transactions,
-        "version": version
+        "faults": list_json(alloc, lookup, faults)?,
+        "large": is_large(asked.limits),
+        "level": level_word(asked.level),
+        "limits": limits_json(alloc, asked.limits)?,
+        "sessions": lookup.graph.sessions().len(),
+        "status": Status::ReadFaults.code(),
+        "transactions": committed_count(lookup.graph),
+        "version": asked.version
     })
 }
 
@@ -288,19 +232,14 @@ fn none_json(
 ) -> Result<Value, AllocError>
     ensures { IfOk result (λ v. view v ≡ none_json asked.now (view fault) status) }
 {
-    let large = is_large(asked.limits);
-    let level = level_word(asked.level);
-    let limits = limits_json(alloc, asked.limits)?;
-    let status = status.code();
-    let version = asked.version;
     json!(in alloc; {
         "answer": "none",
         "fault": fault,
-        "large": large,
-        "level": level,
-        "limits": limits,
-        "status": status,
-        "version": version
+        "large": is_large(asked.limits),
+        "level": level_word(asked.level),
+        "limits": limits_json(alloc, asked.limits)?,
+        "status": status.code(),
+        "version": asked.version
     })
 }
 
