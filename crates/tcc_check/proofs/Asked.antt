@@ -35,14 +35,14 @@ pub all_hold : {R : Type 0} (rules : List (Asked R)) (answer : Verdict R) → an
 all_hold rules verdict.Accepted accepted said = said
 all_hold rules (verdict.Rejected rule at) accepted said = absurd cc
 
--- the same positions of a rule by other words, before one that is broken nowhere
+-- a rule whose positions are told by other words, before one that is broken nowhere
 pub one_as : {R : Type 0} (a b : R) (P P' Q : ℕ × ℕ → Type 0) → ((at : ℕ × ℕ) → P at ↔ P' at) → ((at : ℕ × ℕ) → Q at → ⊥) → (answer : Verdict R)
     → IsVerdictOf (at_each a P ∷ []) answer → IsVerdictOf (at_each a P' ∷ at_each b Q ∷ []) answer
 one_as a b P P' Q p none verdict.Accepted said = (nowhere_as P P' (λ at. (p at).1) said.0, (none, tt))
 one_as a b P P' Q p none (verdict.Rejected rule at) (inl here) = inl (here.0, first_as P P' (λ at. (p at).0) (λ at. (p at).1) at here.1)
 one_as a b P P' Q p none (verdict.Rejected rule at) (inr behind) = absurd behind.1
 
--- the same positions of two rules by other words
+-- two rules whose positions are told by other words
 module _ {R : Type 0} (a b : R) (P Q P' Q' : ℕ × ℕ → Type 0) (p : (at : ℕ × ℕ) → P at ↔ P' at) (q : (at : ℕ × ℕ) → Q at ↔ Q' at) where
   pub two_as : (answer : Verdict R) → IsVerdictOf (at_each a P ∷ at_each b Q ∷ []) answer → IsVerdictOf (at_each a P' ∷ at_each b Q' ∷ []) answer
   two_as verdict.Accepted said = (nowhere_as P P' (λ at. (p at).1) said.0, (nowhere_as Q Q' (λ at. (q at).1) said.1.0, tt))

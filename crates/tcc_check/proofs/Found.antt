@@ -3,7 +3,7 @@ use Rattle.std.proofs.Common.{◌≡◌, ◌<◌, ◌≤◌, ℕ, ◌⊎◌, inl
 use Rattle.std.proofs.lemmas.Bool.{cases_lt}
 use Rattle.tcc_check.specs.private.Searches.{IsFirstBelow, IsFoundBelow, lesser}
 
--- the same in other words
+-- what is found of one relation is found of one that holds of the same numbers
 pub found_as : (n : ℕ) (P Q : ℕ → Type 0) → ((v : ℕ) → P v → Q v) → ((v : ℕ) → Q v → P v) → (found : Option ℕ) → IsFoundBelow n P found → IsFoundBelow n Q found
 found_as n P Q to back None none = λ a l q. none a l (back a q)
 found_as n P Q to back (Some e) w = record { below = w.below; here = to e w.here; first = λ a l q. w.first a l (back a q) }

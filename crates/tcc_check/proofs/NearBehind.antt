@@ -114,7 +114,7 @@ near-all rows n ahead now behind whole near far long is = go old.0 old.1 old.2
     go [] split left = (sym (split ∙ append-nil rows), left)
     go (row ∷ later) split left = absurd (omega (arith, whole, long, ap length split, length-append rows (row ∷ later)))
 
--- the same, where of the rows so far something is known
+-- these rows came, and something is known of them
 pub record AreNearBehind (n : ℕ) (least : ℕ) (P : List (List ℕ) → ℕ → NearRows → Type 0) (i : ℕ) (state : NearRows) (rows : List (List ℕ)) (ahead : Parts)
     (rest : Parts) : Type 0 where
   pub behind : IsNearBehind rows n ahead rest

@@ -71,44 +71,31 @@ fn is_in_clock(graph: &LargeGraph, clocks: &[Numbers], b: u32, c: u32) -> bool
 }
 
 /// Whether `b` stands before `c`, and the clock of `c`, where there are clocks, has that of `b` and `b` itself.
-fn is_kept(
-    graph: &LargeGraph,
-    level: Level,
-    positions: &[u32],
-    clocks: &[Numbers],
-    b: u32,
-    c: u32,
-) -> bool
+fn is_kept(graph: &LargeGraph, claim: &OrderClaim, positions: &[u32], b: u32, c: u32) -> bool
     requires positions { length positions.now ≡ count graph.now }
-    requires clocks { HasClocks level (count graph.now) (length graph.now.sessions) clocks.now }
+    requires sizes { HasOrderSizes graph.now claim.now }
     requires b { b < count graph.now }
     requires c { c < count graph.now }
-    ensures { IsTrue result ↔ IsKept graph.now level positions.now clocks.now b c }
+    ensures { IsTrue result ↔ IsKept graph.now claim.now.level positions.now claim.now.clocks b c }
 {
     if positions[c as usize] <= positions[b as usize] {
         return false;
     }
-    match level {
-        Level::Causal => is_in_clock(graph, clocks, b, c),
+    match claim.level {
+        Level::Causal => is_in_clock(graph, claim.clocks.as_slice(), b, c),
         Level::Atomic => true,
     }
 }
 
 /// Whether all reads-from pairs that end at `c` are kept.
-fn keeps_sources(
-    graph: &LargeGraph,
-    level: Level,
-    positions: &[u32],
-    clocks: &[Numbers],
-    c: u32,
-) -> bool
+fn keeps_sources(graph: &LargeGraph, claim: &OrderClaim, positions: &[u32], c: u32) -> bool
     requires positions { length positions.now ≡ count graph.now }
-    requires clocks { HasClocks level (count graph.now) (length graph.now.sessions) clocks.now }
+    requires sizes { HasOrderSizes graph.now claim.now }
     requires c { c < count graph.now }
-    ensures { IsTrue result ↔ ((b : ℕ) (x : List ℕ) → IsReadsPair graph.now b c x → IsKept graph.now level positions.now clocks.now b c) }
+    ensures { IsTrue result ↔ ((b : ℕ) (x : List ℕ) → IsReadsPair graph.now b c x → IsKept graph.now claim.now.level positions.now claim.now.clocks b c) }
 {
     for (_key, source) in graph.reads_at(c) {
-        if !is_kept(graph, level, positions, clocks, *source, c) {
+        if !is_kept(graph, claim, positions, *source, c) {
             return false;
         }
     }
@@ -117,35 +104,29 @@ fn keeps_sources(
 
 /// Whether all causal pairs that end at `c` are kept, where those that end before it are: of session order it is enough
 /// to ask of the last transaction before `c`.
-fn keeps_pairs_to(
-    graph: &LargeGraph,
-    level: Level,
-    positions: &[u32],
-    clocks: &[Numbers],
-    c: u32,
-) -> bool
+fn keeps_pairs_to(graph: &LargeGraph, claim: &OrderClaim, positions: &[u32], c: u32) -> bool
     requires numbered { IsBySession graph.now.entries }
     requires positions { length positions.now ≡ count graph.now }
-    requires clocks { HasClocks level (count graph.now) (length graph.now.sessions) clocks.now }
+    requires sizes { HasOrderSizes graph.now claim.now }
     requires c { c < count graph.now }
-    requires earlier { (b : ℕ) (end : ℕ) → end < c → IsCausalPair graph.now b end → IsKept graph.now level positions.now clocks.now b end }
-    ensures { IsTrue result ↔ ((b : ℕ) → IsCausalPair graph.now b c → IsKept graph.now level positions.now clocks.now b c) }
+    requires earlier { (b : ℕ) (end : ℕ) → end < c → IsCausalPair graph.now b end → IsKept graph.now claim.now.level positions.now claim.now.clocks b end }
+    ensures { IsTrue result ↔ ((b : ℕ) → IsCausalPair graph.now b c → IsKept graph.now claim.now.level positions.now claim.now.clocks b c) }
 {
-    if 0 < c && !is_kept(graph, level, positions, clocks, graph.previous(c), c) {
+    if 0 < c && !is_kept(graph, claim, positions, graph.previous(c), c) {
         return false;
     }
-    keeps_sources(graph, level, positions, clocks, c)
+    keeps_sources(graph, claim, positions, c)
 }
 
 /// Whether all causal pairs are kept.
-fn keeps_pairs(graph: &LargeGraph, level: Level, positions: &[u32], clocks: &[Numbers]) -> bool
+fn keeps_pairs(graph: &LargeGraph, claim: &OrderClaim, positions: &[u32]) -> bool
     requires numbered { IsBySession graph.now.entries }
     requires positions { length positions.now ≡ count graph.now }
-    requires clocks { HasClocks level (count graph.now) (length graph.now.sessions) clocks.now }
-    ensures { IsTrue result ↔ ((b : ℕ) (c : ℕ) → IsCausalPair graph.now b c → IsKept graph.now level positions.now clocks.now b c) }
+    requires sizes { HasOrderSizes graph.now claim.now }
+    ensures { IsTrue result ↔ ((b : ℕ) (c : ℕ) → IsCausalPair graph.now b c → IsKept graph.now claim.now.level positions.now claim.now.clocks b c) }
 {
     for c in 0..graph.count() {
-        if !keeps_pairs_to(graph, level, positions, clocks, c) {
+        if !keeps_pairs_to(graph, claim, positions, c) {
             return false;
         }
     }
@@ -286,7 +267,7 @@ fn kept_positions(
     let Some(positions) = positions_of(alloc, claim.order.as_slice())? else {
         return Ok(None);
     };
-    if !keeps_pairs(graph, claim.level, &positions, claim.clocks.as_slice()) {
+    if !keeps_pairs(graph, claim, &positions) {
         return Ok(None);
     }
     Ok(Some(positions))

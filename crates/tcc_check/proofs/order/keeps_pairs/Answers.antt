@@ -11,7 +11,7 @@ returns-then-not-keeps_pairs_to c =
 
 pub loop-c-preserved : goal.loop-c-preserved
 loop-c-preserved c = λ b.
-    below_more (λ end. IsCausalPair c.args.graph.now b end → IsKept c.args.graph.now c.args.level c.args.positions.now c.args.clocks.now b end) c.loop-c.c
+    below_more (λ end. IsCausalPair c.args.graph.now b end → IsKept c.args.graph.now c.args.claim.now.level c.args.positions.now c.args.claim.now.clocks b end) c.loop-c.c
     (c.loop-c.invariant b)
     (c.keeps_pairs_to.ensures.0 c.if-not-keeps_pairs_to.false b)
 

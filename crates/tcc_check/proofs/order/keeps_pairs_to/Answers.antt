@@ -11,7 +11,7 @@ returns c =
           let sources = c.keeps_sources.ensures.0 t in
           elim c.else-c-gt0.branch [
             | else-c-gt0-via-then-c-gt0+else-not-is_kept w ↦
-                kept_by_previous h c.args.level c.args.positions.now c.args.clocks.now c.requires.clocks c.args.c w.previous.result w.previous.ensures.last
+                kept_by_previous h c.args.claim.now.level c.args.positions.now c.args.claim.now.clocks c.requires.sizes.clocks c.args.c w.previous.result w.previous.ensures.last
                 (λ b p. c.requires.earlier b w.previous.result w.previous.ensures.before p) (w.is_kept.ensures.0 w.if-not-is_kept.false) sources
             | else-c-gt0-via-else-c-gt0 w ↦
                 (λ b p. elim p [

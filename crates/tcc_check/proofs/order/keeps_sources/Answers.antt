@@ -21,12 +21,12 @@ returns-then-not-is_kept c =
 
 pub loop-key-preserved : goal.loop-key-preserved
 loop-key-preserved c =
-    next_more (λ (r : ℕ × ℕ). IsKept c.args.graph.now c.args.level c.args.positions.now c.args.clocks.now r.1 c.args.c) c.reads_at-key-items.result.now
+    next_more (λ (r : ℕ × ℕ). IsKept c.args.graph.now c.args.claim.now.level c.args.positions.now c.args.claim.now.clocks r.1 c.args.c) c.reads_at-key-items.result.now
     c.loop-key._key-index (0, 0) c.loop-key-test.true c.loop-key.invariant (c.is_kept.ensures.0 c.if-not-is_kept.false)
 
 pub returns : goal.returns
 returns c =
     let all =
-    by_keys c.args.graph.now c.args.c (λ x b. IsKept c.args.graph.now c.args.level c.args.positions.now c.args.clocks.now b c.args.c)
+    by_keys c.args.graph.now c.args.c (λ x b. IsKept c.args.graph.now c.args.claim.now.level c.args.positions.now c.args.claim.now.clocks b c.args.c)
     c.reads_at-key-items.result.now c.reads_at-key-items.ensures.value (λ k d l. c.loop-key.invariant k d (omega (arith, l, c.loop-key-test.false))) in
     (λ e b x p. all x b p, λ every. refl)

@@ -9,7 +9,7 @@ returns-then-not-keeps_pairs c =
     let k = c.args.claim.now in
     let are : ArePositions k.order c.deref.result.now = rw (c.deref.ensures.value, ← c.as_slice.ensures) (rw c.in-Some.is at c.in_ok-positions.ensures) in
     λ kept. iff_false c.keeps_pairs.ensures c.if-not-keeps_pairs.true
-    (rw c.as_slice-2.ensures (kept_pairs c.args.graph.now k c.deref.result.now are c.requires.sizes.order kept))
+    (kept_pairs c.args.graph.now k c.deref.result.now are c.requires.sizes.order kept)
 
 pub returns : goal.returns
 returns c =
@@ -18,5 +18,5 @@ returns c =
     let are : ArePositions k.order c.deref.result.now = rw c.deref.ensures.value positions in (
       positions,
       pairs_kept c.args.graph.now k c.deref.result.now are c.requires.sizes.order
-          (rw (← c.as_slice-2.ensures) (c.keeps_pairs.ensures.0 c.if-not-keeps_pairs.false)),
+          (c.keeps_pairs.ensures.0 c.if-not-keeps_pairs.false),
     )
