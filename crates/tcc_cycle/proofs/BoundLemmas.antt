@@ -105,7 +105,7 @@ module _ (j : Judged) (s : ℕ) where
       let others : cost links ≤ length links * MAX_LINK_COST = links_cost few (done ++ l ∷ []) links (rw append_assoc least) in
       omega (arith, cost_cons l links, one, others, few)
 
-  -- and none takes a longer walk than over all transactions once
+  -- none of the links takes a longer walk than over all transactions once
   pub walks_few : (done links : List Link) → IsLeastCycle j s (done ++ links) → All (λ l. length (link_walk l) ≤ count j.history) links
   walks_few done [] least = All-nil (λ (l : Link). length (link_walk l) ≤ count j.history)
   walks_few done (l ∷ links) least =

@@ -10,7 +10,7 @@ use Rattle.tcc_graph.specs.declared.link.Link.{Link}
 pub same_cost : (j : Judged) (s t : ℕ) (links others : List Link) → IsLeastCycle j s links → IsLeastCycle j t others → cost links ≡ cost others
 same_cost j s t links others p q = omega (arith, p.least t others q.cycle, q.least s links p.cycle)
 
--- from the other end
+-- a list from the other end
 pub turned : {X : Type 0} (done : List X) (x : X) (rest : List X) → reverse (done ++ x ∷ rest) ≡ reverse rest ++ x ∷ reverse done
 turned done x rest =
     reverse-append done (x ∷ rest) ∙ ap (λ zs. zs ++ reverse done) (reverse-append (x ∷ []) rest) ∙ append_assoc (reverse rest) (x ∷ []) (reverse done)

@@ -75,7 +75,7 @@ module _ (j : Judged) (placed : IsPlaced j.history MAX_SESSIONS) where
         let single : cost (link.Session (link_from one) (link_from other) ∷ []) ≡ 1 = one_cost (link.Session (link_from one) (link_from other)) in
         (no_links middle (omega (arith, part, single, cost_cons one middle, some_cost one)), omega (arith, part, single, cost_cons one middle, some_cost one))
 
-    -- and the other does not go on in that session
+    -- where the one link begins before the other in their session, not both stay in it, or neither
     ends_there : IsSessionPair j.history (link_from one) (link_from other) → 0 < link_from one
         → session_pair j.history (link_from one) (link_to one) ≡ session_pair j.history (link_from other) (link_to other) → ⊥
     ends_there pair some alike =

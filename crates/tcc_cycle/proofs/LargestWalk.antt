@@ -55,7 +55,7 @@ module _ (j : Judged) (placed : IsPlaced j.history MAX_SESSIONS) where
   leads_some a b [] some leads = omega arith
   leads_some a b (s ∷ walk) some leads = leads_some (step_to s) b walk (step_some s leads.1) leads.2
 
-  -- the session of its start, and whether it is followed there
+  -- the session of a step's start, and whether the step stays in it
   step_number : Step → ℕ
   step_number s = owner j.history (step_from s) + cond (session_pair j.history (step_from s) (step_to s)) MAX_SESSIONS 0
 
@@ -170,7 +170,7 @@ module _ (j : Judged) (placed : IsPlaced j.history MAX_SESSIONS) where
           go (inl pair) = forward pair
           go (inr pair) = back pair
 
-    -- it has two steps for each session at most
+    -- the walk has two steps for each session at most
     pub walk_short : length walk ≤ 2 * MAX_SESSIONS
     walk_short = from (cases_eq b 0)
       where

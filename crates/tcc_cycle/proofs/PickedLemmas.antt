@@ -100,7 +100,7 @@ first_from_picked j s links is = record { least = is.least; first = λ t others 
     go t others other (inr (inl lower)) = rw (lt-ltb s t lower) (λ e. cc)
     go t others other (inr (inr higher)) = absurd (omega (arith, is.lowest t others other))
 
--- ---- there is one
+-- ---- there is one first cycle
 
 pub one_first : (j : Judged) (s t : ℕ) (links others : List Link) → IsFirstCycle j s links → IsFirstCycle j t others → (s ≡ t) × (links ≡ others)
 one_first j s t links others p q =

@@ -37,6 +37,6 @@ module _ (j : Judged) (s : ℕ) (lowest : (t : ℕ) (others : List Link) → IsL
       let (m, before, on) = lead_split j s s front (l ∷ rest) is.cycle.1 in
       omega (arith, lead_end j s m v front before lead, on.0, begins_above front l rest is)
 
-  -- their first links lead over numbers from s upward
+  -- the first links of a least cycle from s lead over numbers from s upward
   pub first_links : (v : ℕ) (front rest : List Link) → IsLeastCycle j s (front ++ rest) → LinksLead j s v front → All (IsUpward s) front
   first_links v front rest is lead = ends_upward j s s v front lead (end_above v front rest is lead) (begin_from [] front rest is)

@@ -18,7 +18,7 @@ use Rattle.tcc_derive.specs.Prices.{Tables, IsLinkOf, IsLeastAmong, IsCost, IsPr
 use Rattle.tcc_core.specs.Shares.{IsCappedDistance}
 use Rattle.tcc_cycle.specs.Returns.{IsFirstReturn, come_to}
 use Rattle.tcc_cycle.specs.private.Ways.{spent, IsBefore, IsFirstLink}
-use Rattle.tcc_cycle.specs.declared.returning.FirstReturn.{FirstReturn}
+use Rattle.tcc_cycle.specs.declared.first_return.FirstReturn.{FirstReturn}
 use Rattle.tcc_cycle.proofs.Backwards.{Picks, Picks-push, Picks-at}
 use Rattle.tcc_cycle.proofs.CycleLemmas.{turned}
 use Rattle.tcc_cycle.proofs.UpwardLemmas.{begins_above, first_links}
@@ -105,7 +105,7 @@ module _ {j : Judged} {t : Tables} {r : FirstReturn} (priced : IsPricesOf j t) (
           let (m, lead, on) = lead_split j r.start r.start front (o ∷ reverse picked) ends.cycle.1 in
           record { from = refl; to = lead_start j (link_to o) end r.start (reverse picked) on.2 way.back; link = on.1 }
 
-      -- and its start is not below that of the search
+      -- the start of the link is not below that of the search
       above_there : r.start ≤ link_from o
       above_there = begins_above j r.start lowest_start front o (reverse picked) ends
 

@@ -67,7 +67,7 @@ capped_table n columns cap table size low = λ a d l. λ c e k.
     let most : entry table a c ≤ cap = low a c (omega (arith, size.long)) (omega arith) in
     omega arith
 
--- the same of rows from their number upward
+-- a table of rows from their number upward, whose entries are at most the cap
 capped_far : (n cap : ℕ) (far : List (List ℕ)) → HasFarSize Two n far → ((s v : ℕ) → s ≤ v → v < n → far_entry Two far s v ≤ cap) → IsCapped cap far
 capped_far n cap far size low = λ s r l. λ k e m.
     let wide : length (row_of far s) ≡ n - s = size.wide s (omega (arith, size.long)) in

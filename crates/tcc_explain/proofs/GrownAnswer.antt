@@ -14,7 +14,7 @@ use Rattle.tcc_graph.specs.Renumbered.{link_by}
 use Rattle.tcc_growth.proofs.Keeping.{keeps_anomalies, costs_no_more, none_missing}
 use Rattle.tcc_explain.specs.Explained.{IsAnswerOfHistory}
 use Rattle.tcc_explain.specs.Next.{IsAnomalyOf, IsNextRefusal}
-use Rattle.tcc_explain.specs.declared.refusal.NextFault.TheVariants as refusal
+use Rattle.tcc_explain.specs.declared.fault.NextFault.TheVariants as refusal
 use Rattle.tcc_graph.specs.Levels.{judged}
 
 module _ (small large : Sessions) (level : Level) (a : LabelledCycle) (grows : Grows small large) where

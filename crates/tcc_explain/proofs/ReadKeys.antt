@@ -69,7 +69,7 @@ filter_map_named stand before (op ∷ after) named =
     go None here others = others
     go (Some read) here others = All-cons IsNamedRead read rest here others
 
--- the same items, sorted and each once
+-- a fact of all items, of the items sorted and each once
 once : {K : Type 0} (cmp : K → K → Ordering) (P : K → Type 0) (xs : List K) → All P xs → All P (sorted_once cmp xs)
 once cmp P [] all = All-nil P
 once cmp P (x ∷ xs) all = All-insert_key cmp x P (sorted_once cmp xs) (once cmp P xs (All-tail P x xs all)) (All-head P x xs all)

@@ -51,7 +51,7 @@ ItemNames (item.Finished session txn) = NamesKeys txn
 ItemNames item.Seal = Unit {0}
 ItemNames item.End = Unit {0}
 
--- and what it finishes after others
+-- the operations of a line have names for keys, and so has what it finishes after others
 abbrev IsSound : Line → Type 0
 IsSound l =
     LineNames l × ((past : List Line) → All LineNames past → (rest : Answers) → All ItemNames rest.items

@@ -164,7 +164,7 @@ module _ (s : Sessions) (limits : KeepsLimits s) where
   written named level (answer.Anomaly a) ((start, first), at, labels, near, far) =
       rw at (cycle_text named level start a.links a.near a.far first.least near far)
 
-  -- and the text is read as it
+  -- the text of the answer's certificate is read as this certificate
   pub read_back : HasNames s → (level : Level) (a : Answer) → IsAnswerOfHistory (judged (history s) level) a
       → certificate_read (certificate_text (certificate_of a)) ≡ Ok (certificate_of a)
   read_back named level a is = text-back (certificate_of a) (written named level a is)

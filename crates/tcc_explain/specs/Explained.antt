@@ -11,8 +11,8 @@ use Rattle.tcc_answer.specs.Labels.{labels_of}
 use Rattle.tcc_explain.specs.Certificates.{IsNearTable, IsFarTable, IsClocksAt}
 use Rattle.tcc_answer.specs.declared.answer.Answer.{Answer}
 use Rattle.tcc_answer.specs.declared.answer.Answer.TheVariants as answer
-use Rattle.tcc_explain.specs.declared.refusal.ExplainFault.{ExplainFault}
-use Rattle.tcc_explain.specs.declared.refusal.ExplainFault.TheVariants as refusal
+use Rattle.tcc_explain.specs.declared.fault.ExplainFault.{ExplainFault}
+use Rattle.tcc_explain.specs.declared.fault.ExplainFault.TheVariants as refusal
 
 -- the first answer for the history at the level, with its labels: without a cycle the first commit order, with the
 -- clocks; else the first least cycle, with the distances, each capped at what the cycle costs

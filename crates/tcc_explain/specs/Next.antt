@@ -14,9 +14,9 @@ use Rattle.tcc_growth.specs.Growth.{IsFirstMissing}
 use Rattle.tcc_growth.specs.Moved.{moved}
 use Rattle.tcc_graph.specs.Renumbered.{link_by}
 use Rattle.tcc_explain.specs.Explained.{IsAnswerOfSnapshot, IsRefusal}
-use Rattle.tcc_explain.specs.declared.refusal.ExplainFault.TheVariants as whole
-use Rattle.tcc_explain.specs.declared.refusal.NextFault.{NextFault}
-use Rattle.tcc_explain.specs.declared.refusal.NextFault.TheVariants as refusal
+use Rattle.tcc_explain.specs.declared.fault.ExplainFault.TheVariants as whole
+use Rattle.tcc_explain.specs.declared.fault.NextFault.{NextFault}
+use Rattle.tcc_explain.specs.declared.fault.NextFault.TheVariants as refusal
 
 -- the links of an earlier cycle, each transaction by its label, in the numbers of a snapshot's history
 abbrev pub links_in : LabelledCycle → Sessions → List Link

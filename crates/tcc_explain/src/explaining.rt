@@ -1,9 +1,7 @@
 //! The answer for a snapshot.
 ghost use Rattle.std.specs.Prelude.{◌≡◌, IfOk, MatchResult};
-ghost use Rattle.tcc_graph.specs.Links.{cost};
 ghost use Rattle.tcc_graph.specs.Orders.{IsFirstOrder};
 ghost use Rattle.tcc_graph.specs.Routes.{HasCycle};
-ghost use Rattle.tcc_graph.specs.Ties.{IsFirstCycle};
 ghost use Rattle.tcc_near.specs.WalkLengths.{IsNearOf};
 ghost use Rattle.tcc_derive.specs.Prices.{IsPricesOf};
 ghost use Rattle.tcc_answer.specs.Labels.{labels_of};
@@ -12,9 +10,9 @@ ghost use Rattle.tcc_explain.specs.Explained.{IsAnswerOfSnapshot, IsAnswerOfHist
 ghost use Rattle.tcc_explain.specs.private.Stages.{IsLabelledHistory, IsSearched};
 ghost use Rattle.tcc_graph.specs.Levels.{Judged, judged};
 
-use crate::offering::{lesser, offered};
-use crate::refusal::ExplainFault;
+use crate::fault::ExplainFault;
 use crate::tables::{clocks_at, far_rows, near_rows};
+use crate::warm_start::{lesser, offered};
 use std::alloc::Global;
 use std::thread::Threads;
 use tcc_answer::{Anomaly, Answer, Commit, Labels};
@@ -72,29 +70,6 @@ fn search_all<G: Gate>(
     })
 }
 
-/// The links of the first of the least cycles.
-fn first_links(
-    alloc: Global,
-    graph: &Graph,
-    near: &Near,
-    prices: &Prices,
-    searched: &Searched,
-) -> Result<Vec<Link>, NoMemory>
-    requires near { IsNearOf (judged graph.now near.now.level) near.now }
-    requires prices { IsPricesOf (judged graph.now near.now.level) prices.now }
-    requires searched { IsSearched (judged graph.now near.now.level) searched.now }
-    ensures first { IfOk result (λ links. IsFirstCycle (judged graph.now near.now.level) searched.now.start links.items) }
-    ensures cost { IfOk result (λ links. cost links.items ≡ searched.now.cost) }
-{
-    let row = searched.rows[searched.start as usize].unpacked(alloc)?;
-    let back = FirstReturn {
-        start: searched.start,
-        cost: searched.cost,
-        row: &row,
-    };
-    first_cycle(alloc, graph, near, prices, &back)
-}
-
 /// The first of the least cycles with its tables. These are the rows of the distances and of the searches, as they lie.
 fn anomaly<G: Gate>(
     rt: &(impl Threads + Sync),
@@ -114,11 +89,17 @@ fn anomaly<G: Gate>(
     ensures { IfOk result (λ anomaly. IsAnswerOfHistory (judged graph.now near.level) (answer.Anomaly anomaly)) }
 {
     let searched = search_all(rt, alloc, &near, &prices, earlier, workers, gate)?;
-    let links = first_links(alloc, graph, &near, &prices, &searched)?;
+    let row = searched.rows[searched.start as usize].unpacked(alloc)?;
+    let back = FirstReturn {
+        start: searched.start,
+        cost: searched.cost,
+        row: &row,
+    };
+    let links = first_cycle(alloc, graph, &near, &prices, &back)?;
     drop(prices);
     let level = near.level();
     let cost = searched.cost;
-    let far = far_rows(graph, level, searched.rows, cost);
+    let far = far_rows(graph, searched.rows, cost);
     let distances = near_rows(alloc, graph, near, cost)?;
     Ok(Anomaly::new(level, Links::new(links), cost, distances, far, labels))
 }

@@ -28,7 +28,7 @@ ghost use Rattle.tcc_explain.specs.Certificates.{IsNearTable, IsFarTable, IsCloc
 ghost use Rattle.tcc_explain.specs.Explained.{IsAnswerOfHistory};
 ghost use Rattle.tcc_explain.specs.Keys.{HasNames};
 ghost use Rattle.tcc_explain.specs.Next.{IsAnomalyOf, IsNextRefusal};
-ghost use Rattle.tcc_explain.specs.declared.refusal.NextFault.TheVariants as refusal;
+ghost use Rattle.tcc_explain.specs.declared.fault.NextFault.TheVariants as refusal;
 
 /// A least cycle with the distances, capped at what it costs, is certified; so is a commit order with the clocks of the
 /// level, where transactions are numbered as in each snapshot's history.

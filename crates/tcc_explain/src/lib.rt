@@ -2,15 +2,15 @@
 #![tactic(auto)]
 
 mod explaining;
+mod fault;
+mod incremental;
 pub mod laws;
-mod next;
-mod offering;
-mod refusal;
 mod tables;
+mod warm_start;
 
 pub use explaining::explain;
-pub use next::explain_next;
-pub use refusal::{ExplainFault, NextFault};
+pub use fault::{ExplainFault, NextFault};
+pub use incremental::explain_next;
 pub use tcc_answer::{Anomaly, Answer, Commit, Shape};
 pub use tcc_steal::{Gate, OpenGate};
 pub use tcc_workers::Workers;

@@ -6,6 +6,7 @@ ghost use Rattle.tcc_bits.specs.Packed.{value_in};
 ghost use Rattle.tcc_explain.specs.Certificates.{IsNearTable, IsFarTable, IsClocksAt};
 ghost use Rattle.tcc_explain.specs.private.Capping.{AreFarRows};
 ghost use Rattle.tcc_graph.specs.Levels.{judged};
+ghost use Rattle.tcc_graph.specs.declared.level.Level.{Level};
 
 use std::alloc::Global;
 use tcc_answer::CappedRows;
@@ -43,9 +44,9 @@ pub(crate) fn near_rows(
 }
 
 /// The least costs of routes over numbers from their start upward, capped, by rows that are capped there.
-pub(crate) fn far_rows(graph: &Graph, _level: Level, rows: Vec<PackedRow>, cap: u32) -> CappedRows
-    requires { AreFarRows (judged graph.now _level) cap rows.items }
-    ensures { IsFarTable (judged graph.now _level) cap result }
+pub(crate) fn far_rows(graph: &Graph, rows: Vec<PackedRow>, cap: u32) -> CappedRows
+    requires { (level : Level) × AreFarRows (judged graph.now level) cap rows.items }
+    ensures { (level : Level) → AreFarRows (judged graph.now level) cap rows.items → IsFarTable (judged graph.now level) cap result }
 {
     let _count = graph.count();
     CappedRows::new(rows, cap)

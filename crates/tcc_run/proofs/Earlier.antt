@@ -11,7 +11,7 @@ use Rattle.tcc_answer.specs.declared.answer.Answer.{Answer}
 use Rattle.tcc_answer.specs.declared.answer.Answer.TheVariants as answer
 use Rattle.tcc_explain.specs.Explained.{IsAnswerOfSnapshot, IsAnswerOfHistory}
 use Rattle.tcc_explain.specs.Next.{IsAnomalyOf, IsNextRefusal}
-use Rattle.tcc_explain.specs.declared.refusal.NextFault.TheVariants as refusal
+use Rattle.tcc_explain.specs.declared.fault.NextFault.TheVariants as refusal
 use Rattle.tcc_graph.specs.Levels.{judged}
 use Rattle.tcc_reads.specs.Sources.{history}
 use Rattle.tcc_run.specs.Headline.{IsExplained}

@@ -7,14 +7,14 @@ use Rattle.tcc_reads.specs.Sources.{history}
 use Rattle.tcc_graph.specs.Levels.{Judged}
 use Rattle.tcc_graph.specs.Tables.{row_of}
 use Rattle.tcc_cycle.specs.Returns.{IsFirstReturn}
-use Rattle.tcc_cycle.specs.declared.returning.FirstReturn.{FirstReturn}
+use Rattle.tcc_cycle.specs.declared.first_return.FirstReturn.{FirstReturn}
 use Rattle.tcc_answer.specs.Labels.{labels_of}
 use Rattle.tcc_explain.specs.private.Capping.{AreFarRows}
 use Rattle.tcc_explain.specs.declared.explaining.Searched.{Searched}
-use Rattle.tcc_explain.specs.declared.refusal.ExplainFault.{ExplainFault}
-use Rattle.tcc_explain.specs.declared.refusal.ExplainFault.TheVariants as whole
-use Rattle.tcc_explain.specs.declared.refusal.NextFault.{NextFault}
-use Rattle.tcc_explain.specs.declared.refusal.NextFault.TheVariants as refusal
+use Rattle.tcc_explain.specs.declared.fault.ExplainFault.{ExplainFault}
+use Rattle.tcc_explain.specs.declared.fault.ExplainFault.TheVariants as whole
+use Rattle.tcc_explain.specs.declared.fault.NextFault.{NextFault}
+use Rattle.tcc_explain.specs.declared.fault.NextFault.TheVariants as refusal
 
 -- the history of a snapshot, where all its reads have sources, and its labels
 abbrev pub IsLabelledHistory : Sessions → History → List (List ℕ) → Type 0

@@ -1,6 +1,6 @@
 -- the way so far, and that of a cycle no more is spent than it costs
 use Rattle.tcc_explain.proofs.OfferLemmas.{HasWay, IsAlong}
-use Rattle.tcc_explain.proofs.offering.offered.Given as goal
+use Rattle.tcc_explain.proofs.warm_start.offered.Given as goal
 
 abbrev pub invariant-loop-link : goal.invariant-loop-link
 invariant-loop-link l = record {

@@ -1,4 +1,5 @@
-//! What a search may begin with: what an earlier cycle costs now.
+//! Warm start: what a search may begin with is what an earlier cycle costs now, an upper bound on what a least one costs. Behind each
+//! link the total is what the cheapest links cost so far along the way. L links take L look-ups of a cost.
 ghost use Rattle.std.specs.Prelude.{◌≡◌, ◌<◌, ◌^◌, ◌⊎◌, ℕ, IfSome};
 ghost use Rattle.tcc_graph.specs.Levels.{Judged};
 ghost use Rattle.tcc_graph.specs.Links.{link_cost, cost};

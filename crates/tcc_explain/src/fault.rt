@@ -1,7 +1,7 @@
 //! Why a snapshot has no answer.
 ghost use Rattle.std.specs.Prelude.{◌≡◌};
-ghost use Rattle.tcc_explain.specs.declared.refusal.ExplainFault.TheVariants as refusal;
-ghost use Rattle.tcc_explain.specs.declared.refusal.NextFault.TheVariants as next;
+ghost use Rattle.tcc_explain.specs.declared.fault.ExplainFault.TheVariants as refusal;
+ghost use Rattle.tcc_explain.specs.declared.fault.NextFault.TheVariants as next;
 ghost use Rattle.tcc_explain.specs.private.Stages.{next_fault};
 
 use tcc_reads::ReadFault;

@@ -1,9 +1,9 @@
-//! The answer for a snapshot that may continue one that had an anomaly.
+//! The answer for a snapshot that may continue one that had an anomaly, found from that anomaly on (`warm_start`).
 ghost use Rattle.std.specs.Prelude.{MatchResult};
 ghost use Rattle.tcc_explain.specs.Next.{IsNextAnswer, IsNextRefusal};
 
 use crate::explaining::{history_answer, labelled_history};
-use crate::refusal::NextFault;
+use crate::fault::NextFault;
 use std::alloc::Global;
 use std::thread::Threads;
 use tcc_answer::{Anomaly, Answer};

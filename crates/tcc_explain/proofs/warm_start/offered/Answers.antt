@@ -1,6 +1,6 @@
 use Rattle.std.proofs.Common.{arith}
 use Rattle.tcc_explain.proofs.OfferLemmas.{further, along_next, within_all}
-use Rattle.tcc_explain.proofs.offering.offered.Goals as goal
+use Rattle.tcc_explain.proofs.warm_start.offered.Goals as goal
 
 pub loop-link-preserved : goal.loop-link-preserved
 loop-link-preserved c = record {

@@ -1,4 +1,6 @@
-//! The links of the first least cycle, picked from the last backwards.
+//! Path reconstruction from a row of distances (Dijkstra, A note on two problems in connexion with graphs, Numerische Mathematik 1,
+//! 1959): the links of the first least cycle, picked from the last backwards. What was picked is the end of the first least cycle, and
+//! what is left is the distance to where it begins. L links among N transactions take L N looks at a distance and at a cost.
 ghost use Rattle.std.specs.Prelude.{◌≡◌, ◌<◌, ◌≤◌, ◌-◌, ℕ, length, IfOk, MatchOption};
 ghost use Rattle.tcc_reads.specs.History.{count};
 ghost use Rattle.tcc_graph.specs.Links.{cost};

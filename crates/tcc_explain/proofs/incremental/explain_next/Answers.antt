@@ -1,5 +1,5 @@
 use Rattle.tcc_explain.proofs.NextLemmas.{answer_here, missing_here, links_here}
-use Rattle.tcc_explain.proofs.next.explain_next.Goals as goal
+use Rattle.tcc_explain.proofs.incremental.explain_next.Goals as goal
 
 pub returns-in-Some : goal.returns-in-Some
 returns-in-Some g c = (
