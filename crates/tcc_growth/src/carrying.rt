@@ -25,10 +25,10 @@ pub fn carried(
     requires { later.now ≡ labels_of graph.now }
     ensures { IfOk result (λ found. found.items ≡ map (link_by (moved earlier.now later.now)) links.now) }
 {
-    let _count = graph.count();
     let numbers = ByLabel {
         earlier: earlier.names(),
         later: later.names(),
+        count: graph.count(),
     };
     let mut found = Vec::new(alloc);
     for link in links {
