@@ -8,26 +8,26 @@ use tcc_txn::NoMemory;
 /// What a search backwards has met, and where each transaction leads on to. It serves for many searches, of which each has a
 /// turn of its own.
 #[derive(Drop)]
-pub(crate) struct Backwards {
+pub(crate) struct Backwards<'a> {
     turn: u32,
     met: Cells,
     next: Cells,
-    covering: Covering,
+    covering: Covering<'a>,
     queue: Vec<u32>,
     head: usize,
     level_end: usize,
     depth: usize,
 }
 
-impl Backwards {
+impl<'a> Backwards<'a> {
     /// Before the first search.
-    pub(crate) fn new(alloc: Global, pairs: &Pairs<'_>) -> Result<Backwards, NoMemory> {
+    pub(crate) fn new(alloc: Global, pairs: &'a Pairs<'a>) -> Result<Backwards<'a>, NoMemory> {
         let count = pairs.count() as usize;
         Ok(Backwards {
             turn: 0,
             met: Cells::new(alloc, count, 0)?,
             next: Cells::new(alloc, count, 0)?,
-            covering: Covering::new(alloc, pairs.session_count())?,
+            covering: Covering::new(alloc, pairs)?,
             queue: Vec::new(alloc),
             head: 0,
             level_end: 0,
@@ -82,7 +82,7 @@ impl Backwards {
     }
 
     /// From which number on those before this one in its session weren't taken in yet; from now on they are.
-    pub(crate) fn cover(&mut self, pairs: &Pairs<'_>, number: u32) -> u32 {
-        self.covering.take(pairs, number, self.turn)
+    pub(crate) fn cover(&mut self, number: u32) -> u32 {
+        self.covering.take(number, self.turn)
     }
 }

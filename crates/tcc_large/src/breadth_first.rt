@@ -8,13 +8,13 @@ use tcc_txn::NoMemory;
 
 /// Searches backwards among transactions that are marked.
 #[derive(Drop)]
-pub(crate) struct BreadthFirst {
-    backwards: Backwards,
+pub(crate) struct BreadthFirst<'a> {
+    backwards: Backwards<'a>,
 }
 
-impl BreadthFirst {
+impl<'a> BreadthFirst<'a> {
     /// Before the first search.
-    pub(crate) fn new(alloc: Global, pairs: &Pairs<'_>) -> Result<BreadthFirst, NoMemory> {
+    pub(crate) fn new(alloc: Global, pairs: &'a Pairs<'a>) -> Result<BreadthFirst<'a>, NoMemory> {
         let backwards = Backwards::new(alloc, pairs)?;
         Ok(BreadthFirst { backwards })
     }
@@ -58,7 +58,7 @@ impl BreadthFirst {
     fn look(&mut self, work: &mut Work, among: &Trimmed<'_>, number: u32) -> Result<(), Halt> {
         let links = among.relation().links_into(number);
         let reads = among.pairs().reads(number);
-        let low = self.backwards.cover(among.pairs(), number);
+        let low = self.backwards.cover(number);
         work.take(links.len())?;
         work.take(reads.len())?;
         work.take(number.saturating_sub(low) as usize)?;

@@ -7,11 +7,12 @@ use crate::closings::{between, closings};
 use crate::linking::Linker;
 use crate::pairs::{Pair, Pairs, span};
 use crate::relation::Relation;
+use crate::retracing::StuckOrder;
 use crate::trimming::Trimmed;
 use crate::work::{Halt, Work, unless_spent};
 use std::alloc::{AllocError, Global};
 use tcc_bits::Row;
-use tcc_graph::{LargeGraph, Level, Link};
+use tcc_graph::{Level, Link};
 use tcc_order::Stuck;
 use tcc_txn::NoMemory;
 
@@ -60,8 +61,8 @@ impl Cheapest {
 #[derive(Drop)]
 struct Finder<'a> {
     pairs: &'a Pairs<'a>,
-    linker: Linker,
-    breadth_first: BreadthFirst,
+    linker: Linker<'a>,
+    breadth_first: BreadthFirst<'a>,
     work: Work,
     cheapest: Cheapest,
 }
@@ -135,9 +136,7 @@ impl<'a> Finder<'a> {
     /// The links along transactions that stand in a circle.
     fn along(&mut self, alloc: Global, circle: &[u32]) -> Result<(), Halt> {
         let below = self.cheapest.below;
-        let links = self
-            .linker
-            .links(alloc, &mut self.work, self.pairs, circle, below)?;
+        let links = self.linker.links(alloc, &mut self.work, circle, below)?;
         if let Some(links) = links {
             self.cheapest.offer(links);
         }
@@ -172,7 +171,7 @@ impl<'a> Finder<'a> {
         let work = &mut self.work;
         let back = self
             .linker
-            .derived(alloc, work, self.pairs, wanted, source, &readers, most)?;
+            .derived(alloc, work, wanted, source, &readers, most)?;
         if let Some(back) = back {
             self.offer_back(alloc, source, back)?;
         }
@@ -305,7 +304,7 @@ impl<'a> Finder<'a> {
             .saturating_sub(1);
         let past = (before.from(), behind.to());
         let work = &mut self.work;
-        let link = self.linker.link(alloc, work, self.pairs, past, most)?;
+        let link = self.linker.link(alloc, work, past, most)?;
         if link.is_none() {
             return Ok(false);
         }
@@ -384,12 +383,10 @@ impl<'a> Finder<'a> {
 /// through `init`, of a pair and a link, and of shortest ones, by links, through some that lead back in an order of all pairs.
 pub(crate) fn found_cycle(
     alloc: Global,
-    graph: &LargeGraph,
-    level: Level,
-    stuck: &Stuck,
+    at: StuckOrder<'_>,
 ) -> Result<Option<Vec<Link>>, NoMemory> {
-    let pairs = Pairs::of(alloc, graph)?;
-    let mut finder = Finder::new(alloc, &pairs, level)?;
-    finder.find(alloc, level, stuck)?;
+    let pairs = Pairs::of(alloc, at.graph)?;
+    let mut finder = Finder::new(alloc, &pairs, at.level)?;
+    finder.find(alloc, at.level, at.stuck)?;
     Ok(finder.cheapest.links.take())
 }

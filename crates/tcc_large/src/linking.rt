@@ -8,9 +8,10 @@ use tcc_txn::{Name, NoMemory};
 
 /// Finds the link between two transactions.
 #[derive(Drop)]
-pub(crate) struct Linker {
+pub(crate) struct Linker<'a> {
+    pairs: &'a Pairs<'a>,
     longest: usize,
-    walking: Walking,
+    walking: Walking<'a>,
 }
 
 /// The number behind an index of a circle.
@@ -98,15 +99,23 @@ fn derived_by(pairs: &Pairs<'_>, walk: Walk, to: u32, readers: &[(u32, u32)]) ->
     })
 }
 
-impl Linker {
+impl<'a> Linker<'a> {
     /// For a history at a level.
-    pub(crate) fn new(alloc: Global, pairs: &Pairs<'_>, level: Level) -> Result<Linker, NoMemory> {
+    pub(crate) fn new(
+        alloc: Global,
+        pairs: &'a Pairs<'a>,
+        level: Level,
+    ) -> Result<Linker<'a>, NoMemory> {
         let longest = match level {
             Level::Atomic => 1,
             Level::Causal => usize::MAX,
         };
         let walking = Walking::new(alloc, pairs)?;
-        Ok(Linker { longest, walking })
+        Ok(Linker {
+            pairs,
+            longest,
+            walking,
+        })
     }
 
     /// A derived link to a transaction from one of these writers of what the readers read from it, by a shortest walk; none where it
@@ -115,7 +124,6 @@ impl Linker {
         &mut self,
         alloc: Global,
         work: &mut Work,
-        pairs: &Pairs<'_>,
         wanted: &[u32],
         to: u32,
         readers: &[(u32, u32)],
@@ -126,9 +134,9 @@ impl Linker {
             ends.push(*reader)?;
         }
         let most = most.saturating_sub(1).min(self.longest);
-        let steps = self.walking.walk(alloc, work, pairs, wanted, &ends, most)?;
+        let steps = self.walking.walk(alloc, work, wanted, &ends, most)?;
         match steps {
-            Some(steps) => Ok(derived_by(pairs, Walk::new(steps), to, readers)),
+            Some(steps) => Ok(derived_by(self.pairs, Walk::new(steps), to, readers)),
             None => Ok(None),
         }
     }
@@ -138,16 +146,15 @@ impl Linker {
         &mut self,
         alloc: Global,
         work: &mut Work,
-        pairs: &Pairs<'_>,
         ends: (u32, u32),
         most: usize,
     ) -> Result<Option<Link>, Halt> {
         let (from, to) = ends;
-        if let Some(step) = step(pairs, from, to) {
+        if let Some(step) = step(self.pairs, from, to) {
             return Ok(Some(Link::of(step)));
         }
-        let readers = contradicted(alloc, work, pairs, from, to)?;
-        self.derived(alloc, work, pairs, &[from], to, &readers, most)
+        let readers = contradicted(alloc, work, self.pairs, from, to)?;
+        self.derived(alloc, work, &[from], to, &readers, most)
     }
 
     /// The links along a circle, where together they cost less than so many steps; none where two that follow each other have
@@ -156,11 +163,10 @@ impl Linker {
         &mut self,
         alloc: Global,
         work: &mut Work,
-        pairs: &Pairs<'_>,
         circle: &[u32],
         below: usize,
     ) -> Result<Option<Vec<Link>>, Halt> {
-        let circle = without_runs(alloc, pairs, circle)?;
+        let circle = without_runs(alloc, self.pairs, circle)?;
         let mut links = Vec::new(alloc);
         // each link that is not there yet costs a step at least
         let mut most = below.saturating_sub(circle.len());
@@ -168,7 +174,7 @@ impl Linker {
             let Some(to) = following(&circle, index) else {
                 return Ok(None);
             };
-            let Some(link) = self.link(alloc, work, pairs, (*from, to), most)? else {
+            let Some(link) = self.link(alloc, work, (*from, to), most)? else {
                 return Ok(None);
             };
             let more = (link.cost() as usize).saturating_sub(1);

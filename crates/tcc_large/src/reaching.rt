@@ -1,7 +1,6 @@
 //! What a transaction reaches by pairs, breadth first, and by which walks: in time linear in the transactions and reads that are
 //! met, since of each session only those are looked at that weren't met by a session pair before.
 ghost use Rattle.std.specs.Prelude.{◌≡◌, ◌<◌, ◌≤◌, ℕ, length, All, IfOk, MatchOption, OnOk, slice_index};
-ghost use Rattle.tcc_txn.specs.declared.limits.TheConstants.{LARGE_COUNT};
 ghost use Rattle.tcc_reads.specs.History.{count};
 ghost use Rattle.tcc_graph.specs.Relations.{IsCausalPair, IsSessionPair};
 ghost use Rattle.tcc_graph.specs.Walks.{IsWalk};
@@ -27,9 +26,8 @@ impl Reach {
     /// Before the search from a transaction.
     pub(crate) fn new(alloc: Global, graph: &LargeGraph, start: u32) -> Result<Reach, NoMemory>
         requires { start < count graph.now }
-        ensures reach { IfOk result (λ reach. IsReach graph.now reach.positions reach.queue.items) }
+        ensures reach { IfOk result (λ reach. IsReach graph.now reach.positions reach.covered reach.queue.items) }
         ensures start { IfOk result (λ reach. number_at reach.queue.items 0 ≡ start) }
-        ensures covered { IfOk result (λ reach. AreCovered reach.positions reach.covered) }
     {
         let count = graph.count() as usize;
         let positions = Cells::new(alloc, count, 0)?;
@@ -56,13 +54,11 @@ impl Reach {
 
     /// Takes in a transaction that wasn't reached before, if a pair leads to it from the one at a position.
     fn meet(&mut self, graph: &LargeGraph, position: u32, number: u32) -> Result<(), AllocError>
-        requires few { count graph.now ≤ LARGE_COUNT }
         requires position { position < length self.old.queue.items }
         requires number { number < count graph.now }
-        requires reach { IsReach graph.now self.old.positions self.old.queue.items }
-        ensures reach { OnOk result (IsReach graph.now self.new.positions self.new.queue.items) }
+        requires reach { IsReach graph.now self.old.positions self.old.covered self.old.queue.items }
+        ensures reach { OnOk result (IsReach graph.now self.new.positions self.new.covered self.new.queue.items) }
         ensures more { OnOk result (IsMore self.old.positions self.old.queue.items self.new.positions self.new.queue.items) }
-        ensures covered { self.new.covered ≡ self.old.covered }
         ensures met { OnOk result (IsCausalPair graph.now (number_at self.old.queue.items position) number → 0 < slice_index self.new.positions number) }
     {
         if self.positions.get(number) > 0 {
@@ -84,13 +80,11 @@ impl Reach {
         position: u32,
         numbers: &[u32],
     ) -> Result<(), AllocError>
-        requires few { count graph.now ≤ LARGE_COUNT }
         requires position { position < length self.old.queue.items }
         requires numbers { All (λ v. v < count graph.now) numbers.now }
-        requires reach { IsReach graph.now self.old.positions self.old.queue.items }
-        ensures reach { OnOk result (IsReach graph.now self.new.positions self.new.queue.items) }
+        requires reach { IsReach graph.now self.old.positions self.old.covered self.old.queue.items }
+        ensures reach { OnOk result (IsReach graph.now self.new.positions self.new.covered self.new.queue.items) }
         ensures more { OnOk result (IsMore self.old.positions self.old.queue.items self.new.positions self.new.queue.items) }
-        ensures covered { self.new.covered ≡ self.old.covered }
         ensures met { OnOk result (AreMet graph.now self.new.positions (number_at self.old.queue.items position) numbers.now (length numbers.now)) }
     {
         for number in numbers {
@@ -107,14 +101,12 @@ impl Reach {
         low: u32,
         high: u32,
     ) -> Result<(), AllocError>
-        requires few { count graph.now ≤ LARGE_COUNT }
         requires position { position < length self.old.queue.items }
         requires order { low ≤ high }
         requires high { high ≤ count graph.now }
-        requires reach { IsReach graph.now self.old.positions self.old.queue.items }
-        ensures reach { OnOk result (IsReach graph.now self.new.positions self.new.queue.items) }
+        requires reach { IsReach graph.now self.old.positions self.old.covered self.old.queue.items }
+        ensures reach { OnOk result (IsReach graph.now self.new.positions self.new.covered self.new.queue.items) }
         ensures more { OnOk result (IsMore self.old.positions self.old.queue.items self.new.positions self.new.queue.items) }
-        ensures covered { self.new.covered ≡ self.old.covered }
         ensures met { OnOk result (AreMetBetween graph.now self.new.positions (number_at self.old.queue.items position) low high) }
     {
         for number in low..high {
@@ -126,9 +118,9 @@ impl Reach {
     /// Notes that all from `low` on were met, up to where their session ends.
     fn cover(&mut self, low: u32, end: u32)
         ensures positions { self.new.positions ≡ self.old.positions }
-        ensures queue { self.new.queue ≡ self.old.queue }
+        ensures queue { self.new.queue.items ≡ self.old.queue.items }
         ensures covered { AreCovered self.old.positions self.old.covered
-            → ((v : ℕ) → low ≤ v → v < end → 0 < slice_index self.old.positions v) → AreCovered self.new.positions self.new.covered }
+            → ((v : ℕ) → low ≤ v → v < end → 0 < slice_index self.old.positions v) → AreCovered self.old.positions self.new.covered }
     {
         self.covered.set(end, low);
     }
@@ -151,12 +143,9 @@ impl Reach {
 
     /// Takes in the later ones of a session, from the transaction at a position on.
     fn spread_session(&mut self, graph: &LargeGraph, position: u32) -> Result<(), AllocError>
-        requires few { count graph.now ≤ LARGE_COUNT }
         requires position { position < length self.old.queue.items }
-        requires reach { IsReach graph.now self.old.positions self.old.queue.items }
-        requires covered { AreCovered self.old.positions self.old.covered }
-        ensures reach { OnOk result (IsReach graph.now self.new.positions self.new.queue.items) }
-        ensures covered { OnOk result (AreCovered self.new.positions self.new.covered) }
+        requires reach { IsReach graph.now self.old.positions self.old.covered self.old.queue.items }
+        ensures reach { OnOk result (IsReach graph.now self.new.positions self.new.covered self.new.queue.items) }
         ensures more { OnOk result (IsMore self.old.positions self.old.queue.items self.new.positions self.new.queue.items) }
         ensures met { OnOk result ((v : ℕ) → IsSessionPair graph.now (number_at self.old.queue.items position) v → 0 < slice_index self.new.positions v) }
     {
@@ -170,15 +159,11 @@ impl Reach {
     /// Takes in all to which a pair leads from the transaction at a position: the later ones of its session, and its readers.
     pub(crate) fn spread(&mut self, graph: &LargeGraph, position: u32) -> Result<(), AllocError>
         requires position { position < length self.old.queue.items }
-        requires reach { IsReach graph.now self.old.positions self.old.queue.items }
-        requires covered { AreCovered self.old.positions self.old.covered }
-        ensures reach { OnOk result (IsReach graph.now self.new.positions self.new.queue.items) }
-        ensures covered { OnOk result (AreCovered self.new.positions self.new.covered) }
+        requires reach { IsReach graph.now self.old.positions self.old.covered self.old.queue.items }
+        ensures reach { OnOk result (IsReach graph.now self.new.positions self.new.covered self.new.queue.items) }
         ensures more { OnOk result (IsMore self.old.positions self.old.queue.items self.new.positions self.new.queue.items) }
         ensures met { OnOk result ((v : ℕ) → IsCausalPair graph.now (number_at self.old.queue.items position) v → 0 < slice_index self.new.positions v) }
     {
-        // there are few, as this call says
-        graph.count();
         let from = self.queue[position as usize].0;
         self.spread_session(graph, position)?;
         let (readers, _key_indices) = graph.readings_at(from);
@@ -193,7 +178,7 @@ impl Reach {
         graph: &LargeGraph,
         position: usize,
     ) -> Result<Walk, AllocError>
-        requires reach { IsReach graph.now self.now.positions self.now.queue.items }
+        requires reach { IsReach graph.now self.now.positions self.now.covered self.now.queue.items }
         requires some { 0 < position }
         requires inside { position < length self.now.queue.items }
         ensures { IfOk result (IsWalk graph.now (number_at self.now.queue.items 0) (number_at self.now.queue.items position)) }

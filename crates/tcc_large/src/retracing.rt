@@ -5,9 +5,9 @@ ghost use Rattle.tcc_reads.specs.History.{count};
 ghost use Rattle.tcc_graph.specs.Levels.{judged};
 ghost use Rattle.tcc_graph.specs.Relations.{IsSessionPair};
 ghost use Rattle.tcc_bits.specs.Bits.{is_marked};
-ghost use Rattle.tcc_order.specs.Placements.{IsLeft, IsStuck};
+ghost use Rattle.tcc_order.specs.Placements.{IsLeft};
 ghost use Rattle.tcc_graph.specs.Routes.{AreCycle};
-ghost use Rattle.tcc_large.specs.private.Retracing.{IsHeldBack, GoesRound};
+ghost use Rattle.tcc_large.specs.private.Retracing.{IsHeldBack, GoesRound, IsStuckAt, judged_at};
 
 use crate::cells::Cells;
 use crate::reasons::link_between;
@@ -17,6 +17,14 @@ use tcc_clocks::parents_of;
 use tcc_graph::{LargeGraph, Level, Link};
 use tcc_order::Stuck;
 use tcc_txn::NoMemory;
+
+/// A history at a level, and where an order of it stops.
+#[derive(Clone, Copy)]
+pub(crate) struct StuckOrder<'a> {
+    pub graph: &'a LargeGraph,
+    pub level: Level,
+    pub stuck: &'a Stuck,
+}
 
 /// The first of these numbers that is not marked.
 fn first_left(numbers: &[u32], placed: &[u64]) -> Option<u32>
@@ -30,19 +38,6 @@ fn first_left(numbers: &[u32], placed: &[u64]) -> Option<u32>
         }
     }
     None
-}
-
-/// The first transaction that is left.
-fn first_of_all(graph: &LargeGraph, level: Level, stuck: &Stuck) -> u32
-    requires { IsStuck (judged graph.now level) stuck.now.kept.items stuck.now.placed.items }
-    ensures { IsLeft (judged graph.now level) stuck.now.placed.items result }
-{
-    for number in 0..graph.count() {
-        if !is_marked(&stuck.placed, number as usize) {
-            return number;
-        }
-    }
-    unreachable!()
 }
 
 /// The first of a session from which on all up to this one are left.
@@ -60,62 +55,6 @@ fn earliest_left(graph: &LargeGraph, placed: &[u64], number: u32) -> u32
         }
     }
     0
-}
-
-/// A transaction that is left and holds this one back: by a pair if one does, and of its session the first.
-fn one_before(
-    alloc: Global,
-    graph: &LargeGraph,
-    level: Level,
-    stuck: &Stuck,
-    number: u32,
-) -> Result<u32, NoMemory>
-    requires stuck { IsStuck (judged graph.now level) stuck.now.kept.items stuck.now.placed.items }
-    requires left { IsLeft (judged graph.now level) stuck.now.placed.items number }
-    ensures left { IfOk result (IsLeft (judged graph.now level) stuck.now.placed.items) }
-    ensures held { IfOk result (λ before. IsHeldBack (judged graph.now level) before number) }
-{
-    // transactions stand by session and by place, as this call says
-    graph.sessions();
-    let first = earliest_left(graph, &stuck.placed, number);
-    if first != number {
-        return Ok(first);
-    }
-    let parents = parents_of(alloc, graph, number)?;
-    if let Some(parent) = first_left(&parents, &stuck.placed) {
-        return Ok(parent);
-    }
-    let kept = stuck.kept[number as usize].as_slice();
-    let Some(before) = first_left(kept, &stuck.placed) else {
-        unreachable!()
-    };
-    Ok(before)
-}
-
-/// Transactions each of which is held back by the next one, from one until it comes again.
-fn round(
-    alloc: Global,
-    graph: &LargeGraph,
-    level: Level,
-    stuck: &Stuck,
-) -> Result<Vec<u32>, NoMemory>
-    requires { IsStuck (judged graph.now level) stuck.now.kept.items stuck.now.placed.items }
-    ensures { IfOk result (λ numbers. GoesRound (judged graph.now level) numbers.items) }
-{
-    let mut positions = Cells::new(alloc, graph.count() as usize, 0)?;
-    let mut trail = Vec::new(alloc);
-    let mut at = first_of_all(graph, level, stuck);
-    trail.push(at)?;
-    for position in 0..graph.count() + 1 {
-        let before = positions.get(at);
-        if before > 0 {
-            return Ok(trail.split_off(before as usize - 1)?);
-        }
-        positions.set(at, position + 1);
-        at = one_before(alloc, graph, level, stuck, at)?;
-        trail.push(at)?;
-    }
-    unreachable!()
 }
 
 /// The links along such transactions.
@@ -137,16 +76,70 @@ fn links_round(
     Ok(links)
 }
 
-/// The links of a cycle of a history at a level in which an order stops.
-pub(crate) fn cycle_of(
-    alloc: Global,
-    graph: &LargeGraph,
-    level: Level,
-    stuck: &Stuck,
-) -> Result<Vec<Link>, NoMemory>
-    requires { IsStuck (judged graph.now level) stuck.now.kept.items stuck.now.placed.items }
-    ensures { IfOk result (λ links. AreCycle (judged graph.now level) links.items) }
-{
-    let numbers = round(alloc, graph, level, stuck)?;
-    links_round(alloc, graph, level, &numbers)
+impl StuckOrder<'_> {
+    /// The first transaction that is left.
+    fn first_of_all(self) -> u32
+        requires { IsStuckAt self }
+        ensures { IsLeft (judged_at self) self.stuck.now.placed.items result }
+    {
+        for number in 0..self.graph.count() {
+            if !is_marked(&self.stuck.placed, number as usize) {
+                return number;
+            }
+        }
+        unreachable!()
+    }
+
+    /// A transaction that is left and holds this one back: by a pair if one does, and of its session the first.
+    fn one_before(self, alloc: Global, number: u32) -> Result<u32, NoMemory>
+        requires stuck { IsStuckAt self }
+        requires left { IsLeft (judged_at self) self.stuck.now.placed.items number }
+        ensures left { IfOk result (IsLeft (judged_at self) self.stuck.now.placed.items) }
+        ensures held { IfOk result (λ before. IsHeldBack (judged_at self) before number) }
+    {
+        self.graph.numbered();
+        let first = earliest_left(self.graph, &self.stuck.placed, number);
+        if first != number {
+            return Ok(first);
+        }
+        let parents = parents_of(alloc, self.graph, number)?;
+        if let Some(parent) = first_left(&parents, &self.stuck.placed) {
+            return Ok(parent);
+        }
+        let kept = self.stuck.kept[number as usize].as_slice();
+        let Some(before) = first_left(kept, &self.stuck.placed) else {
+            unreachable!()
+        };
+        Ok(before)
+    }
+
+    /// Transactions each of which is held back by the next one, from one until it comes again.
+    fn round(self, alloc: Global) -> Result<Vec<u32>, NoMemory>
+        requires { IsStuckAt self }
+        ensures { IfOk result (λ numbers. GoesRound (judged_at self) numbers.items) }
+    {
+        let mut positions = Cells::new(alloc, self.graph.count() as usize, 0)?;
+        let mut trail = Vec::new(alloc);
+        let mut at = self.first_of_all();
+        trail.push(at)?;
+        for position in 0..self.graph.count() + 1 {
+            let before = positions.get(at);
+            if before > 0 {
+                return Ok(trail.split_off(before as usize - 1)?);
+            }
+            positions.set(at, position + 1);
+            at = self.one_before(alloc, at)?;
+            trail.push(at)?;
+        }
+        unreachable!()
+    }
+
+    /// The links of a cycle.
+    pub(crate) fn cycle(self, alloc: Global) -> Result<Vec<Link>, NoMemory>
+        requires { IsStuckAt self }
+        ensures { IfOk result (λ links. AreCycle (judged_at self) links.items) }
+    {
+        let numbers = self.round(alloc)?;
+        links_round(alloc, self.graph, self.level, &numbers)
+    }
 }

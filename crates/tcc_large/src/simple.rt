@@ -19,11 +19,11 @@ fn first_return(alloc: Global, count: u32, links: &[Link]) -> Result<(usize, usi
 {
     let mut positions = Cells::new(alloc, count as usize, 0)?;
     for (index, link) in links.iter().enumerate() {
-        let (start, end) = (link.from(), link.to());
-        positions.set(start, index as u32 + 1);
-        let before = positions.get(end);
+        let position = index + 1;
+        positions.set(link.from(), position as u32);
+        let before = positions.get(link.to());
         if before > 0 {
-            return Ok((before as usize - 1, index + 1));
+            return Ok((before as usize - 1, position));
         }
     }
     unreachable!()

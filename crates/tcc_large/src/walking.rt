@@ -12,17 +12,22 @@ const BY_SESSION: u32 = u32::MAX;
 
 /// Searches backwards by pairs, with what each transaction leads on by.
 #[derive(Drop)]
-pub(crate) struct Walking {
-    backwards: Backwards,
+pub(crate) struct Walking<'a> {
+    pairs: &'a Pairs<'a>,
+    backwards: Backwards<'a>,
     by: Cells,
 }
 
-impl Walking {
+impl<'a> Walking<'a> {
     /// Before the first search.
-    pub(crate) fn new(alloc: Global, pairs: &Pairs<'_>) -> Result<Walking, NoMemory> {
+    pub(crate) fn new(alloc: Global, pairs: &'a Pairs<'a>) -> Result<Walking<'a>, NoMemory> {
         let backwards = Backwards::new(alloc, pairs)?;
         let by = Cells::new(alloc, pairs.count() as usize, 0)?;
-        Ok(Walking { backwards, by })
+        Ok(Walking {
+            pairs,
+            backwards,
+            by,
+        })
     }
 
     /// A shortest walk from one of the wanted transactions, which ascend, to one of these ends; none where there is none of so many
@@ -31,7 +36,6 @@ impl Walking {
         &mut self,
         alloc: Global,
         work: &mut Work,
-        pairs: &Pairs<'_>,
         wanted: &[u32],
         ends: &[u32],
         most: usize,
@@ -41,7 +45,7 @@ impl Walking {
         for end in ends {
             self.meet(*end, *end, BY_SESSION)?;
         }
-        for _turn in 0..pairs.count() {
+        for _turn in 0..self.pairs.count() {
             let Some(number) = self.backwards.take() else {
                 break;
             };
@@ -49,8 +53,8 @@ impl Walking {
                 break;
             }
             let is_last = self.backwards.depth() == most;
-            if let Some((start, by)) = self.search(work, pairs, wanted, number, is_last)? {
-                return Ok(Some(self.steps(alloc, pairs, start, number, by)?));
+            if let Some((start, by)) = self.search(work, wanted, number, is_last)? {
+                return Ok(Some(self.steps(alloc, start, number, by)?));
             }
         }
         Ok(None)
@@ -69,15 +73,14 @@ impl Walking {
     fn search(
         &mut self,
         work: &mut Work,
-        pairs: &Pairs<'_>,
         wanted: &[u32],
         number: u32,
         is_last: bool,
     ) -> Result<Option<(u32, u32)>, Halt> {
-        if let Some(start) = self.search_session(work, pairs, wanted, number, is_last)? {
+        if let Some(start) = self.search_session(work, wanted, number, is_last)? {
             return Ok(Some((start, BY_SESSION)));
         }
-        let reads = pairs.reads(number);
+        let reads = self.pairs.reads(number);
         work.take(reads.len())?;
         for (key_index, source) in reads {
             if wanted.binary_search(source).is_ok() {
@@ -94,13 +97,12 @@ impl Walking {
     fn search_session(
         &mut self,
         work: &mut Work,
-        pairs: &Pairs<'_>,
         wanted: &[u32],
         number: u32,
         is_last: bool,
     ) -> Result<Option<u32>, Halt> {
         work.take(1)?;
-        let low = self.backwards.cover(pairs, number);
+        let low = self.backwards.cover(number);
         if let Some(start) = span(wanted, low, number).first() {
             return Ok(Some(*start));
         }
@@ -118,7 +120,6 @@ impl Walking {
     fn steps(
         &self,
         alloc: Global,
-        pairs: &Pairs<'_>,
         start: u32,
         number: u32,
         by: u32,
@@ -127,8 +128,8 @@ impl Walking {
         let mut from = start;
         let mut to = number;
         let mut by = by;
-        for _turn in 0..pairs.count() {
-            steps.push(step(pairs, from, to, by))?;
+        for _turn in 0..self.pairs.count() {
+            steps.push(step(self.pairs, from, to, by))?;
             from = to;
             to = self.backwards.next(from);
             by = self.by.get(from);

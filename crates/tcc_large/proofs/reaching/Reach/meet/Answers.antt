@@ -10,7 +10,7 @@ use Rattle.tcc_large.proofs.reaching.Reach.meet.Goals as goal
 pub overflow_cast-len : goal.overflow_cast-len
 overflow_cast-len c =
     let long : c.len.result ≡ length c.args.self.now.queue.items = search rules in
-    omega (arith, long, reach_room c.args.graph.now c.args.self.now.positions c.args.self.now.queue.items c.requires.reach, c.requires.few)
+    omega (arith, long, reach_room c.args.graph.now c.args.self.now.positions c.args.self.now.covered c.args.self.now.queue.items c.requires.reach, c.requires.reach.few)
 
 pub returns-clause-reach : goal.returns-clause-reach
 returns-clause-reach c =
@@ -24,4 +24,4 @@ returns-clause-reach c =
     let pair : IsCausalPair h (number_at queue c.args.position) c.args.number
     = subst (λ (z : ℕ × ℕ). IsCausalPair h z.0 c.args.number) here (pair_kinds h c.index.result.now.0 c.args.number is) in
     let noted : c.set.new.self ≡ set positions c.args.number (length queue) = search rules in
-    rw (noted, c.in_ok-push.ensures.items) (reach_more h positions queue c.args.position c.args.number c.requires.reach c.requires.position c.requires.number new pair)
+    rw (noted, c.in_ok-push.ensures.items) (reach_more h positions c.args.self.now.covered queue c.args.position c.args.number c.requires.reach c.requires.position c.requires.number new pair)

@@ -4,8 +4,8 @@ use Rattle.std.proofs.lemmas.List.{get_or_read}
 use Rattle.tcc_graph.specs.Keys.{key_at}
 use Rattle.tcc_graph.specs.Relations.{IsCausalPair, IsSessionPair}
 use Rattle.tcc_graph.proofs.NamedReadings.{named_readings}
-use Rattle.tcc_large.specs.private.Reaching.{AreCovered, AreMet, number_at}
-use Rattle.tcc_large.proofs.Reached.{all_met, covered_more, readers_below}
+use Rattle.tcc_large.specs.private.Reaching.{AreMet, number_at}
+use Rattle.tcc_large.proofs.Reached.{all_met, readers_below}
 use Rattle.tcc_large.proofs.reaching.Reach.spread.Goals as goal
 
 pub meet_each-requires-clause-numbers : goal.meet_each-requires-clause-numbers
@@ -14,13 +14,6 @@ meet_each-requires-clause-numbers c =
     let from = c.index.result.now.0 in
     let are = named_readings h from c.readings_at.result.0.now c.readings_at.result.1.now c.readings_at.ensures in
     readers_below h from c.readings_at.result.0.now (map (key_at h) c.readings_at.result.1.now) are.long are.each
-
-pub returns-clause-covered : goal.returns-clause-covered
-returns-clause-covered c =
-    let mid = c.spread_session.new.self in
-    let new = c.meet_each.new.self in
-    subst (λ (z : List ℕ). AreCovered new.positions z) (sym c.meet_each.ensures.covered)
-    (covered_more mid.positions mid.covered mid.queue.items new.positions new.queue.items c.in_ok-meet_each.ensures.more c.in_ok-spread_session.ensures.covered)
 
 pub returns-clause-met : goal.returns-clause-met
 returns-clause-met c = λ v pair.

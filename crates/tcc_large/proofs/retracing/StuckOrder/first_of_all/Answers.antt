@@ -1,12 +1,11 @@
-use Rattle.std.proofs.Common.{◌≡◌, ◌∙◌, true, sym, subst, arith, List, ℕ}
+use Rattle.std.proofs.Common.{below_more, ◌≡◌, ◌∙◌, true, sym, subst, arith, List, ℕ}
 use Rattle.std.proofs.lemmas.Bool.{false≢true}
 use Rattle.tcc_bits.specs.Bits.{is_marked}
-use Rattle.tcc_large.proofs.Retraced.{marked_more}
-use Rattle.tcc_large.proofs.retracing.first_of_all.Goals as goal
+use Rattle.tcc_large.proofs.retracing.StuckOrder.first_of_all.Goals as goal
 
 pub loop-number-preserved : goal.loop-number-preserved
 loop-number-preserved c =
-    marked_more c.args.stuck.now.placed.items c.loop-number.number c.loop-number.invariant
+    below_more (λ v. is_marked c.args.self.stuck.now.placed.items v ≡ true) c.loop-number.number c.loop-number.invariant
     (subst (λ (words : List ℕ). is_marked words c.loop-number.number ≡ true) c.deref.ensures.value (sym c.is_marked.ensures ∙ c.if-not-is_marked.false))
 
 pub unreachable-requires : goal.unreachable-requires
