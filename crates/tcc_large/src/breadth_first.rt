@@ -1,5 +1,5 @@
 //! Shortest ways by pairs and links among some transactions: breadth-first search, backwards.
-use crate::backwards::Backwards;
+use crate::reverse_search::ReverseSearch;
 use crate::pairs::Pairs;
 use crate::trimming::Trimmed;
 use crate::work::{Halt, Work};
@@ -9,14 +9,14 @@ use tcc_txn::NoMemory;
 /// Searches backwards among transactions that are marked.
 #[derive(Drop)]
 pub(crate) struct BreadthFirst<'a> {
-    backwards: Backwards<'a>,
+    reverse: ReverseSearch<'a>,
 }
 
 impl<'a> BreadthFirst<'a> {
     /// Before the first search.
     pub(crate) fn new(alloc: Global, pairs: &'a Pairs<'a>) -> Result<BreadthFirst<'a>, NoMemory> {
-        let backwards = Backwards::new(alloc, pairs)?;
-        Ok(BreadthFirst { backwards })
+        let reverse = ReverseSearch::new(alloc, pairs)?;
+        Ok(BreadthFirst { reverse })
     }
 
     /// The transactions of a shortest way from one to another among those that are marked, both with it; none where there is
@@ -29,17 +29,17 @@ impl<'a> BreadthFirst<'a> {
         ends: (u32, u32),
         most: usize,
     ) -> Result<Option<Vec<u32>>, Halt> {
-        self.backwards.begin();
+        self.reverse.begin();
         self.meet(among, ends.1, ends.1)?;
         for _turn in 0..among.pairs().count() {
-            let Some(number) = self.backwards.take() else {
+            let Some(number) = self.reverse.take() else {
                 break;
             };
-            if self.backwards.depth() > most {
+            if self.reverse.depth() > most {
                 break;
             }
             self.look(work, among, number)?;
-            if self.backwards.is_met(ends.0) {
+            if self.reverse.is_met(ends.0) {
                 return Ok(Some(self.trail(alloc, among.pairs().count(), ends.0)?));
             }
         }
@@ -49,7 +49,7 @@ impl<'a> BreadthFirst<'a> {
     /// Takes in a marked transaction that leads on to the next one, unless it was met before.
     fn meet(&mut self, among: &Trimmed<'_>, number: u32, next: u32) -> Result<(), AllocError> {
         if among.has(number) {
-            self.backwards.meet(number, next)?;
+            self.reverse.meet(number, next)?;
         }
         Ok(())
     }
@@ -58,7 +58,7 @@ impl<'a> BreadthFirst<'a> {
     fn look(&mut self, work: &mut Work, among: &Trimmed<'_>, number: u32) -> Result<(), Halt> {
         let links = among.relation().links_into(number);
         let reads = among.pairs().reads(number);
-        let low = self.backwards.cover(number);
+        let low = self.reverse.cover(number);
         work.take(links.len())?;
         work.take(reads.len())?;
         work.take(number.saturating_sub(low) as usize)?;
@@ -80,7 +80,7 @@ impl<'a> BreadthFirst<'a> {
         let mut number = start;
         for _turn in 0..count {
             trail.push(number)?;
-            let next = self.backwards.next(number);
+            let next = self.reverse.next(number);
             if next == number {
                 break;
             }

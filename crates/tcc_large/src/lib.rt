@@ -5,12 +5,10 @@
 
 mod answer;
 mod back_edges;
-mod backwards;
 mod breadth_first;
 mod cells;
 mod closings;
 mod components;
-mod covering;
 mod deciding;
 mod decision;
 mod explaining;
@@ -24,6 +22,8 @@ mod reaching;
 mod reasons;
 mod relation;
 mod retracing;
+mod reverse_search;
+mod session_prefixes;
 mod simple;
 mod trimming;
 mod walking;

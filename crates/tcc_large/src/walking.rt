@@ -1,5 +1,5 @@
 //! Shortest walks: breadth-first search by pairs, backwards.
-use crate::backwards::Backwards;
+use crate::reverse_search::ReverseSearch;
 use crate::cells::Cells;
 use crate::pairs::{Pairs, span};
 use crate::work::{Halt, Work};
@@ -14,18 +14,18 @@ const BY_SESSION: u32 = u32::MAX;
 #[derive(Drop)]
 pub(crate) struct Walking<'a> {
     pairs: &'a Pairs<'a>,
-    backwards: Backwards<'a>,
+    reverse: ReverseSearch<'a>,
     by: Cells,
 }
 
 impl<'a> Walking<'a> {
     /// Before the first search.
     pub(crate) fn new(alloc: Global, pairs: &'a Pairs<'a>) -> Result<Walking<'a>, NoMemory> {
-        let backwards = Backwards::new(alloc, pairs)?;
+        let reverse = ReverseSearch::new(alloc, pairs)?;
         let by = Cells::new(alloc, pairs.count() as usize, 0)?;
         Ok(Walking {
             pairs,
-            backwards,
+            reverse,
             by,
         })
     }
@@ -40,19 +40,19 @@ impl<'a> Walking<'a> {
         ends: &[u32],
         most: usize,
     ) -> Result<Option<Vec<Step>>, Halt> {
-        self.backwards.begin();
+        self.reverse.begin();
         work.take(ends.len())?;
         for end in ends {
             self.meet(*end, *end, BY_SESSION)?;
         }
         for _turn in 0..self.pairs.count() {
-            let Some(number) = self.backwards.take() else {
+            let Some(number) = self.reverse.take() else {
                 break;
             };
-            if self.backwards.depth() > most {
+            if self.reverse.depth() > most {
                 break;
             }
-            let is_last = self.backwards.depth() == most;
+            let is_last = self.reverse.depth() == most;
             if let Some((start, by)) = self.search(work, wanted, number, is_last)? {
                 return Ok(Some(self.steps(alloc, start, number, by)?));
             }
@@ -62,7 +62,7 @@ impl<'a> Walking<'a> {
 
     /// Takes in a transaction that leads on to the next one, unless it was met before.
     fn meet(&mut self, number: u32, next: u32, by: u32) -> Result<(), AllocError> {
-        if self.backwards.meet(number, next)? {
+        if self.reverse.meet(number, next)? {
             self.by.set(number, by);
         }
         Ok(())
@@ -102,7 +102,7 @@ impl<'a> Walking<'a> {
         is_last: bool,
     ) -> Result<Option<u32>, Halt> {
         work.take(1)?;
-        let low = self.backwards.cover(number);
+        let low = self.reverse.cover(number);
         if let Some(start) = span(wanted, low, number).first() {
             return Ok(Some(*start));
         }
@@ -131,7 +131,7 @@ impl<'a> Walking<'a> {
         for _turn in 0..self.pairs.count() {
             steps.push(step(self.pairs, from, to, by))?;
             from = to;
-            to = self.backwards.next(from);
+            to = self.reverse.next(from);
             by = self.by.get(from);
             if to == from {
                 break;

@@ -1,6 +1,9 @@
-//! Breadth-first search backwards: what it has met, level by level.
+//! Breadth-first search (Moore, The shortest path through a maze, 1959) backwards, level by level: what was met, and where each
+//! leads on to. Each transaction is taken in once, and of a session those alone that weren't taken in before (`session_prefixes`),
+//! so a search takes O(N + R + E) for the N transactions, R reads and E links that it comes to, and nothing for those that it
+//! doesn't.
 use crate::cells::Cells;
-use crate::covering::Covering;
+use crate::session_prefixes::SessionPrefixes;
 use crate::pairs::Pairs;
 use std::alloc::{AllocError, Global};
 use tcc_txn::NoMemory;
@@ -8,26 +11,26 @@ use tcc_txn::NoMemory;
 /// What a search backwards has met, and where each transaction leads on to. It serves for many searches, of which each has a
 /// turn of its own.
 #[derive(Drop)]
-pub(crate) struct Backwards<'a> {
+pub(crate) struct ReverseSearch<'a> {
     turn: u32,
     met: Cells,
     next: Cells,
-    covering: Covering<'a>,
+    prefixes: SessionPrefixes<'a>,
     queue: Vec<u32>,
     head: usize,
     level_end: usize,
     depth: usize,
 }
 
-impl<'a> Backwards<'a> {
+impl<'a> ReverseSearch<'a> {
     /// Before the first search.
-    pub(crate) fn new(alloc: Global, pairs: &'a Pairs<'a>) -> Result<Backwards<'a>, NoMemory> {
+    pub(crate) fn new(alloc: Global, pairs: &'a Pairs<'a>) -> Result<ReverseSearch<'a>, NoMemory> {
         let count = pairs.count() as usize;
-        Ok(Backwards {
+        Ok(ReverseSearch {
             turn: 0,
             met: Cells::new(alloc, count, 0)?,
             next: Cells::new(alloc, count, 0)?,
-            covering: Covering::new(alloc, pairs)?,
+            prefixes: SessionPrefixes::new(alloc, pairs)?,
             queue: Vec::new(alloc),
             head: 0,
             level_end: 0,
@@ -83,6 +86,6 @@ impl<'a> Backwards<'a> {
 
     /// From which number on those before this one in its session weren't taken in yet; from now on they are.
     pub(crate) fn cover(&mut self, number: u32) -> u32 {
-        self.covering.take(number, self.turn)
+        self.prefixes.take(number, self.turn)
     }
 }

@@ -1,4 +1,5 @@
-//! Which transactions of each session a search backwards has taken in.
+//! Which transactions of each session a search backwards has taken in: a prefix of the session, since all before one stand before
+//! it. So each is handed out once in a search, and to begin the next one takes nothing.
 use crate::cells::Cells;
 use crate::pairs::Pairs;
 use std::alloc::Global;
@@ -6,17 +7,17 @@ use tcc_txn::NoMemory;
 
 /// Of each session the number below which nothing was taken in yet; for many searches, of which each has a turn of its own.
 #[derive(Drop)]
-pub(crate) struct Covering<'a> {
+pub(crate) struct SessionPrefixes<'a> {
     pairs: &'a Pairs<'a>,
     turns: Cells,
     ends: Cells,
 }
 
-impl<'a> Covering<'a> {
+impl<'a> SessionPrefixes<'a> {
     /// Before the first search.
-    pub(crate) fn new(alloc: Global, pairs: &'a Pairs<'a>) -> Result<Covering<'a>, NoMemory> {
+    pub(crate) fn new(alloc: Global, pairs: &'a Pairs<'a>) -> Result<SessionPrefixes<'a>, NoMemory> {
         let sessions = pairs.session_count();
-        Ok(Covering {
+        Ok(SessionPrefixes {
             pairs,
             turns: Cells::new(alloc, sessions, 0)?,
             ends: Cells::new(alloc, sessions, 0)?,
