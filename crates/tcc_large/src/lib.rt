@@ -24,9 +24,9 @@ mod relation;
 mod retracing;
 mod reverse_search;
 mod session_prefixes;
+mod shortest_walks;
 mod simple;
 mod trimming;
-mod walking;
 mod work;
 
 pub use answer::LargeAnswer;

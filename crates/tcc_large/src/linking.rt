@@ -1,6 +1,6 @@
 //! From transactions in a circle to the links between them.
 use crate::pairs::Pairs;
-use crate::walking::Walking;
+use crate::shortest_walks::ShortestWalks;
 use crate::work::{Halt, Work};
 use std::alloc::{AllocError, Global};
 use tcc_graph::{Level, Link, Step, Walk};
@@ -11,7 +11,7 @@ use tcc_txn::{Name, NoMemory};
 pub(crate) struct Linker<'a> {
     pairs: &'a Pairs<'a>,
     longest: usize,
-    walking: Walking<'a>,
+    walks: ShortestWalks<'a>,
 }
 
 /// The number behind an index of a circle.
@@ -110,11 +110,11 @@ impl<'a> Linker<'a> {
             Level::Atomic => 1,
             Level::Causal => usize::MAX,
         };
-        let walking = Walking::new(alloc, pairs)?;
+        let walks = ShortestWalks::new(alloc, pairs)?;
         Ok(Linker {
             pairs,
             longest,
-            walking,
+            walks,
         })
     }
 
@@ -134,7 +134,7 @@ impl<'a> Linker<'a> {
             ends.push(*reader)?;
         }
         let most = most.saturating_sub(1).min(self.longest);
-        let steps = self.walking.walk(alloc, work, wanted, &ends, most)?;
+        let steps = self.walks.walk(alloc, work, wanted, &ends, most)?;
         match steps {
             Some(steps) => Ok(derived_by(self.pairs, Walk::new(steps), to, readers)),
             None => Ok(None),

@@ -1,4 +1,6 @@
-//! Shortest walks: breadth-first search by pairs, backwards.
+//! Shortest walks: breadth-first search by pairs, backwards (`reverse_search`), from some ends to the nearest of some starts. Each
+//! transaction that was met has the pair that it leads on by, so the steps are read off from the start on. O(N + R) for N
+//! transactions and R reads.
 use crate::reverse_search::ReverseSearch;
 use crate::cells::Cells;
 use crate::pairs::{Pairs, span};
@@ -12,18 +14,18 @@ const BY_SESSION: u32 = u32::MAX;
 
 /// Searches backwards by pairs, with what each transaction leads on by.
 #[derive(Drop)]
-pub(crate) struct Walking<'a> {
+pub(crate) struct ShortestWalks<'a> {
     pairs: &'a Pairs<'a>,
     reverse: ReverseSearch<'a>,
     by: Cells,
 }
 
-impl<'a> Walking<'a> {
+impl<'a> ShortestWalks<'a> {
     /// Before the first search.
-    pub(crate) fn new(alloc: Global, pairs: &'a Pairs<'a>) -> Result<Walking<'a>, NoMemory> {
+    pub(crate) fn new(alloc: Global, pairs: &'a Pairs<'a>) -> Result<ShortestWalks<'a>, NoMemory> {
         let reverse = ReverseSearch::new(alloc, pairs)?;
         let by = Cells::new(alloc, pairs.count() as usize, 0)?;
-        Ok(Walking {
+        Ok(ShortestWalks {
             pairs,
             reverse,
             by,
