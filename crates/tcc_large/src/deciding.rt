@@ -9,7 +9,7 @@ ghost use Rattle.tcc_graph.specs.Levels.{judged};
 ghost use Rattle.tcc_order.specs.Placements.{IsPlacement};
 
 use crate::decision::Decision;
-use crate::finding::found_cycle;
+use crate::cycle_search::found_cycle;
 use crate::lining::order_to_judge;
 use crate::retracing::StuckOrder;
 use crate::simple::simple_cycle;

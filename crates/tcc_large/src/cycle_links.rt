@@ -1,4 +1,5 @@
-//! From transactions in a circle to the links between them.
+//! From transactions in a circle to the links between them: of each two a pair where there is one, else a derived link with a
+//! shortest walk, which takes a search (`shortest_walks`).
 use crate::pairs::Pairs;
 use crate::shortest_walks::ShortestWalks;
 use crate::work::{Halt, Work};

@@ -4,7 +4,7 @@
 use crate::back_edges::back_edges;
 use crate::breadth_first::BreadthFirst;
 use crate::closings::{between, closings};
-use crate::linking::Linker;
+use crate::cycle_links::Linker;
 use crate::pairs::{Pair, Pairs, span};
 use crate::relation::Relation;
 use crate::retracing::StuckOrder;
