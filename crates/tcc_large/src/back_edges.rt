@@ -12,7 +12,7 @@ fn add_back(
     ordering: &Ordering<'_>,
     number: u32,
 ) -> Result<(), AllocError> {
-    for from in among.relation().links_into(number) {
+    for from in among.adjacency().links_into(number) {
         if among.has(*from) && !ordering.has(*from) {
             found.push((*from, number))?;
         }
@@ -32,7 +32,7 @@ fn open_all(ordering: &mut Ordering<'_>, among: &Trimmed<'_>) -> Result<(), Allo
 
 /// The links among marked transactions that lead back in an order that keeps all pairs.
 pub(crate) fn back_edges(alloc: Global, among: &Trimmed<'_>) -> Result<Vec<(u32, u32)>, NoMemory> {
-    let mut ordering = Ordering::new(alloc, among.relation(), among.marks())?;
+    let mut ordering = Ordering::new(alloc, among.adjacency(), among.marks())?;
     open_all(&mut ordering, among)?;
     let mut found = Vec::new(alloc);
     for _turn in 0..among.pairs().count() {

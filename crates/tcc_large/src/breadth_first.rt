@@ -56,7 +56,7 @@ impl<'a> BreadthFirst<'a> {
 
     /// Takes in all that lead to a transaction by one pair or link.
     fn look(&mut self, work: &mut Work, among: &Trimmed<'_>, number: u32) -> Result<(), Halt> {
-        let links = among.relation().links_into(number);
+        let links = among.adjacency().links_into(number);
         let reads = among.pairs().reads(number);
         let low = self.reverse.cover(number);
         work.take(links.len())?;

@@ -6,7 +6,7 @@ use crate::breadth_first::BreadthFirst;
 use crate::closings::{between, closings};
 use crate::cycle_links::Linker;
 use crate::pairs::{Pair, Pairs, span};
-use crate::relation::Relation;
+use crate::adjacency::Adjacency;
 use crate::retracing::StuckOrder;
 use crate::trimming::Trimmed;
 use crate::work::{Halt, Work, unless_spent};
@@ -326,8 +326,8 @@ impl<'a> Finder<'a> {
 
     /// Cycles of pairs.
     fn by_pairs(&mut self, alloc: Global, placed: &[u64]) -> Result<(), NoMemory> {
-        let relation = Relation::of(alloc, self.pairs, &[])?;
-        let among = Trimmed::of(alloc, &relation, placed)?;
+        let adjacency = Adjacency::of(alloc, self.pairs, &[])?;
+        let among = Trimmed::of(alloc, &adjacency, placed)?;
         let reads = among.reads(alloc)?;
         self.allow();
         unless_spent(self.through(alloc, &among, &reads))
@@ -355,11 +355,11 @@ impl<'a> Finder<'a> {
 
     /// Cycles of pairs and kept links, where pairs alone are in no circle.
     fn by_links(&mut self, alloc: Global, stuck: &Stuck) -> Result<(), NoMemory> {
-        let relation = Relation::of(alloc, self.pairs, &stuck.kept)?;
+        let adjacency = Adjacency::of(alloc, self.pairs, &stuck.kept)?;
         self.allow();
-        unless_spent(self.through_init(alloc, relation.links_into(0)))?;
+        unless_spent(self.through_init(alloc, adjacency.links_into(0)))?;
         if self.goes_on() {
-            let among = Trimmed::of(alloc, &relation, &stuck.placed)?;
+            let among = Trimmed::of(alloc, &adjacency, &stuck.placed)?;
             self.around(alloc, &among)?;
         }
         Ok(())

@@ -3,6 +3,7 @@
 //! That a cycle of four steps at most is a least one is proved by a look at each place.
 #![tactic(auto)]
 
+mod adjacency;
 mod answer;
 mod back_edges;
 mod breadth_first;
@@ -20,7 +21,6 @@ mod ordering;
 mod pairs;
 mod reaching;
 mod reasons;
-mod relation;
 mod retracing;
 mod reverse_search;
 mod session_prefixes;

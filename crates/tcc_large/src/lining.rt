@@ -4,7 +4,7 @@
 use crate::components::Components;
 use crate::ordering::Ordering;
 use crate::pairs::Pairs;
-use crate::relation::Relation;
+use crate::adjacency::Adjacency;
 use std::alloc::Global;
 use tcc_graph::LargeGraph;
 use tcc_order::Stuck;
@@ -36,9 +36,9 @@ pub(crate) fn order_to_judge(
     stuck: &Stuck,
 ) -> Result<Option<Vec<u32>>, NoMemory> {
     let pairs = Pairs::of(alloc, graph)?;
-    let relation = Relation::of(alloc, &pairs, &stuck.kept)?;
-    let components = Components::of(alloc, &relation)?;
-    let mut ordering = Ordering::new(alloc, &relation, components.numbers())?;
+    let adjacency = Adjacency::of(alloc, &pairs, &stuck.kept)?;
+    let components = Components::of(alloc, &adjacency)?;
+    let mut ordering = Ordering::new(alloc, &adjacency, components.numbers())?;
     let mut order = Vec::new(alloc);
     order.push(0)?;
     for index in 0..components.count() {

@@ -1,7 +1,7 @@
 //! An order of transactions, group by group, that keeps all pairs, and links as far as they go: Kahn's algorithm, in which what waits
 //! for links alone is put next where nothing else can be. It looks at each pair and link of a group twice.
 use crate::cells::Cells;
-use crate::relation::Relation;
+use crate::adjacency::Adjacency;
 use std::alloc::{AllocError, Global};
 use tcc_txn::NoMemory;
 
@@ -9,7 +9,7 @@ use tcc_txn::NoMemory;
 /// wait for nothing, and which for links alone.
 #[derive(Drop)]
 pub(crate) struct Ordering<'a> {
-    relation: &'a Relation<'a>,
+    adjacency: &'a Adjacency<'a>,
     groups: &'a Cells,
     pairs: Cells,
     links: Cells,
@@ -23,12 +23,12 @@ impl<'a> Ordering<'a> {
     /// Nothing is placed yet, nor open. Of each transaction the number of its group is given, 0 where it has none.
     pub(crate) fn new(
         alloc: Global,
-        relation: &'a Relation<'a>,
+        adjacency: &'a Adjacency<'a>,
         groups: &'a Cells,
     ) -> Result<Ordering<'a>, NoMemory> {
-        let count = relation.pairs().count();
+        let count = adjacency.pairs().count();
         let mut ordering = Ordering {
-            relation,
+            adjacency,
             groups,
             pairs: Cells::new(alloc, count as usize, 0)?,
             links: Cells::new(alloc, count as usize, 0)?,
@@ -50,17 +50,17 @@ impl<'a> Ordering<'a> {
 
     /// Counts what a transaction waits for.
     fn count(&mut self, number: u32) {
-        for from in self.relation.links_into(number) {
+        for from in self.adjacency.links_into(number) {
             if self.are_together(*from, number) {
                 self.links.add_one(number);
             }
         }
-        for (_key_index, source) in self.relation.pairs().reads(number) {
+        for (_key_index, source) in self.adjacency.pairs().reads(number) {
             if self.are_together(*source, number) {
                 self.pairs.add_one(number);
             }
         }
-        if let Some(previous) = self.relation.pairs().previous(number) {
+        if let Some(previous) = self.adjacency.pairs().previous(number) {
             if self.are_together(previous, number) {
                 self.pairs.add_one(number);
             }
@@ -108,17 +108,17 @@ impl<'a> Ordering<'a> {
     /// Puts a transaction next; what waits for it waits for one less.
     pub(crate) fn put(&mut self, number: u32) -> Result<(), AllocError> {
         self.placed.set(number, 1);
-        for reader in self.relation.pairs().readings(number).0 {
+        for reader in self.adjacency.pairs().readings(number).0 {
             if self.are_together(number, *reader) && self.pairs.less_one(*reader) {
                 self.open(*reader)?;
             }
         }
-        for to in self.relation.links_from(number) {
+        for to in self.adjacency.links_from(number) {
             if self.are_together(number, *to) && self.links.less_one(*to) {
                 self.open(*to)?;
             }
         }
-        if let Some(next) = self.relation.pairs().next(number) {
+        if let Some(next) = self.adjacency.pairs().next(number) {
             if self.are_together(number, next) && self.pairs.less_one(next) {
                 self.open(next)?;
             }
