@@ -10,7 +10,7 @@ ghost use Rattle.tcc_order.specs.Placements.{IsPlacement};
 
 use crate::decision::Decision;
 use crate::cycle_search::found_cycle;
-use crate::lining::order_to_judge;
+use crate::component_order::order_to_judge;
 use crate::retracing::StuckOrder;
 use crate::simple::simple_cycle;
 use std::alloc::Global;

@@ -1,5 +1,7 @@
-//! An order of transactions, group by group, that keeps all pairs, and links as far as they go: Kahn's algorithm, in which what waits
-//! for links alone is put next where nothing else can be. It looks at each pair and link of a group twice.
+//! Kahn's algorithm (Kahn, Topological sorting of large networks, CACM 5, 1962), group by group: an order of transactions that
+//! keeps all pairs, and links as far as they go. Each counts the pairs and the links of its group that it waits for; one that waits
+//! for links alone is put next where nothing else can be. Each pair and link is looked at twice: O(N + R + E) for N transactions, R
+//! reads and E links.
 use crate::cells::Cells;
 use crate::adjacency::Adjacency;
 use std::alloc::{AllocError, Global};
@@ -8,7 +10,7 @@ use tcc_txn::NoMemory;
 /// Such an order as far as it was made: how many pairs and links of its own group each transaction waits for, which are placed, which
 /// wait for nothing, and which for links alone.
 #[derive(Drop)]
-pub(crate) struct Ordering<'a> {
+pub(crate) struct Kahn<'a> {
     adjacency: &'a Adjacency<'a>,
     groups: &'a Cells,
     pairs: Cells,
@@ -19,15 +21,15 @@ pub(crate) struct Ordering<'a> {
     taken: usize,
 }
 
-impl<'a> Ordering<'a> {
+impl<'a> Kahn<'a> {
     /// Nothing is placed yet, nor open. Of each transaction the number of its group is given, 0 where it has none.
     pub(crate) fn new(
         alloc: Global,
         adjacency: &'a Adjacency<'a>,
         groups: &'a Cells,
-    ) -> Result<Ordering<'a>, NoMemory> {
+    ) -> Result<Kahn<'a>, NoMemory> {
         let count = adjacency.pairs().count();
-        let mut ordering = Ordering {
+        let mut kahn = Kahn {
             adjacency,
             groups,
             pairs: Cells::new(alloc, count as usize, 0)?,
@@ -38,9 +40,9 @@ impl<'a> Ordering<'a> {
             taken: 0,
         };
         for number in 1..count {
-            ordering.count(number);
+            kahn.count(number);
         }
-        Ok(ordering)
+        Ok(kahn)
     }
 
     /// Whether two transactions are in one group.
