@@ -7,7 +7,7 @@ use crate::closings::{between, closings};
 use crate::cycle_links::Linker;
 use crate::pairs::{Pair, Pairs, span};
 use crate::adjacency::Adjacency;
-use crate::retracing::StuckOrder;
+use crate::predecessor_cycle::StuckOrder;
 use crate::trimming::Trimmed;
 use crate::work::{Halt, Work, unless_spent};
 use std::alloc::{AllocError, Global};

@@ -19,13 +19,13 @@ mod explaining;
 mod kahn;
 pub mod laws;
 mod pairs;
-mod reaching;
+mod predecessor_cycle;
+mod reachability;
 mod reasons;
-mod retracing;
 mod reverse_search;
 mod session_prefixes;
 mod shortest_walks;
-mod simple;
+mod simple_cycle;
 mod trimming;
 mod work;
 

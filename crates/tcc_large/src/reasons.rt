@@ -6,7 +6,7 @@ ghost use Rattle.tcc_graph.specs.Links.{MayContradict};
 ghost use Rattle.tcc_order.specs.Placements.{IsDerivedPair};
 ghost use Rattle.tcc_large.specs.private.Retracing.{IsHeldBack, IsLinkBetween};
 
-use crate::reaching::Reach;
+use crate::reachability::Reach;
 use std::alloc::Global;
 use tcc_graph::{LargeGraph, Level, Link};
 use tcc_least::two_step_link;

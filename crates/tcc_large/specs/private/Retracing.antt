@@ -6,7 +6,7 @@ use Rattle.tcc_graph.specs.Relations.{IsCausalPair}
 use Rattle.tcc_graph.specs.Links.{IsLink, link_from, link_to}
 use Rattle.tcc_graph.specs.declared.link.Link.{Link}
 use Rattle.tcc_order.specs.Placements.{IsDerivedPair, IsStuck}
-use Rattle.tcc_large.specs.declared.retracing.StuckOrder.{StuckOrder}
+use Rattle.tcc_large.specs.declared.predecessor_cycle.StuckOrder.{StuckOrder}
 
 -- a history at its level, and that an order of it stops
 abbrev pub judged_at : StuckOrder → Judged
