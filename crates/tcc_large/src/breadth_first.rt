@@ -1,7 +1,7 @@
 //! Shortest ways by pairs and links among some transactions: breadth-first search, backwards (`reverse_search`). A transaction that
 //! was met leads on to the one that it was met from. O(N + R + E) for N transactions, R reads and E links.
-use crate::reverse_search::ReverseSearch;
 use crate::pairs::Pairs;
+use crate::reverse_search::ReverseSearch;
 use crate::trimming::Trimmed;
 use crate::work::{Halt, Work};
 use std::alloc::{AllocError, Global};

@@ -2,8 +2,8 @@
 //! and its applications in data flow analysis, 1981): what a search in depth forwards leaves last begins the next component, and
 //! the rest of it is what a search backwards from there comes to. So between two components pairs and links lead onward. It goes
 //! over each pair and link twice: O(N + R + E) for N transactions, R reads and E links.
-use crate::cells::Cells;
 use crate::adjacency::{Adjacency, Side};
+use crate::cells::Cells;
 use std::alloc::Global;
 use tcc_txn::NoMemory;
 
@@ -85,7 +85,7 @@ pub(crate) struct Components {
 }
 
 impl Components {
-    /// Those of a adjacency.
+    /// Those of the pairs and links.
     pub(crate) fn of(alloc: Global, adjacency: &Adjacency<'_>) -> Result<Components, NoMemory> {
         let mut components = Components {
             members: Vec::new(alloc),

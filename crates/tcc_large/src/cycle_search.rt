@@ -1,12 +1,12 @@
 //! A search for a short cycle, by the links that an order kept until it stopped. What it finds is trusted by nobody, and not always
 //! the least. With N transactions, R reads and E kept links it takes O(N + R + E) steps: what goes over all goes over all once, and
 //! each search stops at a limit of work.
+use crate::adjacency::Adjacency;
 use crate::back_edges::back_edges;
 use crate::breadth_first::BreadthFirst;
 use crate::closings::{between, closings};
 use crate::cycle_links::Linker;
 use crate::pairs::{Pair, Pairs, span};
-use crate::adjacency::Adjacency;
 use crate::predecessor_cycle::StuckOrder;
 use crate::trimming::Trimmed;
 use crate::work::{Halt, Work, unless_spent};

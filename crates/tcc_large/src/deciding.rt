@@ -8,9 +8,9 @@ ghost use Rattle.tcc_large.specs.private.Retracing.{IsStuckAt, judged_at};
 ghost use Rattle.tcc_graph.specs.Levels.{judged};
 ghost use Rattle.tcc_order.specs.Placements.{IsPlacement};
 
-use crate::decision::Decision;
-use crate::cycle_search::found_cycle;
 use crate::component_order::order_to_judge;
+use crate::cycle_search::found_cycle;
+use crate::decision::Decision;
 use crate::predecessor_cycle::StuckOrder;
 use crate::simple_cycle::simple_cycle;
 use std::alloc::Global;

@@ -15,7 +15,10 @@ pub(crate) struct SessionPrefixes<'a> {
 
 impl<'a> SessionPrefixes<'a> {
     /// Before the first search.
-    pub(crate) fn new(alloc: Global, pairs: &'a Pairs<'a>) -> Result<SessionPrefixes<'a>, NoMemory> {
+    pub(crate) fn new(
+        alloc: Global,
+        pairs: &'a Pairs<'a>,
+    ) -> Result<SessionPrefixes<'a>, NoMemory> {
         let sessions = pairs.session_count();
         Ok(SessionPrefixes {
             pairs,

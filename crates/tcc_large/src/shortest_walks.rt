@@ -1,9 +1,9 @@
 //! Shortest walks: breadth-first search by pairs, backwards (`reverse_search`), from some ends to the nearest of some starts. Each
 //! transaction that was met has the pair that it leads on by, so the steps are read off from the start on. O(N + R) for N
 //! transactions and R reads.
-use crate::reverse_search::ReverseSearch;
 use crate::cells::Cells;
 use crate::pairs::{Pairs, span};
+use crate::reverse_search::ReverseSearch;
 use crate::work::{Halt, Work};
 use std::alloc::{AllocError, Global};
 use tcc_graph::Step;
@@ -25,11 +25,7 @@ impl<'a> ShortestWalks<'a> {
     pub(crate) fn new(alloc: Global, pairs: &'a Pairs<'a>) -> Result<ShortestWalks<'a>, NoMemory> {
         let reverse = ReverseSearch::new(alloc, pairs)?;
         let by = Cells::new(alloc, pairs.count() as usize, 0)?;
-        Ok(ShortestWalks {
-            pairs,
-            reverse,
-            by,
-        })
+        Ok(ShortestWalks { pairs, reverse, by })
     }
 
     /// A shortest walk from one of the wanted transactions, which ascend, to one of these ends; none where there is none of so many
