@@ -7,7 +7,7 @@ ghost use Rattle.tcc_growth.specs.Growth.{IsFirstMissing};
 ghost use Rattle.tcc_growth.specs.Moved.{moved};
 ghost use Rattle.tcc_graph.specs.Renumbered.{link_by};
 
-use crate::moving::ByLabel;
+use crate::renumbering::ByLabel;
 use std::alloc::Global;
 use tcc_answer::Labels;
 use tcc_graph::{Graph, Level, Link};

@@ -1,7 +1,7 @@
 use Rattle.std.proofs.Common.{length, map, string_bytes, sym, ap, ◌∙◌}
 use Rattle.tcc_growth.specs.Moved.{number_among}
 use Rattle.tcc_growth.proofs.Searching.{looked}
-use Rattle.tcc_growth.proofs.moving.moved.Goals as goal
+use Rattle.tcc_growth.proofs.renumbering.moved.Goals as goal
 
 pub returns-then-index-earlier : goal.returns-then-index-earlier
 returns-then-index-earlier c =

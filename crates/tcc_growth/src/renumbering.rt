@@ -1,4 +1,5 @@
-//! Numbers of an earlier history, by the labels of their transactions, in a later one.
+//! Numbers of an earlier history in those of a later one, by the labels of their transactions: label by label, O(N) a look for N
+//! transactions.
 ghost use Rattle.std.specs.Prelude.{◌≡◌, length, map, string_bytes};
 ghost use Rattle.tcc_growth.specs.Moved.{moved, number_among};
 
