@@ -9,13 +9,13 @@ use tcc_txn::NoMemory;
 
 /// Searches backwards among transactions that are marked.
 #[derive(Drop)]
-pub(crate) struct BreadthFirst<'a> {
-    reverse: ReverseSearch<'a>,
+pub(crate) struct BreadthFirst {
+    reverse: ReverseSearch,
 }
 
-impl<'a> BreadthFirst<'a> {
+impl BreadthFirst {
     /// Before the first search.
-    pub(crate) fn new(alloc: Global, pairs: &'a Pairs<'a>) -> Result<BreadthFirst<'a>, NoMemory> {
+    pub(crate) fn new(alloc: Global, pairs: &Pairs<'_>) -> Result<BreadthFirst, NoMemory> {
         let reverse = ReverseSearch::new(alloc, pairs)?;
         Ok(BreadthFirst { reverse })
     }
@@ -30,15 +30,12 @@ impl<'a> BreadthFirst<'a> {
         ends: (u32, u32),
         most: usize,
     ) -> Result<Option<Vec<u32>>, Halt> {
-        self.reverse.begin();
+        self.reverse.begin(most);
         self.meet(among, ends.1, ends.1)?;
         for _turn in 0..among.pairs().count() {
             let Some(number) = self.reverse.take() else {
                 break;
             };
-            if self.reverse.depth() > most {
-                break;
-            }
             self.look(work, among, number)?;
             if self.reverse.is_met(ends.0) {
                 return Ok(Some(self.trail(alloc, among.pairs().count(), ends.0)?));
@@ -59,7 +56,7 @@ impl<'a> BreadthFirst<'a> {
     fn look(&mut self, work: &mut Work, among: &Trimmed<'_>, number: u32) -> Result<(), Halt> {
         let links = among.adjacency().links_into(number);
         let reads = among.pairs().reads(number);
-        let low = self.reverse.cover(number);
+        let low = self.reverse.cover(among.pairs(), number);
         work.take(links.len())?;
         work.take(reads.len())?;
         work.take(number.saturating_sub(low) as usize)?;

@@ -9,10 +9,9 @@ use tcc_txn::{Name, NoMemory};
 
 /// Finds the link between two transactions.
 #[derive(Drop)]
-pub(crate) struct Linker<'a> {
-    pairs: &'a Pairs<'a>,
+pub(crate) struct Linker {
     longest: usize,
-    walks: ShortestWalks<'a>,
+    walks: ShortestWalks,
 }
 
 /// The number behind an index of a circle.
@@ -100,23 +99,15 @@ fn derived_by(pairs: &Pairs<'_>, walk: Walk, to: u32, readers: &[(u32, u32)]) ->
     })
 }
 
-impl<'a> Linker<'a> {
+impl Linker {
     /// For a history at a level.
-    pub(crate) fn new(
-        alloc: Global,
-        pairs: &'a Pairs<'a>,
-        level: Level,
-    ) -> Result<Linker<'a>, NoMemory> {
+    pub(crate) fn new(alloc: Global, pairs: &Pairs<'_>, level: Level) -> Result<Linker, NoMemory> {
         let longest = match level {
             Level::Atomic => 1,
             Level::Causal => usize::MAX,
         };
         let walks = ShortestWalks::new(alloc, pairs)?;
-        Ok(Linker {
-            pairs,
-            longest,
-            walks,
-        })
+        Ok(Linker { longest, walks })
     }
 
     /// A derived link to a transaction from one of these writers of what the readers read from it, by a shortest walk; none where it
@@ -125,6 +116,7 @@ impl<'a> Linker<'a> {
         &mut self,
         alloc: Global,
         work: &mut Work,
+        pairs: &Pairs<'_>,
         wanted: &[u32],
         to: u32,
         readers: &[(u32, u32)],
@@ -135,9 +127,9 @@ impl<'a> Linker<'a> {
             ends.push(*reader)?;
         }
         let most = most.saturating_sub(1).min(self.longest);
-        let steps = self.walks.walk(alloc, work, wanted, &ends, most)?;
+        let steps = self.walks.walk(alloc, work, pairs, wanted, &ends, most)?;
         match steps {
-            Some(steps) => Ok(derived_by(self.pairs, Walk::new(steps), to, readers)),
+            Some(steps) => Ok(derived_by(pairs, Walk::new(steps), to, readers)),
             None => Ok(None),
         }
     }
@@ -147,15 +139,16 @@ impl<'a> Linker<'a> {
         &mut self,
         alloc: Global,
         work: &mut Work,
+        pairs: &Pairs<'_>,
         ends: (u32, u32),
         most: usize,
     ) -> Result<Option<Link>, Halt> {
         let (from, to) = ends;
-        if let Some(step) = step(self.pairs, from, to) {
+        if let Some(step) = step(pairs, from, to) {
             return Ok(Some(Link::of(step)));
         }
-        let readers = contradicted(alloc, work, self.pairs, from, to)?;
-        self.derived(alloc, work, &[from], to, &readers, most)
+        let readers = contradicted(alloc, work, pairs, from, to)?;
+        self.derived(alloc, work, pairs, &[from], to, &readers, most)
     }
 
     /// The links along a circle, where together they cost less than so many steps; none where two that follow each other have
@@ -164,10 +157,11 @@ impl<'a> Linker<'a> {
         &mut self,
         alloc: Global,
         work: &mut Work,
+        pairs: &Pairs<'_>,
         circle: &[u32],
         below: usize,
     ) -> Result<Option<Vec<Link>>, Halt> {
-        let circle = without_runs(alloc, self.pairs, circle)?;
+        let circle = without_runs(alloc, pairs, circle)?;
         let mut links = Vec::new(alloc);
         // each link that is not there yet costs a step at least
         let mut most = below.saturating_sub(circle.len());
@@ -175,7 +169,7 @@ impl<'a> Linker<'a> {
             let Some(to) = following(&circle, index) else {
                 return Ok(None);
             };
-            let Some(link) = self.link(alloc, work, (*from, to), most)? else {
+            let Some(link) = self.link(alloc, work, pairs, (*from, to), most)? else {
                 return Ok(None);
             };
             let more = (link.cost() as usize).saturating_sub(1);

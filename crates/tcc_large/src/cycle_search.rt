@@ -7,12 +7,11 @@ use crate::breadth_first::BreadthFirst;
 use crate::closings::{between, closings};
 use crate::cycle_links::Linker;
 use crate::pairs::{Pair, Pairs, span};
-use crate::predecessor_cycle::StuckOrder;
 use crate::trimming::Trimmed;
 use crate::work::{Halt, Work, unless_spent};
 use std::alloc::{AllocError, Global};
 use tcc_bits::Row;
-use tcc_graph::{Level, Link};
+use tcc_graph::{LargeGraph, Level, Link};
 use tcc_order::Stuck;
 use tcc_txn::NoMemory;
 
@@ -61,8 +60,8 @@ impl Cheapest {
 #[derive(Drop)]
 struct Finder<'a> {
     pairs: &'a Pairs<'a>,
-    linker: Linker<'a>,
-    breadth_first: BreadthFirst<'a>,
+    linker: Linker,
+    breadth_first: BreadthFirst,
     work: Work,
     cheapest: Cheapest,
 }
@@ -136,7 +135,9 @@ impl<'a> Finder<'a> {
     /// The links along transactions that stand in a circle.
     fn along(&mut self, alloc: Global, circle: &[u32]) -> Result<(), Halt> {
         let below = self.cheapest.below;
-        let links = self.linker.links(alloc, &mut self.work, circle, below)?;
+        let links = self
+            .linker
+            .links(alloc, &mut self.work, self.pairs, circle, below)?;
         if let Some(links) = links {
             self.cheapest.offer(links);
         }
@@ -171,7 +172,7 @@ impl<'a> Finder<'a> {
         let work = &mut self.work;
         let back = self
             .linker
-            .derived(alloc, work, wanted, source, &readers, most)?;
+            .derived(alloc, work, self.pairs, wanted, source, &readers, most)?;
         if let Some(back) = back {
             self.offer_back(alloc, source, back)?;
         }
@@ -304,7 +305,7 @@ impl<'a> Finder<'a> {
             .saturating_sub(1);
         let past = (before.from(), behind.to());
         let work = &mut self.work;
-        let link = self.linker.link(alloc, work, past, most)?;
+        let link = self.linker.link(alloc, work, self.pairs, past, most)?;
         if link.is_none() {
             return Ok(false);
         }
@@ -383,10 +384,12 @@ impl<'a> Finder<'a> {
 /// through `init`, of a pair and a link, and of shortest ones, by links, through some that lead back in an order of all pairs.
 pub(crate) fn found_cycle(
     alloc: Global,
-    at: StuckOrder<'_>,
+    graph: &LargeGraph,
+    level: Level,
+    stuck: &Stuck,
 ) -> Result<Option<Vec<Link>>, NoMemory> {
-    let pairs = Pairs::of(alloc, at.graph)?;
-    let mut finder = Finder::new(alloc, &pairs, at.level)?;
-    finder.find(alloc, at.level, at.stuck)?;
+    let pairs = Pairs::of(alloc, graph)?;
+    let mut finder = Finder::new(alloc, &pairs, level)?;
+    finder.find(alloc, level, stuck)?;
     Ok(finder.cheapest.links.take())
 }

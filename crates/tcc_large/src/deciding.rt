@@ -35,11 +35,11 @@ fn steps_of(links: &[Link]) -> Result<u64, NoMemory>
 }
 
 /// The links of a cycle of a history at a level in which an order stops. The finder is asked first, and what it finds is judged.
-fn any_cycle(alloc: Global, at: StuckOrder<'_>) -> Result<Vec<Link>, NoMemory>
-    requires { IsStuckAt at }
-    ensures { IfOk result (λ links. AreCycle (judged_at at) links.items) }
+fn any_cycle(alloc: Global, at: &StuckOrder<'_>) -> Result<Vec<Link>, NoMemory>
+    requires { IsStuckAt at.now }
+    ensures { IfOk result (λ links. AreCycle (judged_at at.now) links.items) }
 {
-    if let Some(links) = found_cycle(alloc, at)? {
+    if let Some(links) = found_cycle(alloc, at.graph, at.level, at.stuck)? {
         if is_cycle(at.graph, at.level, &links) {
             return Ok(links);
         }
@@ -49,9 +49,9 @@ fn any_cycle(alloc: Global, at: StuckOrder<'_>) -> Result<Vec<Link>, NoMemory>
 
 /// What is decided of a history in which an order stops: a cycle of three steps at most where there is one; else another that passes
 /// no transaction twice, which is a least one where it costs four steps.
-fn by_cycle(alloc: Global, at: StuckOrder<'_>) -> Result<Decision, NoMemory>
-    requires { IsStuckAt at }
-    ensures { IfOk result (IsDecision (judged_at at)) }
+fn by_cycle(alloc: Global, at: &StuckOrder<'_>) -> Result<Decision, NoMemory>
+    requires { IsStuckAt at.now }
+    ensures { IfOk result (IsDecision (judged_at at.now)) }
 {
     if let Some(least) = least_short(alloc, at.graph, 4)? {
         return Ok(Decision::Least(least));
@@ -82,7 +82,7 @@ pub(crate) fn decide_with_order(
                 level,
                 stuck: &stuck,
             };
-            let decision = by_cycle(alloc, at)?;
+            let decision = by_cycle(alloc, &at)?;
             let order = match &decision {
                 Decision::Cycle(_) => order_to_judge(alloc, graph, &stuck)?,
                 Decision::Order(_) | Decision::Least(_) => None,
@@ -105,7 +105,7 @@ pub fn decide(alloc: Global, graph: &LargeGraph, level: Level) -> Result<Decisio
                 level,
                 stuck: &stuck,
             };
-            by_cycle(alloc, at)
+            by_cycle(alloc, &at)
         }
     }
 }

@@ -20,7 +20,7 @@ use tcc_order::Stuck;
 use tcc_txn::NoMemory;
 
 /// A history at a level, and where an order of it stops.
-#[derive(Clone, Copy)]
+#[derive(Drop)]
 pub(crate) struct StuckOrder<'a> {
     pub graph: &'a LargeGraph,
     pub level: Level,
@@ -79,9 +79,9 @@ fn links_round(
 
 impl StuckOrder<'_> {
     /// The first transaction that is left.
-    fn first_of_all(self) -> u32
-        requires { IsStuckAt self }
-        ensures { IsLeft (judged_at self) self.stuck.now.placed.items result }
+    fn first_of_all(&self) -> u32
+        requires { IsStuckAt self.now }
+        ensures { IsLeft (judged_at self.now) self.now.stuck.now.placed.items result }
     {
         for number in 0..self.graph.count() {
             if !is_marked(&self.stuck.placed, number as usize) {
@@ -92,11 +92,11 @@ impl StuckOrder<'_> {
     }
 
     /// A transaction that is left and holds this one back: by a pair if one does, and of its session the first.
-    fn one_before(self, alloc: Global, number: u32) -> Result<u32, NoMemory>
-        requires stuck { IsStuckAt self }
-        requires left { IsLeft (judged_at self) self.stuck.now.placed.items number }
-        ensures left { IfOk result (IsLeft (judged_at self) self.stuck.now.placed.items) }
-        ensures held { IfOk result (λ before. IsHeldBack (judged_at self) before number) }
+    fn one_before(&self, alloc: Global, number: u32) -> Result<u32, NoMemory>
+        requires stuck { IsStuckAt self.now }
+        requires left { IsLeft (judged_at self.now) self.now.stuck.now.placed.items number }
+        ensures left { IfOk result (IsLeft (judged_at self.now) self.now.stuck.now.placed.items) }
+        ensures held { IfOk result (λ before. IsHeldBack (judged_at self.now) before number) }
     {
         self.graph.numbered();
         let first = earliest_left(self.graph, &self.stuck.placed, number);
@@ -115,9 +115,9 @@ impl StuckOrder<'_> {
     }
 
     /// Transactions each of which is held back by the next one, from one until it comes again.
-    fn round(self, alloc: Global) -> Result<Vec<u32>, NoMemory>
-        requires { IsStuckAt self }
-        ensures { IfOk result (λ numbers. GoesRound (judged_at self) numbers.items) }
+    fn round(&self, alloc: Global) -> Result<Vec<u32>, NoMemory>
+        requires { IsStuckAt self.now }
+        ensures { IfOk result (λ numbers. GoesRound (judged_at self.now) numbers.items) }
     {
         let mut positions = Cells::new(alloc, self.graph.count() as usize, 0)?;
         let mut trail = Vec::new(alloc);
@@ -136,9 +136,9 @@ impl StuckOrder<'_> {
     }
 
     /// The links of a cycle.
-    pub(crate) fn cycle(self, alloc: Global) -> Result<Vec<Link>, NoMemory>
-        requires { IsStuckAt self }
-        ensures { IfOk result (λ links. AreCycle (judged_at self) links.items) }
+    pub(crate) fn cycle(&self, alloc: Global) -> Result<Vec<Link>, NoMemory>
+        requires { IsStuckAt self.now }
+        ensures { IfOk result (λ links. AreCycle (judged_at self.now) links.items) }
     {
         let numbers = self.round(alloc)?;
         links_round(alloc, self.graph, self.level, &numbers)

@@ -9,42 +9,45 @@ use std::alloc::{AllocError, Global};
 use tcc_txn::NoMemory;
 
 /// What a search backwards has met, and where each transaction leads on to. It serves for many searches, of which each has a
-/// turn of its own.
+/// turn of its own, and a depth that it doesn't go past.
 #[derive(Drop)]
-pub(crate) struct ReverseSearch<'a> {
+pub(crate) struct ReverseSearch {
     turn: u32,
     met: Cells,
     next: Cells,
-    prefixes: SessionPrefixes<'a>,
+    prefixes: SessionPrefixes,
     queue: Vec<u32>,
     head: usize,
     level_end: usize,
     depth: usize,
+    most: usize,
 }
 
-impl<'a> ReverseSearch<'a> {
+impl ReverseSearch {
     /// Before the first search.
-    pub(crate) fn new(alloc: Global, pairs: &'a Pairs<'a>) -> Result<ReverseSearch<'a>, NoMemory> {
+    pub(crate) fn new(alloc: Global, pairs: &Pairs<'_>) -> Result<ReverseSearch, NoMemory> {
         let count = pairs.count() as usize;
         Ok(ReverseSearch {
             turn: 0,
             met: Cells::new(alloc, count, 0)?,
             next: Cells::new(alloc, count, 0)?,
-            prefixes: SessionPrefixes::new(alloc, pairs)?,
+            prefixes: SessionPrefixes::new(alloc, pairs.session_count())?,
             queue: Vec::new(alloc),
             head: 0,
             level_end: 0,
             depth: 0,
+            most: 0,
         })
     }
 
-    /// Begins the next search.
-    pub(crate) fn begin(&mut self) {
+    /// Begins the next search, which comes so far at most.
+    pub(crate) fn begin(&mut self, most: usize) {
         self.turn = self.turn.saturating_add(1);
         self.queue.clear();
         self.head = 0;
         self.level_end = 0;
         self.depth = 0;
+        self.most = most;
     }
 
     /// Takes in a transaction that leads on to the next one, and says whether it wasn't met before.
@@ -63,20 +66,23 @@ impl<'a> ReverseSearch<'a> {
         self.met.get(number) == self.turn
     }
 
-    /// The next transaction to go on from, in the order in which they were met.
+    /// The next transaction to go on from, in the order in which they were met; none where those that lead to it would be too far.
     pub(crate) fn take(&mut self) -> Option<u32> {
         let number = self.queue.get(self.head).copied()?;
         if self.head >= self.level_end {
             self.level_end = self.queue.len();
             self.depth = self.depth.saturating_add(1);
         }
+        if self.depth > self.most {
+            return None;
+        }
         self.head = self.head.saturating_add(1);
         Some(number)
     }
 
-    /// How far from where the search began those are that lead to the transaction that was taken last.
-    pub(crate) fn depth(&self) -> usize {
-        self.depth
+    /// Whether those that lead to the transaction that was taken last are as far as the search comes.
+    pub(crate) fn is_last(&self) -> bool {
+        self.depth == self.most
     }
 
     /// Where a transaction leads on to; to itself where the search began.
@@ -85,7 +91,7 @@ impl<'a> ReverseSearch<'a> {
     }
 
     /// From which number on those before this one in its session weren't taken in yet; from now on they are.
-    pub(crate) fn cover(&mut self, number: u32) -> u32 {
-        self.prefixes.take(number, self.turn)
+    pub(crate) fn cover(&mut self, pairs: &Pairs<'_>, number: u32) -> u32 {
+        self.prefixes.take(pairs, number, self.turn)
     }
 }

@@ -7,30 +7,24 @@ use tcc_txn::NoMemory;
 
 /// Of each session the number below which nothing was taken in yet; for many searches, of which each has a turn of its own.
 #[derive(Drop)]
-pub(crate) struct SessionPrefixes<'a> {
-    pairs: &'a Pairs<'a>,
+pub(crate) struct SessionPrefixes {
     turns: Cells,
     ends: Cells,
 }
 
-impl<'a> SessionPrefixes<'a> {
-    /// Before the first search.
-    pub(crate) fn new(
-        alloc: Global,
-        pairs: &'a Pairs<'a>,
-    ) -> Result<SessionPrefixes<'a>, NoMemory> {
-        let sessions = pairs.session_count();
+impl SessionPrefixes {
+    /// For so many sessions, before the first search.
+    pub(crate) fn new(alloc: Global, sessions: usize) -> Result<SessionPrefixes, NoMemory> {
         Ok(SessionPrefixes {
-            pairs,
             turns: Cells::new(alloc, sessions, 0)?,
             ends: Cells::new(alloc, sessions, 0)?,
         })
     }
 
     /// From which number on those before this one in its session weren't taken in yet; from now on they are.
-    pub(crate) fn take(&mut self, number: u32, turn: u32) -> u32 {
-        let owner = self.pairs.owner(number);
-        let mut low = self.pairs.first(owner);
+    pub(crate) fn take(&mut self, pairs: &Pairs<'_>, number: u32, turn: u32) -> u32 {
+        let owner = pairs.owner(number);
+        let mut low = pairs.first(owner);
         if self.turns.get(owner) == turn {
             low = low.max(self.ends.get(owner));
         }

@@ -14,18 +14,17 @@ const BY_SESSION: u32 = u32::MAX;
 
 /// Searches backwards by pairs, with what each transaction leads on by.
 #[derive(Drop)]
-pub(crate) struct ShortestWalks<'a> {
-    pairs: &'a Pairs<'a>,
-    reverse: ReverseSearch<'a>,
+pub(crate) struct ShortestWalks {
+    reverse: ReverseSearch,
     by: Cells,
 }
 
-impl<'a> ShortestWalks<'a> {
+impl ShortestWalks {
     /// Before the first search.
-    pub(crate) fn new(alloc: Global, pairs: &'a Pairs<'a>) -> Result<ShortestWalks<'a>, NoMemory> {
+    pub(crate) fn new(alloc: Global, pairs: &Pairs<'_>) -> Result<ShortestWalks, NoMemory> {
         let reverse = ReverseSearch::new(alloc, pairs)?;
         let by = Cells::new(alloc, pairs.count() as usize, 0)?;
-        Ok(ShortestWalks { pairs, reverse, by })
+        Ok(ShortestWalks { reverse, by })
     }
 
     /// A shortest walk from one of the wanted transactions, which ascend, to one of these ends; none where there is none of so many
@@ -34,25 +33,22 @@ impl<'a> ShortestWalks<'a> {
         &mut self,
         alloc: Global,
         work: &mut Work,
+        pairs: &Pairs<'_>,
         wanted: &[u32],
         ends: &[u32],
         most: usize,
     ) -> Result<Option<Vec<Step>>, Halt> {
-        self.reverse.begin();
+        self.reverse.begin(most);
         work.take(ends.len())?;
         for end in ends {
             self.meet(*end, *end, BY_SESSION)?;
         }
-        for _turn in 0..self.pairs.count() {
+        for _turn in 0..pairs.count() {
             let Some(number) = self.reverse.take() else {
                 break;
             };
-            if self.reverse.depth() > most {
-                break;
-            }
-            let is_last = self.reverse.depth() == most;
-            if let Some((start, by)) = self.search(work, wanted, number, is_last)? {
-                return Ok(Some(self.steps(alloc, start, number, by)?));
+            if let Some((start, by)) = self.search(work, pairs, wanted, number)? {
+                return Ok(Some(self.steps(alloc, pairs, start, number, by)?));
             }
         }
         Ok(None)
@@ -71,20 +67,20 @@ impl<'a> ShortestWalks<'a> {
     fn search(
         &mut self,
         work: &mut Work,
+        pairs: &Pairs<'_>,
         wanted: &[u32],
         number: u32,
-        is_last: bool,
     ) -> Result<Option<(u32, u32)>, Halt> {
-        if let Some(start) = self.search_session(work, wanted, number, is_last)? {
+        if let Some(start) = self.search_session(work, pairs, wanted, number)? {
             return Ok(Some((start, BY_SESSION)));
         }
-        let reads = self.pairs.reads(number);
+        let reads = pairs.reads(number);
         work.take(reads.len())?;
         for (key_index, source) in reads {
             if wanted.binary_search(source).is_ok() {
                 return Ok(Some((*source, *key_index)));
             }
-            if *source != 0 && !is_last {
+            if *source != 0 && !self.reverse.is_last() {
                 self.meet(*source, number, *key_index)?;
             }
         }
@@ -95,16 +91,16 @@ impl<'a> ShortestWalks<'a> {
     fn search_session(
         &mut self,
         work: &mut Work,
+        pairs: &Pairs<'_>,
         wanted: &[u32],
         number: u32,
-        is_last: bool,
     ) -> Result<Option<u32>, Halt> {
         work.take(1)?;
-        let low = self.reverse.cover(number);
+        let low = self.reverse.cover(pairs, number);
         if let Some(start) = span(wanted, low, number).first() {
             return Ok(Some(*start));
         }
-        if is_last {
+        if self.reverse.is_last() {
             return Ok(None);
         }
         work.take(number.saturating_sub(low) as usize)?;
@@ -118,6 +114,7 @@ impl<'a> ShortestWalks<'a> {
     fn steps(
         &self,
         alloc: Global,
+        pairs: &Pairs<'_>,
         start: u32,
         number: u32,
         by: u32,
@@ -126,8 +123,8 @@ impl<'a> ShortestWalks<'a> {
         let mut from = start;
         let mut to = number;
         let mut by = by;
-        for _turn in 0..self.pairs.count() {
-            steps.push(step(self.pairs, from, to, by))?;
+        for _turn in 0..pairs.count() {
+            steps.push(step(pairs, from, to, by))?;
             from = to;
             to = self.reverse.next(from);
             by = self.by.get(from);

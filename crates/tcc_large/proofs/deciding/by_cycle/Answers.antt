@@ -13,26 +13,26 @@ least_of_four j links none cheap (s, cycle) =
     (s, record { cycle = cycle; least = λ t others other. omega (arith, none t others other, cheap) })
 
 pub returns-in-Some : goal.returns-in-Some
-returns-in-Some c = let found = rw c.in-Some.is at (c.in_ok-least.ensures c.args.at.level) in found.0
+returns-in-Some c = let found = rw c.in-Some.is at (c.in_ok-least.ensures c.args.at.now.level) in found.0
 
 pub returns-then-branch-le4 : goal.returns-then-branch-le4
 returns-then-branch-le4 c =
-    let j : Judged = judged c.args.at.graph.now c.args.at.level in
+    let j : Judged = judged c.args.at.now.graph.now c.args.at.now.level in
     let links = c.in_ok-links.links.items in
     let steps : c.in_ok-steps_of.field-0 ≡ cost links = rw c.deref.ensures.value at c.in_ok-steps_of.ensures in
-    least_of_four j links (rw c.in_default.is at (c.in_ok-least.ensures c.args.at.level)) (omega (arith, steps, c.if-branch-le4.true))
+    least_of_four j links (rw c.in_default.is at (c.in_ok-least.ensures c.args.at.now.level)) (omega (arith, steps, c.if-branch-le4.true))
     (c.in_ok-links.ensures.cycle j c.in_ok-any.ensures)
 
 pub returns-else-branch-le4 : goal.returns-else-branch-le4
 returns-else-branch-le4 c =
     let steps : c.in_ok-steps_of.field-0 ≡ cost c.in_ok-links.links.items = rw c.deref.ensures.value at c.in_ok-steps_of.ensures in (
-      c.in_ok-links.ensures.cycle (judged c.args.at.graph.now c.args.at.level) c.in_ok-any.ensures,
+      c.in_ok-links.ensures.cycle (judged c.args.at.now.graph.now c.args.at.now.level) c.in_ok-any.ensures,
       omega (arith, steps, c.if-branch-le4.false),
-      rw c.in_default.is at (c.in_ok-least.ensures c.args.at.level),
+      rw c.in_default.is at (c.in_ok-least.ensures c.args.at.now.level),
       c.in_ok-links.ensures.simple,
     )
 
 pub simple_cycle-requires : goal.simple_cycle-requires
 simple_cycle-requires c =
-    let j : Judged = judged c.args.at.graph.now c.args.at.level in
+    let j : Judged = judged c.args.at.now.graph.now c.args.at.now.level in
     rw c.count.ensures.value (cycle_closed j c.in_ok-any.any.items c.in_ok-any.ensures)

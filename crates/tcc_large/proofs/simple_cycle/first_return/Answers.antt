@@ -2,7 +2,7 @@ use Rattle.std.proofs.Common.{arith}
 use Rattle.tcc_large.proofs.Returned.{passed_room, passed_more, passed_back}
 use Rattle.tcc_large.proofs.simple_cycle.first_return.Goals as goal
 
-pub overflow_cast-position : goal.overflow_cast-set
+pub overflow_cast-position : goal.overflow_cast-position
 overflow_cast-position c =
     omega (
       arith,

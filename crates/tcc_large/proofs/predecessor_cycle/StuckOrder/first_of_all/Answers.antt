@@ -5,7 +5,7 @@ use Rattle.tcc_large.proofs.predecessor_cycle.StuckOrder.first_of_all.Goals as g
 
 pub loop-number-preserved : goal.loop-number-preserved
 loop-number-preserved c =
-    below_more (λ v. is_marked c.args.self.stuck.now.placed.items v ≡ true) c.loop-number.number c.loop-number.invariant
+    below_more (λ v. is_marked c.args.self.now.stuck.now.placed.items v ≡ true) c.loop-number.number c.loop-number.invariant
     (subst (λ (words : List ℕ). is_marked words c.loop-number.number ≡ true) c.deref.ensures.value (sym c.is_marked.ensures ∙ c.if-not-is_marked.false))
 
 pub unreachable-requires : goal.unreachable-requires

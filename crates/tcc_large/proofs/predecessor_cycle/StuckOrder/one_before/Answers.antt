@@ -10,20 +10,20 @@ use Rattle.tcc_large.proofs.predecessor_cycle.StuckOrder.one_before.Goals as goa
 
 pub returns-in-Some : goal.returns-in-Some
 returns-in-Some c =
-    let j : Judged = judged c.args.self.graph.now c.args.self.level in
-    let placed = c.args.self.stuck.now.placed.items in
-    let one : Contains (parents c.args.self.graph.now c.args.number) c.in-Some.parent × (is_marked placed c.in-Some.parent ≡ false)
+    let j : Judged = judged c.args.self.now.graph.now c.args.self.now.level in
+    let placed = c.args.self.now.stuck.now.placed.items in
+    let one : Contains (parents c.args.self.now.graph.now c.args.number) c.in-Some.parent × (is_marked placed c.in-Some.parent ≡ false)
     = rw (c.deref-2.ensures.value, c.in_ok-parents.ensures.found, c.deref-3.ensures.value) at c.in-Some.ensures in
     let found
-    = by_parent j c.numbered.ensures.numbered c.args.self.stuck.now.kept.items placed c.requires.stuck c.args.number c.requires.left c.in_ok-parents.ensures.sources
+    = by_parent j c.numbered.ensures.numbered c.args.self.now.stuck.now.kept.items placed c.requires.stuck c.args.number c.requires.left c.in_ok-parents.ensures.sources
     c.in-Some.parent one.0 one.1 in
     record { left = found.0; held = found.1 }
 
 pub returns : goal.returns
 returns c =
-    let j : Judged = judged c.args.self.graph.now c.args.self.level in
-    let kept = c.args.self.stuck.now.kept.items in
-    let placed = c.args.self.stuck.now.placed.items in
+    let j : Judged = judged c.args.self.now.graph.now c.args.self.now.level in
+    let kept = c.args.self.now.stuck.now.kept.items in
+    let placed = c.args.self.now.stuck.now.placed.items in
     let before = c.in-Some-first_left.before in
     let below : c.args.number < length kept = omega (arith, c.requires.left.0, c.requires.stuck.long) in
     let row : c.index.result.now ≡ row_of kept c.args.number
