@@ -1,6 +1,5 @@
 -- Links, as they are looked at one by one.
-use Rattle.std.proofs.Common.{ℕ, ◌≡◌, ◌<◌, ◌≤◌, ◌+◌, ◌⊎◌, inl, inr, List, length, get_or, subst, ◌∙◌, arith}
-use Rattle.std.proofs.lemmas.Bool.{cases_lt}
+use Rattle.std.proofs.Common.{below_more, ℕ, ◌≡◌, ◌<◌, ◌+◌, List, length, get_or, subst, ◌∙◌}
 use Rattle.std.proofs.lemmas.List.{get_or_default}
 use Rattle.tcc_graph.specs.Levels.{Judged}
 use Rattle.tcc_graph.specs.Links.{IsLink}
@@ -12,13 +11,5 @@ module _ (j : Judged) (links : List Link) where
 
   -- one more is a link
   pub one_more : (n : ℕ) (x : Link) → n < length links → x ≡ get_or links n x → IsLink j x → AreLinks n → AreLinks (n + 1)
-  one_more n x within is link before i d less = go (cases_lt i n)
-    where
-      here : IsLink j (get_or links n d)
-      here = subst (IsLink j) (is ∙ get_or_default links n x d within) link
-
-      go : (i < n) ⊎ (n ≤ i) → IsLink j (get_or links i d)
-      go (inl low) = before i d low
-      go (inr high) =
-          let same : n ≡ i = omega arith in
-          subst (λ (k : ℕ). IsLink j (get_or links k d)) same here
+  one_more n x within is link before i d =
+      below_more (λ k. IsLink j (get_or links k d)) n (λ k. before k d) (subst (IsLink j) (is ∙ get_or_default links n x d within) link) i

@@ -1,5 +1,5 @@
 -- A search for a label, one after the other.
-use Rattle.std.proofs.Common.{ℕ, zero, suc, ◌∷◌, ◌≡◌, ◌<◌, ◌≤◌, ◌+◌, ◌⊎◌, inl, inr, Bool, true, false, List, [], length, map, get_or, sym, ap, subst, ◌∙◌}
+use Rattle.std.proofs.Common.{below_more, ℕ, zero, suc, ◌∷◌, ◌≡◌, ◌<◌, ◌≤◌, ◌+◌, ◌⊎◌, inl, inr, Bool, true, false, List, [], length, map, get_or, sym, ap, subst, ◌∙◌}
 use Rattle.std.proofs.Common.{arith}
 use Rattle.std.specs.Str.{bytes_eq}
 use Rattle.std.proofs.lemmas.Bool.{cases_lt}
@@ -22,11 +22,7 @@ missed labels label n past before =
 
 pub passed : (labels : List (List ℕ)) (label : List ℕ) (n : ℕ) → bytes_eq label (get_or labels n []) ≡ false → NotBefore labels label n
     → NotBefore labels label (n + 1)
-passed labels label n here before k less = go (cases_lt k n)
-  where
-    go : (k < n) ⊎ (n ≤ k) → bytes_eq label (get_or labels k []) ≡ false
-    go (inl low) = before k low
-    go (inr high) = let same : n ≡ k = omega arith in subst (λ (z : ℕ). bytes_eq label (get_or labels z []) ≡ false) same here
+passed labels label n here before = below_more (λ k. bytes_eq label (get_or labels k []) ≡ false) n before here
 
 -- the text at an index, as a read of it answers
 pub read_there : {X : Type 0} (text : X → List ℕ) (xs : List X) (n : ℕ) (x : X) (label now : List ℕ) (b : Bool) → n < length xs → x ≡ get_or xs n x

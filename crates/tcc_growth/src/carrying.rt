@@ -7,7 +7,7 @@ ghost use Rattle.tcc_growth.specs.Growth.{IsFirstMissing};
 ghost use Rattle.tcc_growth.specs.Moved.{moved};
 ghost use Rattle.tcc_graph.specs.Renumbered.{link_by};
 
-use crate::moving::ByLabel;
+use crate::renumbering::ByLabel;
 use std::alloc::Global;
 use tcc_answer::Labels;
 use tcc_graph::{Graph, Level, Link};
@@ -25,10 +25,10 @@ pub fn carried(
     requires { later.now ≡ labels_of graph.now }
     ensures { IfOk result (λ found. found.items ≡ map (link_by (moved earlier.now later.now)) links.now) }
 {
-    let _count = graph.count();
     let numbers = ByLabel {
         earlier: earlier.names(),
         later: later.names(),
+        count: graph.count(),
     };
     let mut found = Vec::new(alloc);
     for link in links {

@@ -3,6 +3,6 @@
 
 mod carrying;
 pub mod laws;
-mod moving;
+mod renumbering;
 
 pub use carrying::{carried, first_missing};

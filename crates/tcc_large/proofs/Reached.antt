@@ -1,5 +1,5 @@
 -- What a search has reached by pairs, one more, and all of it.
-use Rattle.std.proofs.Common.{ℕ, zero, suc, get_or, ◌+◌, ◌<◌, ◌≤◌, ◌≡◌, ◌≢◌, ◌⊎◌, inl, inr, List, [], ◌∷◌, ◌++◌, length, set, reverse, refl, sym, ap, subst, ◌∙◌, arith}
+use Rattle.std.proofs.Common.{below_more, ℕ, zero, suc, get_or, ◌+◌, ◌<◌, ◌≤◌, ◌≡◌, ◌≢◌, ◌⊎◌, inl, inr, List, [], ◌∷◌, ◌++◌, length, set, reverse, refl, sym, ap, subst, ◌∙◌, arith}
 use Rattle.std.specs.Prelude.{slice_index, slice_index_or, zip, All, ◌↔◌}
 use Rattle.std.specs.List.{Contains}
 use Rattle.std.proofs.lemmas.Bool.{cases_lt, cases_eq}
@@ -9,32 +9,20 @@ use Rattle.tcc_graph.specs.Relations.{IsCausalPair, IsReadsPair, IsSessionPair}
 use Rattle.tcc_graph.specs.Walks.{step_to, Leads, IsWalk}
 use Rattle.tcc_graph.specs.declared.step.Step.{Step}
 use Rattle.tcc_graph.proofs.Pairs.{step_pair}
+use Rattle.tcc_least.proofs.Listed.{pair_at, at_pair}
 use Rattle.tcc_large.specs.private.Reaching.{IsReach, IsMore, AreCovered, AreMet, AreMetBetween, AreSpread, number_at, before_at}
 use Rattle.tcc_large.proofs.Numbered.{numbered_room}
 
 -- no more positions than transactions and one
-pub reach_room : (h : History) (positions : List ℕ) (queue : List (ℕ × ℕ)) → IsReach h positions queue → length queue ≤ count h + 1
-reach_room h positions queue reach =
+pub reach_room : (h : History) (positions covered : List ℕ) (queue : List (ℕ × ℕ)) → IsReach h positions covered queue → length queue ≤ count h + 1
+reach_room h positions covered queue reach =
     omega (arith, reach.long, numbered_room positions (length queue) (λ r some below. (number_at queue r, reach.back r some below)))
-
--- ---- lists side by side
-zip_position : (rs : List ℕ) (ks : List (List ℕ)) (c : ℕ) (x : List ℕ) → Contains (zip rs ks) (c, x) → (k : ℕ) × (k < length rs) × (slice_index rs k ≡ c)
-zip_position [] ks c x (k, l, e) = absurd (omega (arith, l))
-zip_position (r ∷ rs) [] c x (k, l, e) = absurd (omega (arith, l))
-zip_position (r ∷ rs) (y ∷ ks) c x (zero, l, e) = (0, omega arith, ap (λ z. z.0) e)
-zip_position (r ∷ rs) (y ∷ ks) c x (suc k, l, e) = let w = zip_position rs ks c x (k, omega (arith, l), e) in (suc w.0, omega (arith, w.1), w.2)
-
-zipped : (rs : List ℕ) (ks : List (List ℕ)) (k : ℕ) → length rs ≡ length ks → k < length rs → Contains (zip rs ks) (slice_index rs k, get_or ks k [])
-zipped [] ks k long l = absurd (omega (arith, l))
-zipped (r ∷ rs) [] k long l = absurd (omega (arith, long))
-zipped (r ∷ rs) (y ∷ ks) zero long l = (0, omega arith, refl)
-zipped (r ∷ rs) (y ∷ ks) (suc k) long l = let w = zipped rs ks k (omega (arith, long)) (omega (arith, l)) in (suc w.0, omega (arith, w.1), w.2)
 
 -- ---- one more transaction
 pub pair_moved : (h : History) (a b c d : ℕ) → a ≡ b → c ≡ d → IsCausalPair h b d → IsCausalPair h a c
 pair_moved h a b c d from to p = subst (λ (z : ℕ). IsCausalPair h z c) (sym from) (subst (λ (z : ℕ). IsCausalPair h b z) (sym to) p)
 
-module _ (h : History) (positions : List ℕ) (queue : List (ℕ × ℕ)) (position number : ℕ) (reach : IsReach h positions queue) (inside : position < length queue)
+module _ (h : History) (positions covered : List ℕ) (queue : List (ℕ × ℕ)) (position number : ℕ) (reach : IsReach h positions covered queue) (inside : position < length queue)
     (below : number < count h) (new : slice_index positions number ≡ 0) where
   longer : length (queue ++ (number, position) ∷ []) ≡ length queue + 1
   longer = length_push queue (number, position)
@@ -56,11 +44,7 @@ module _ (h : History) (positions : List ℕ) (queue : List (ℕ × ℕ)) (posit
 
   -- what holds of the old positions and of the last one
   each_position : (P : ℕ → Type 0) → ((i : ℕ) → i < length queue → P i) → P (length queue) → (i : ℕ) → i < length (queue ++ (number, position) ∷ []) → P i
-  each_position P old here i l = go (cases_lt i (length queue))
-    where
-      go : (i < length queue) ⊎ (length queue ≤ i) → P i
-      go (inl less) = old i less
-      go (inr past) = let same : length queue ≡ i = omega (arith, past, l, longer) in subst P same here
+  each_position P old here i l = below_more P (length queue) old here i (omega (arith, l, longer))
 
   back_old : (i : ℕ) → i < length queue → 0 < i → slice_index (set positions number (length queue)) (number_at (queue ++ (number, position) ∷ []) i) ≡ i
   back_old i l some =
@@ -119,8 +103,13 @@ module _ (h : History) (positions : List ℕ) (queue : List (ℕ × ℕ)) (posit
             (number_at (queue ++ (number, position) ∷ []) (length queue)) number from last_number pair,
       )
 
-  pub reach_more : IsCausalPair h (number_at queue position) number → IsReach h (set positions number (length queue)) (queue ++ (number, position) ∷ [])
+  still : (v : ℕ) → (v ≡ number) ⊎ (v ≡ number → ⊥) → 0 < slice_index positions v → 0 < slice_index (set positions number (length queue)) v
+  still v (inl same) some = absurd (omega (arith, ap (λ z. slice_index positions z) same, new, some))
+  still v (inr apart) some = omega (arith, some, get_or-set_other positions number v (length queue) 0 apart)
+
+  pub reach_more : IsCausalPair h (number_at queue position) number → IsReach h (set positions number (length queue)) covered (queue ++ (number, position) ∷ [])
   reach_more pair = record {
+    few = reach.few;
     long = length-set positions number (length queue) ∙ reach.long;
     some = omega (arith, longer);
     below = each_position (λ i. number_at (queue ++ (number, position) ∷ []) i < count h) (λ i l. omega (arith, kept_number i l, reach.below i l))
@@ -133,6 +122,7 @@ module _ (h : History) (positions : List ℕ) (queue : List (ℕ × ℕ)) (posit
         × IsCausalPair h (number_at (queue ++ (number, position) ∷ []) (before_at (queue ++ (number, position) ∷ []) i))
         (number_at (queue ++ (number, position) ∷ []) i))
         led_old (λ some. led_last pair) i l some;
+    behind = λ end v some above below. still v (cases_eq v number) (reach.behind end v some above below);
   }
 
 -- ---- all that a pair leads to from one
@@ -142,21 +132,31 @@ module _ (h : History) (from : ℕ) (rs : List ℕ) (ks : List (List ℕ)) (long
   pub readers_below : All (λ c. c < count h) rs
   readers_below k d l =
       let at : get_or rs k d ≡ slice_index rs k = get_or_default rs k d 0 l in
-      let reads = (each (slice_index rs k) (get_or ks k [])).0 (zipped rs ks k long l) in
+      let reads = (each (slice_index rs k) (get_or ks k [])).0 (pair_at rs ks [] long k l) in
       subst (λ (z : ℕ). z < count h) (sym at) reads.1
 
   pub all_met : (positions : List ℕ) → ((v : ℕ) → IsSessionPair h from v → 0 < slice_index positions v) → AreMet h positions from rs (length rs)
       → (v : ℕ) → IsCausalPair h from v → 0 < slice_index positions v
   all_met positions sessions met v (inl session) = sessions v session
   all_met positions sessions met v (inr (x, reads)) =
-      let w = zip_position rs ks v x ((each v x).1 reads) in
+      let w = at_pair rs ks [] long v x ((each v x).1 reads) in
       subst (λ (z : ℕ). IsCausalPair h from z → 0 < slice_index positions z) w.2 (met w.0 w.1) (inr (x, reads))
 
--- what is covered stays so, and of a session all before what is covered was met
-pub covered_more : (positions covered : List ℕ) (p : List (ℕ × ℕ)) (new : List ℕ) (q : List (ℕ × ℕ)) → IsMore positions p new q → AreCovered positions covered
-    → AreCovered new covered
-covered_more positions covered p new q more was end v some above below = more.reached v (was end v some above below)
+-- with more that is covered
+pub reach_covered : (h : History) (positions covered : List ℕ) (queue : List (ℕ × ℕ)) (more : List ℕ) → IsReach h positions covered queue
+    → AreCovered positions more → IsReach h positions more queue
+reach_covered h positions covered queue more reach behind = record {
+  few = reach.few;
+  long = reach.long;
+  some = reach.some;
+  below = reach.below;
+  back = reach.back;
+  noted = reach.noted;
+  led = reach.led;
+  behind = behind;
+}
 
+-- of a session all before what is covered was met
 pub all_later : (h : History) (from low end high : ℕ) (positions : List ℕ) (p : List (ℕ × ℕ)) (new : List ℕ) (q : List (ℕ × ℕ))
     → ((v : ℕ) → IsSessionPair h from v ↔ ((low ≤ v) × (v < high))) → IsMore positions p new q → AreMetBetween h new from low end
     → ((v : ℕ) → end ≤ v → v < high → 0 < slice_index positions v) → (v : ℕ) → low ≤ v → v < high → 0 < slice_index new v
@@ -185,7 +185,7 @@ pub spread_upto : (h : History) (positions : List ℕ) (queue : List (ℕ × ℕ
 spread_upto h positions queue n all spread i v l pair = spread i v (omega (arith, l, all)) pair
 
 -- ---- what a walk leads to was reached
-module _ (h : History) (positions : List ℕ) (queue : List (ℕ × ℕ)) (reach : IsReach h positions queue) (spread : AreSpread h positions queue (length queue)) where
+module _ (h : History) (positions covered : List ℕ) (queue : List (ℕ × ℕ)) (reach : IsReach h positions covered queue) (spread : AreSpread h positions queue (length queue)) where
   along : (i c : ℕ) (s : Step) (steps : List Step) → i < length queue → Leads h (number_at queue i) c (s ∷ steps) → 0 < slice_index positions c
   along i c s [] inside lead =
       let pair = subst (λ (z : ℕ). IsCausalPair h z (step_to s)) lead.0 (step_pair h s lead.1) in

@@ -1,5 +1,5 @@
 -- Derived links between two transactions, by what was looked at so far.
-use Rattle.std.proofs.Common.{ℕ, ◌+◌, ◌<◌, ◌≤◌, ◌≡◌, ◌≢◌, ◌⊎◌, inl, inr, false, List, [], ◌∷◌, length, get_or, map, refl, sym, ap, subst, ◌∙◌, arith}
+use Rattle.std.proofs.Common.{below_more, ℕ, ◌+◌, ◌<◌, ◌≤◌, ◌≡◌, ◌≢◌, ◌⊎◌, inl, inr, false, List, [], ◌∷◌, length, get_or, map, refl, sym, ap, subst, ◌∙◌, arith}
 use Rattle.std.specs.Prelude.{All, slice_index}
 use Rattle.std.proofs.lemmas.Bool.{cases_lt, false≢true}
 use Rattle.std.proofs.lemmas.List.{get_or-map, get_or_default, get_or_read}
@@ -18,14 +18,6 @@ use Rattle.tcc_large.specs.private.Reaching.{IsReach, IsMore, AreSpread, number_
 use Rattle.tcc_large.specs.private.Retracing.{IsHeldBack, IsLinkBetween}
 use Rattle.tcc_large.proofs.Reached.{walk_reached, spread_upto}
 
--- what holds of those before n and of n holds of those before n + 1
-one_more : (P : ℕ → Type 0) (n : ℕ) → ((k : ℕ) → k < n → P k) → P n → (k : ℕ) → k < n + 1 → P k
-one_more P n before here k l = go (cases_lt k n)
-  where
-    go : (k < n) ⊎ (n ≤ k) → P k
-    go (inl less) = before k less
-    go (inr past) = let same : n ≡ k = omega (arith, past, l) in subst P same here
-
 -- ---- what a derived link joins
 pub derived_ends : (j : Judged) (b a : ℕ) → IsDerivedPair j b a → (b ≢ a) × (a < count j.history) × (b < count j.history)
 derived_ends j b a (x, c, walk, ((apart, reads, writer), allowed)) = (apart, reads.0, writer.0)
@@ -42,7 +34,7 @@ WritesNone h from keys n = (k : ℕ) → k < n → IsWriter h from (get_or keys 
 
 pub none_more : (h : History) (from : ℕ) (keys : List (List ℕ)) (n : ℕ) → WritesNone h from keys n → (IsWriter h from (get_or keys n []) → ⊥)
     → WritesNone h from keys (n + 1)
-none_more h from keys n none here = one_more (λ k. IsWriter h from (get_or keys k []) → ⊥) n none here
+none_more h from keys n none here = below_more (λ k. IsWriter h from (get_or keys k []) → ⊥) n none here
 
 -- the key at an index among those that one reads from another
 pub key_read : (h : History) (a b n : ℕ) (indices : List ℕ) (names : List (List ℕ)) (one : List ℕ) → names ≡ keys h → map (key_at h) indices ≡ reads_from h a b
@@ -85,12 +77,12 @@ none_upto h from to a p b q n reader none more inside is here i some l = go (cas
         subst (λ (z : ℕ). MayContradict h from to x (number_at q z) → ⊥) same (subst (λ (z : ℕ). MayContradict h from to x z → ⊥) is (here x))
 
 -- where all was looked at there is no derived link
-pub no_walk : (h : History) (from to : ℕ) (positions : List ℕ) (queue : List (ℕ × ℕ)) (n : ℕ) → IsReach h positions queue
+pub no_walk : (h : History) (from to : ℕ) (positions covered : List ℕ) (queue : List (ℕ × ℕ)) (n : ℕ) → IsReach h positions covered queue
     → AreSpread h positions queue (n + 1) → number_at queue 0 ≡ from → length queue ≤ n + 1 → NoneUpTo h from to queue n
     → IsDerivedPair (causally h) from to → ⊥
-no_walk h from to positions queue n reach spread start all none (x, c, walk, (contradicts, (path, allowed))) =
+no_walk h from to positions covered queue n reach spread start all none (x, c, walk, (contradicts, (path, allowed))) =
     let each = spread_upto h positions queue (n + 1) all spread in
-    let some = walk_reached h positions queue reach each c walk (subst (λ (z : ℕ). IsWalk h z c walk) (sym start) path) in
+    let some = walk_reached h positions covered queue reach each c walk (subst (λ (z : ℕ). IsWalk h z c walk) (sym start) path) in
     let there = reach.noted c some in
     none (slice_index positions c) some (omega (arith, there.0, all)) x (subst (λ (z : ℕ). MayContradict h from to x z) (sym there.1) contradicts)
 
@@ -104,11 +96,6 @@ one_pair h b c (s ∷ t ∷ steps) path one = absurd (omega (arith, one))
 -- and such a link has a reader to which a pair leads
 pub step_read : (h : History) (from to : ℕ) → IsDerivedPair (atomically h) from to → (x : List ℕ) × (c : ℕ) × MayContradict h from to x c × IsCausalPair h from c
 step_read h from to (x, c, walk, (contradicts, (path, allowed))) = (x, c, contradicts, one_pair h from c walk path allowed)
-
--- the link of one step
-pub step_link : (h : History) (b a d : ℕ) (x : List ℕ) (s : Step) → b ≢ a → IsReadsPair h a d x → IsWriter h b x → step_from s ≡ b → step_to s ≡ d
-    → IsStep h s → IsLinkBetween (atomically h) b a (link.Derived b a x d (s ∷ []))
-step_link h b a d x s apart reads writer from to is = (refl, refl, ((apart, reads, writer), ((omega arith, (from, is, to)), refl)))
 
 -- the link of a walk to the transaction at a position
 pub walk_link : (h : History) (b a d : ℕ) (x : List ℕ) (start at : ℕ) (walk : List Step) → MayContradict h b a x d → start ≡ b → d ≡ at

@@ -1,5 +1,5 @@
 -- Going back over what holds transactions back until one comes again, and the links along it.
-use Rattle.std.proofs.Common.{ℕ, zero, suc, ◌+◌, ◌-◌, ◌<◌, ◌≤◌, ◌≡◌, ◌≢◌, ◌⊎◌, inl, inr, true, false, List, [], ◌∷◌, ◌++◌, length, drop, replicate, set, reverse, refl, sym, ap, subst, ◌∙◌, arith}
+use Rattle.std.proofs.Common.{below_more, ℕ, zero, suc, ◌+◌, ◌-◌, ◌<◌, ◌≤◌, ◌≡◌, ◌≢◌, ◌⊎◌, inl, inr, true, false, List, [], ◌∷◌, ◌++◌, length, drop, replicate, set, reverse, refl, sym, ap, subst, ◌∙◌, arith}
 use Rattle.std.specs.Prelude.{slice_index}
 use Rattle.std.specs.List.{All, Contains}
 use Rattle.std.proofs.lemmas.Bool.{cases_lt, cases_eq, false≢true}
@@ -38,15 +38,6 @@ module _ (j : Judged) (numbered : IsBySession j.history.entries) (kept : List (L
       go : (b : ℕ) → is_marked placed b ≡ false → HoldsBack j kept b x → ⊥
       go b new (inl parent) = false≢true (sym new ∙ All-contains (λ b. is_marked placed b ≡ true) (parents j.history x) b no_parent parent)
       go b new (inr link) = false≢true (sym new ∙ All-contains (λ b. is_marked placed b ≡ true) (row_of kept x) b no_link link)
-
--- what is marked of those before n, and of n
-pub marked_more : (words : List ℕ) (n : ℕ) → ((v : ℕ) → v < n → is_marked words v ≡ true) → is_marked words n ≡ true
-    → (v : ℕ) → v < n + 1 → is_marked words v ≡ true
-marked_more words n before here v l = go (cases_lt v n)
-  where
-    go : (v < n) ⊎ (n ≤ v) → is_marked words v ≡ true
-    go (inl less) = before v less
-    go (inr past) = let same : n ≡ v = omega (arith, past, l) in subst (λ (z : ℕ). is_marked words z ≡ true) same here
 
 -- ---- the trail
 -- the numbers so far, of which the last is here, each held back by the next one; of those before the last the positions are noted, from 1 on
@@ -131,22 +122,14 @@ module _ (j : Judged) (positions : List ℕ) (at n : ℕ) (trail : List ℕ) (w 
   last : slice_index (trail ++ next ∷ []) (n + 1) ≡ next
   last = get_or_push trail next 0 (n + 1) w.many
 
-  -- what holds of the old ones and of the last
-  each : (P : ℕ → Type 0) (m : ℕ) → ((k : ℕ) → k < m → P k) → P m → (k : ℕ) → k < m + 1 → P k
-  each P m before here k l = go (cases_lt k m)
-    where
-      go : (k < m) ⊎ (m ≤ k) → P k
-      go (inl less) = before k less
-      go (inr past) = let same : m ≡ k = omega (arith, past, l) in subst P same here
-
   below : (i : ℕ) → i < n + 1 + 1 → slice_index (trail ++ next ∷ []) i < count j.history
   below =
-      each (λ i. slice_index (trail ++ next ∷ []) i < count j.history) (n + 1)
+      below_more (λ i. slice_index (trail ++ next ∷ []) i < count j.history) (n + 1)
       (λ k l. subst (λ (z : ℕ). z < count j.history) (sym (old k l)) (w.below k l)) (subst (λ (z : ℕ). z < count j.history) (sym last) inside)
 
   held : (i : ℕ) → i < n + 1 → IsHeldBack j (slice_index (trail ++ next ∷ []) (i + 1)) (slice_index (trail ++ next ∷ []) i)
   held =
-      each (λ i. IsHeldBack j (slice_index (trail ++ next ∷ []) (i + 1)) (slice_index (trail ++ next ∷ []) i)) n
+      below_more (λ i. IsHeldBack j (slice_index (trail ++ next ∷ []) (i + 1)) (slice_index (trail ++ next ∷ []) i)) n
       (λ i l. subst (λ (z : ℕ). IsHeldBack j z (slice_index (trail ++ next ∷ []) i)) (sym (old (i + 1) (omega (arith, l))))
       (subst (λ (z : ℕ). IsHeldBack j (slice_index trail (i + 1)) z) (sym (old i (omega (arith, l)))) (w.held i l)))
       (subst (λ (z : ℕ). IsHeldBack j z (slice_index (trail ++ next ∷ []) n)) (sym last)
@@ -154,7 +137,7 @@ module _ (j : Judged) (positions : List ℕ) (at n : ℕ) (trail : List ℕ) (w 
 
   back : (k : ℕ) → k < n + 1 → slice_index (set positions at (n + 1)) (slice_index (trail ++ next ∷ []) k) ≡ k + 1
   back =
-      each (λ k. slice_index (set positions at (n + 1)) (slice_index (trail ++ next ∷ []) k) ≡ k + 1) n
+      below_more (λ k. slice_index (set positions at (n + 1)) (slice_index (trail ++ next ∷ []) k) ≡ k + 1) n
       (λ k l. let before = w.back k l in
       let other : slice_index trail k ≢ at = λ same. absurd (omega (arith, before, new, ap (λ z. slice_index positions z) same)) in
       subst (λ (z : ℕ). slice_index (set positions at (n + 1)) z ≡ k + 1) (sym (old k (omega (arith, l))))

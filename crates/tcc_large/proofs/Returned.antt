@@ -1,5 +1,5 @@
 -- Parts of a cycle that lead back, the first of them, and that a least cycle has none but itself.
-use Rattle.std.proofs.Common.{ℕ, zero, suc, ◌+◌, ◌-◌, ◌<◌, ◌≤◌, ◌≡◌, ◌≢◌, ◌⊎◌, inl, inr, List, [], ◌∷◌, length, get_or, take, drop, set, map, refl, sym, ap, subst, ◌∙◌, arith}
+use Rattle.std.proofs.Common.{below_more, ℕ, zero, suc, ◌+◌, ◌-◌, ◌<◌, ◌≤◌, ◌≡◌, ◌≢◌, ◌⊎◌, inl, inr, List, [], ◌∷◌, length, get_or, take, drop, set, map, refl, sym, ap, subst, ◌∙◌, arith}
 use Rattle.std.specs.Prelude.{slice_index}
 use Rattle.std.proofs.lemmas.Bool.{cases_lt, cases_eq}
 use Rattle.std.proofs.lemmas.List.{get_or-set_same, get_or-set_other, get_or-drop, get_or-take, take-map, drop-map, take-append-drop, length-take-le, length-drop, length-set, get_or-map}
@@ -178,17 +178,12 @@ module _ (n : ℕ) (links : List Link) (positions : List ℕ) (m : ℕ) (closed 
       )
 
   kept : (i : ℕ) → i < m + 1 → slice_index (set positions (start_at links m) (m + 1)) (start_at links i) ≡ i + 1
-  kept i l = go (cases_lt i m)
-    where
-      go : (i < m) ⊎ (m ≤ i) → slice_index (set positions (start_at links m) (m + 1)) (start_at links i) ≡ i + 1
-      go (inl less) =
-          let other : start_at links i ≢ start_at links m
-          = λ same. absurd (omega (arith, w.kept i less, new, ap (λ z. slice_index positions z) same)) in
-          get_or-set_other positions (start_at links m) (start_at links i) (m + 1) 0 other ∙ w.kept i less
-      go (inr past) =
-          let same : m ≡ i = omega (arith, past, l) in
-          subst (λ (z : ℕ). slice_index (set positions (start_at links m) (m + 1)) (start_at links z) ≡ z + 1) same
-          (get_or-set_same positions (start_at links m) (m + 1) 0 room)
+  kept =
+      below_more (λ i. slice_index (set positions (start_at links m) (m + 1)) (start_at links i) ≡ i + 1) m
+      (λ i less. let other : start_at links i ≢ start_at links m
+      = λ same. absurd (omega (arith, w.kept i less, new, ap (λ z. slice_index positions z) same)) in
+      get_or-set_other positions (start_at links m) (start_at links i) (m + 1) 0 other ∙ w.kept i less)
+      (get_or-set_same positions (start_at links m) (m + 1) 0 room)
 
   noted : (v : ℕ) → 0 < slice_index (set positions (start_at links m) (m + 1)) v
       → (slice_index (set positions (start_at links m) (m + 1)) v ≤ m + 1)
@@ -210,27 +205,39 @@ module _ (n : ℕ) (links : List Link) (positions : List ℕ) (m : ℕ) (closed 
           let at : slice_index positions v - 1 ≡ slice_index (set positions (start_at links m) (m + 1)) v - 1 = omega (arith, is) in
           (omega (arith, is, before.0), subst (λ (z : ℕ). start_at links z ≡ v) at before.1)
 
-  pub passed_more : slice_index (set positions (start_at links m) (m + 1)) (end_at links m) ≡ 0
-      → ArePassed n links (set positions (start_at links m) (m + 1)) (m + 1)
-  passed_more none = record {
-    long = length-set positions (start_at links m) (m + 1) ∙ w.long;
-    kept = kept;
-    noted = noted;
-    ahead = λ some. let e : m ≡ m + 1 - 1 = omega arith in
-        subst (λ (z : ℕ). slice_index (set positions (start_at links m) (m + 1)) (end_at links z) ≡ 0) e none;
-  }
+  -- by what the code looks at: the link, where it starts and ends, the positions with that of its start, and among them that of its end
+  module _ (link : Link) (start end before : ℕ) (with_start : List ℕ) (is : link ≡ get_or links m link) (starts : start ≡ link_from link)
+      (ends : end ≡ link_to link) (sets : with_start ≡ set positions start (m + 1)) (gets : before ≡ slice_index with_start end) where
+    more : with_start ≡ set positions (start_at links m) (m + 1)
+    more = sets ∙ ap (λ (z : ℕ). set positions z (m + 1)) (starts ∙ start_is links link m inside is)
 
-  pub passed_back : 0 < slice_index (set positions (start_at links m) (m + 1)) (end_at links m)
-      → IsFirstReturn links (slice_index (set positions (start_at links m) (m + 1)) (end_at links m) - 1) (m + 1)
-  passed_back some = let at = noted (end_at links m) some in record {
-    some = omega (arith, at.0, some);
-    inside = omega (arith, inside);
-    back = let e : m ≡ m + 1 - 1 = omega arith in subst (λ (z : ℕ). end_at links z ≡ start_at links (slice_index (set positions (start_at links m) (m + 1)) (end_at links m) - 1)) e (sym at.1);
-    apart = λ i k less below same. omega (
-      arith,
-      kept i (omega (arith, less, below)),
-      kept k below,
-      ap (λ z. slice_index (set positions (start_at links m) (m + 1)) z) same,
-      less,
-    );
-  }
+    at_end : before ≡ slice_index (set positions (start_at links m) (m + 1)) (end_at links m)
+    at_end =
+        gets ∙ (ap (λ (z : List ℕ). slice_index z end) more
+        ∙ ap (λ (z : ℕ). slice_index (set positions (start_at links m) (m + 1)) z) (ends ∙ end_is links link m inside is))
+
+    pub passed_more : before ≡ 0 → ArePassed n links with_start (m + 1)
+    passed_more none = subst (λ (z : List ℕ). ArePassed n links z (m + 1)) (sym more) (record {
+      long = length-set positions (start_at links m) (m + 1) ∙ w.long;
+      kept = kept;
+      noted = noted;
+      ahead = λ some. let e : m ≡ m + 1 - 1 = omega arith in
+          subst (λ (z : ℕ). slice_index (set positions (start_at links m) (m + 1)) (end_at links z) ≡ 0) e (sym at_end ∙ none);
+    })
+
+    pub passed_back : 0 < before → IsFirstReturn links (before - 1) (m + 1)
+    passed_back some =
+        let at = noted (end_at links m) (omega (arith, at_end, some)) in
+        let e : m ≡ m + 1 - 1 = omega arith in
+        subst (λ (z : ℕ). IsFirstReturn links (z - 1) (m + 1)) (sym at_end) (record {
+          some = omega (arith, at.0, at_end, some);
+          inside = omega (arith, inside);
+          back = subst (λ (z : ℕ). end_at links z ≡ start_at links (slice_index (set positions (start_at links m) (m + 1)) (end_at links m) - 1)) e (sym at.1);
+          apart = λ i k less below same. omega (
+            arith,
+            kept i (omega (arith, less, below)),
+            kept k below,
+            ap (λ z. slice_index (set positions (start_at links m) (m + 1)) z) same,
+            less,
+          );
+        })

@@ -1,6 +1,6 @@
 //! Back edges: links that lead back in an order of transactions that keeps all pairs. Each cycle has one, unless it is one of
 //! pairs.
-use crate::ordering::Ordering;
+use crate::kahn::Kahn;
 use crate::trimming::Trimmed;
 use std::alloc::{AllocError, Global};
 use tcc_txn::NoMemory;
@@ -9,11 +9,11 @@ use tcc_txn::NoMemory;
 fn add_back(
     found: &mut Vec<(u32, u32)>,
     among: &Trimmed<'_>,
-    ordering: &Ordering<'_>,
+    kahn: &Kahn<'_>,
     number: u32,
 ) -> Result<(), AllocError> {
-    for from in among.relation().links_into(number) {
-        if among.has(*from) && !ordering.has(*from) {
+    for from in among.adjacency().links_into(number) {
+        if among.has(*from) && !kahn.has(*from) {
             found.push((*from, number))?;
         }
     }
@@ -21,10 +21,10 @@ fn add_back(
 }
 
 /// Opens each marked transaction.
-fn open_all(ordering: &mut Ordering<'_>, among: &Trimmed<'_>) -> Result<(), AllocError> {
+fn open_all(kahn: &mut Kahn<'_>, among: &Trimmed<'_>) -> Result<(), AllocError> {
     for number in 1..among.pairs().count() {
         if among.has(number) {
-            ordering.open(number)?;
+            kahn.open(number)?;
         }
     }
     Ok(())
@@ -32,15 +32,15 @@ fn open_all(ordering: &mut Ordering<'_>, among: &Trimmed<'_>) -> Result<(), Allo
 
 /// The links among marked transactions that lead back in an order that keeps all pairs.
 pub(crate) fn back_edges(alloc: Global, among: &Trimmed<'_>) -> Result<Vec<(u32, u32)>, NoMemory> {
-    let mut ordering = Ordering::new(alloc, among.relation(), among.marks())?;
-    open_all(&mut ordering, among)?;
+    let mut kahn = Kahn::new(alloc, among.adjacency(), among.marks())?;
+    open_all(&mut kahn, among)?;
     let mut found = Vec::new(alloc);
     for _turn in 0..among.pairs().count() {
-        let Some(number) = ordering.next() else {
+        let Some(number) = kahn.next() else {
             break;
         };
-        add_back(&mut found, among, &ordering, number)?;
-        ordering.put(number)?;
+        add_back(&mut found, among, &kahn, number)?;
+        kahn.put(number)?;
     }
     Ok(found)
 }

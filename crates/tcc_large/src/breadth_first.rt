@@ -1,6 +1,7 @@
-//! Shortest ways by pairs and links among some transactions: breadth-first search, backwards.
-use crate::backwards::Backwards;
+//! Shortest ways by pairs and links among some transactions: breadth-first search, backwards (`reverse_search`). A transaction that
+//! was met leads on to the one that it was met from. O(N + R + E) for N transactions, R reads and E links.
 use crate::pairs::Pairs;
+use crate::reverse_search::ReverseSearch;
 use crate::trimming::Trimmed;
 use crate::work::{Halt, Work};
 use std::alloc::{AllocError, Global};
@@ -9,14 +10,14 @@ use tcc_txn::NoMemory;
 /// Searches backwards among transactions that are marked.
 #[derive(Drop)]
 pub(crate) struct BreadthFirst {
-    backwards: Backwards,
+    reverse: ReverseSearch,
 }
 
 impl BreadthFirst {
     /// Before the first search.
     pub(crate) fn new(alloc: Global, pairs: &Pairs<'_>) -> Result<BreadthFirst, NoMemory> {
-        let backwards = Backwards::new(alloc, pairs)?;
-        Ok(BreadthFirst { backwards })
+        let reverse = ReverseSearch::new(alloc, pairs)?;
+        Ok(BreadthFirst { reverse })
     }
 
     /// The transactions of a shortest way from one to another among those that are marked, both with it; none where there is
@@ -29,17 +30,14 @@ impl BreadthFirst {
         ends: (u32, u32),
         most: usize,
     ) -> Result<Option<Vec<u32>>, Halt> {
-        self.backwards.begin();
+        self.reverse.begin(most);
         self.meet(among, ends.1, ends.1)?;
         for _turn in 0..among.pairs().count() {
-            let Some(number) = self.backwards.take() else {
+            let Some(number) = self.reverse.take() else {
                 break;
             };
-            if self.backwards.depth() > most {
-                break;
-            }
             self.look(work, among, number)?;
-            if self.backwards.is_met(ends.0) {
+            if self.reverse.is_met(ends.0) {
                 return Ok(Some(self.trail(alloc, among.pairs().count(), ends.0)?));
             }
         }
@@ -49,16 +47,16 @@ impl BreadthFirst {
     /// Takes in a marked transaction that leads on to the next one, unless it was met before.
     fn meet(&mut self, among: &Trimmed<'_>, number: u32, next: u32) -> Result<(), AllocError> {
         if among.has(number) {
-            self.backwards.meet(number, next)?;
+            self.reverse.meet(number, next)?;
         }
         Ok(())
     }
 
     /// Takes in all that lead to a transaction by one pair or link.
     fn look(&mut self, work: &mut Work, among: &Trimmed<'_>, number: u32) -> Result<(), Halt> {
-        let links = among.relation().links_into(number);
+        let links = among.adjacency().links_into(number);
         let reads = among.pairs().reads(number);
-        let low = self.backwards.cover(among.pairs(), number);
+        let low = self.reverse.cover(among.pairs(), number);
         work.take(links.len())?;
         work.take(reads.len())?;
         work.take(number.saturating_sub(low) as usize)?;
@@ -80,7 +78,7 @@ impl BreadthFirst {
         let mut number = start;
         for _turn in 0..count {
             trail.push(number)?;
-            let next = self.backwards.next(number);
+            let next = self.reverse.next(number);
             if next == number {
                 break;
             }

@@ -1,8 +1,9 @@
-//! Strongly connected components of the pairs and of further links, by Kosaraju and Sharir: what a search in depth forwards leaves last
-//! begins the next component, and the rest of it is what a search backwards from there comes to. So between two components pairs and
-//! links lead onward. It goes over each pair and link twice.
+//! Strongly connected components of the pairs and of further links, by Kosaraju and Sharir (Sharir, A strong-connectivity algorithm
+//! and its applications in data flow analysis, 1981): what a search in depth forwards leaves last begins the next component, and
+//! the rest of it is what a search backwards from there comes to. So between two components pairs and links lead onward. It goes
+//! over each pair and link twice: O(N + R + E) for N transactions, R reads and E links.
+use crate::adjacency::{Adjacency, Side};
 use crate::cells::Cells;
-use crate::relation::{Relation, Side};
 use std::alloc::Global;
 use tcc_txn::NoMemory;
 
@@ -36,13 +37,13 @@ impl Search {
     }
 
     /// Goes into a transaction, if it wasn't seen: what stands right behind it comes next.
-    fn enter(&mut self, relation: &Relation<'_>, number: u32) -> Result<(), NoMemory> {
+    fn enter(&mut self, adjacency: &Adjacency<'_>, number: u32) -> Result<(), NoMemory> {
         if self.seen.get(number) != 0 {
             return Ok(());
         }
         self.seen.set(number, 1);
         self.turns.push(Turn::OutOf(number))?;
-        relation.find_neighbours(&mut self.neighbours, number, Side::Behind)?;
+        adjacency.find_neighbours(&mut self.neighbours, number, Side::Behind)?;
         for next in &self.neighbours {
             if self.seen.get(*next) == 0 {
                 self.turns.push(Turn::Into(*next))?;
@@ -52,11 +53,11 @@ impl Search {
     }
 
     /// Searches from a transaction.
-    fn search(&mut self, relation: &Relation<'_>, start: u32) -> Result<(), NoMemory> {
-        self.enter(relation, start)?;
+    fn search(&mut self, adjacency: &Adjacency<'_>, start: u32) -> Result<(), NoMemory> {
+        self.enter(adjacency, start)?;
         for _turn in 0..u64::MAX {
             match self.turns.pop() {
-                Some(Turn::Into(number)) => self.enter(relation, number)?,
+                Some(Turn::Into(number)) => self.enter(adjacency, number)?,
                 Some(Turn::OutOf(number)) => self.left.push(number)?,
                 None => break,
             }
@@ -66,10 +67,10 @@ impl Search {
 }
 
 /// All transactions but `init` in the order in which a search in depth forwards leaves them.
-fn left_one_by_one(alloc: Global, relation: &Relation<'_>) -> Result<Vec<u32>, NoMemory> {
-    let mut search = Search::new(alloc, relation.pairs().count())?;
-    for start in 1..relation.pairs().count() {
-        search.search(relation, start)?;
+fn left_one_by_one(alloc: Global, adjacency: &Adjacency<'_>) -> Result<Vec<u32>, NoMemory> {
+    let mut search = Search::new(alloc, adjacency.pairs().count())?;
+    for start in 1..adjacency.pairs().count() {
+        search.search(adjacency, start)?;
     }
     Ok(search.left)
 }
@@ -84,17 +85,17 @@ pub(crate) struct Components {
 }
 
 impl Components {
-    /// Those of a relation.
-    pub(crate) fn of(alloc: Global, relation: &Relation<'_>) -> Result<Components, NoMemory> {
+    /// Those of the pairs and links.
+    pub(crate) fn of(alloc: Global, adjacency: &Adjacency<'_>) -> Result<Components, NoMemory> {
         let mut components = Components {
             members: Vec::new(alloc),
             begins: Vec::new(alloc),
-            numbers: Cells::new(alloc, relation.pairs().count() as usize, 0)?,
+            numbers: Cells::new(alloc, adjacency.pairs().count() as usize, 0)?,
         };
         let mut neighbours = Vec::new(alloc);
-        for start in left_one_by_one(alloc, relation)?.iter().rev() {
+        for start in left_one_by_one(alloc, adjacency)?.iter().rev() {
             if components.numbers.get(*start) == 0 {
-                components.add(relation, *start, &mut neighbours)?;
+                components.add(adjacency, *start, &mut neighbours)?;
             }
         }
         Ok(components)
@@ -103,7 +104,7 @@ impl Components {
     /// Adds the component of a transaction, which is in none yet.
     fn add(
         &mut self,
-        relation: &Relation<'_>,
+        adjacency: &Adjacency<'_>,
         start: u32,
         neighbours: &mut Vec<u32>,
     ) -> Result<(), NoMemory> {
@@ -114,7 +115,7 @@ impl Components {
             let Some(number) = self.members.get(index).copied() else {
                 break;
             };
-            relation.find_neighbours(neighbours, number, Side::Before)?;
+            adjacency.find_neighbours(neighbours, number, Side::Before)?;
             self.take_each(neighbours)?;
         }
         Ok(())

@@ -4,18 +4,19 @@ ghost use Rattle.tcc_graph.specs.Links.{cost};
 ghost use Rattle.tcc_graph.specs.declared.level.Level.{Level};
 ghost use Rattle.tcc_graph.specs.Routes.{AreCycle};
 ghost use Rattle.tcc_large.specs.Decisions.{IsDecision};
+ghost use Rattle.tcc_large.specs.private.Retracing.{IsStuckAt, judged_at};
 ghost use Rattle.tcc_graph.specs.Levels.{judged};
-ghost use Rattle.tcc_order.specs.Placements.{IsPlacement, IsStuck};
+ghost use Rattle.tcc_order.specs.Placements.{IsPlacement};
 
+use crate::component_order::order_to_judge;
+use crate::cycle_search::found_cycle;
 use crate::decision::Decision;
-use crate::finding::found_cycle;
-use crate::lining::order_to_judge;
-use crate::retracing::cycle_of;
-use crate::simple::simple_cycle;
+use crate::predecessor_cycle::StuckOrder;
+use crate::simple_cycle::simple_cycle;
 use std::alloc::Global;
 use tcc_graph::{LargeGraph, Level, Link, is_cycle};
 use tcc_least::least_short;
-use tcc_order::{Placement, Stuck, place};
+use tcc_order::{Placement, place};
 use tcc_txn::NoMemory;
 
 /// How many steps the links have together.
@@ -34,39 +35,29 @@ fn steps_of(links: &[Link]) -> Result<u64, NoMemory>
 }
 
 /// The links of a cycle of a history at a level in which an order stops. The finder is asked first, and what it finds is judged.
-fn any_cycle(
-    alloc: Global,
-    graph: &LargeGraph,
-    level: Level,
-    stuck: &Stuck,
-) -> Result<Vec<Link>, NoMemory>
-    requires { IsStuck (judged graph.now level) stuck.now.kept.items stuck.now.placed.items }
-    ensures { IfOk result (λ links. AreCycle (judged graph.now level) links.items) }
+fn any_cycle(alloc: Global, at: &StuckOrder<'_>) -> Result<Vec<Link>, NoMemory>
+    requires { IsStuckAt at.now }
+    ensures { IfOk result (λ links. AreCycle (judged_at at.now) links.items) }
 {
-    if let Some(links) = found_cycle(alloc, graph, level, stuck)? {
-        if is_cycle(graph, level, &links) {
+    if let Some(links) = found_cycle(alloc, at.graph, at.level, at.stuck)? {
+        if is_cycle(at.graph, at.level, &links) {
             return Ok(links);
         }
     }
-    cycle_of(alloc, graph, level, stuck)
+    at.cycle(alloc)
 }
 
 /// What is decided of a history in which an order stops: a cycle of three steps at most where there is one; else another that passes
 /// no transaction twice, which is a least one where it costs four steps.
-fn by_cycle(
-    alloc: Global,
-    graph: &LargeGraph,
-    level: Level,
-    stuck: &Stuck,
-) -> Result<Decision, NoMemory>
-    requires { IsStuck (judged graph.now level) stuck.now.kept.items stuck.now.placed.items }
-    ensures { IfOk result (IsDecision (judged graph.now level)) }
+fn by_cycle(alloc: Global, at: &StuckOrder<'_>) -> Result<Decision, NoMemory>
+    requires { IsStuckAt at.now }
+    ensures { IfOk result (IsDecision (judged_at at.now)) }
 {
-    if let Some(least) = least_short(alloc, graph, 4)? {
+    if let Some(least) = least_short(alloc, at.graph, 4)? {
         return Ok(Decision::Least(least));
     }
-    let any = any_cycle(alloc, graph, level, stuck)?;
-    let links = simple_cycle(alloc, graph.count(), any)?;
+    let any = any_cycle(alloc, at)?;
+    let links = simple_cycle(alloc, at.graph.count(), any)?;
     if steps_of(&links)? <= 4 {
         Ok(Decision::Least(links))
     } else {
@@ -86,7 +77,12 @@ pub(crate) fn decide_with_order(
     match place(alloc, graph, level)? {
         Placement::Order(order) => Ok((Decision::Order(order), None)),
         Placement::Stuck(stuck) => {
-            let decision = by_cycle(alloc, graph, level, &stuck)?;
+            let at = StuckOrder {
+                graph,
+                level,
+                stuck: &stuck,
+            };
+            let decision = by_cycle(alloc, &at)?;
             let order = match &decision {
                 Decision::Cycle(_) => order_to_judge(alloc, graph, &stuck)?,
                 Decision::Order(_) | Decision::Least(_) => None,
@@ -103,6 +99,13 @@ pub fn decide(alloc: Global, graph: &LargeGraph, level: Level) -> Result<Decisio
 {
     match place(alloc, graph, level)? {
         Placement::Order(order) => Ok(Decision::Order(order)),
-        Placement::Stuck(stuck) => by_cycle(alloc, graph, level, &stuck),
+        Placement::Stuck(stuck) => {
+            let at = StuckOrder {
+                graph,
+                level,
+                stuck: &stuck,
+            };
+            by_cycle(alloc, &at)
+        }
     }
 }

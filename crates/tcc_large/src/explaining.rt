@@ -19,14 +19,9 @@ pub fn explain_large(
 ) -> Result<LargeAnswer, ResolveFault>
     ensures { MatchResult result (IsLargeAnswer snapshot.now level) (IsRefusal snapshot.now) }
 {
-    let resolved = resolve_large(alloc, snapshot)?;
-    let Ok(graph) = LargeGraph::build(alloc, resolved) else {
-        return Err(ResolveFault::NoMemory);
-    };
-    match decide(alloc, &graph, level) {
-        Ok(decision) => Ok(LargeAnswer { graph, decision }),
-        Err(_) => Err(ResolveFault::NoMemory),
-    }
+    let graph = LargeGraph::build(alloc, resolve_large(alloc, snapshot)?)?;
+    let decision = decide(alloc, &graph, level)?;
+    Ok(LargeAnswer { graph, decision })
 }
 
 /// As `explain_large`; and where the links are a cycle of more than four steps, an order of all transactions to judge by whether it is a
@@ -38,12 +33,7 @@ pub fn explain_large_with_order(
 ) -> Result<(LargeAnswer, Option<Vec<u32>>), ResolveFault>
     ensures { MatchResult result (λ found. IsLargeAnswer snapshot.now level found.0) (IsRefusal snapshot.now) }
 {
-    let resolved = resolve_large(alloc, snapshot)?;
-    let Ok(graph) = LargeGraph::build(alloc, resolved) else {
-        return Err(ResolveFault::NoMemory);
-    };
-    match decide_with_order(alloc, &graph, level) {
-        Ok((decision, order)) => Ok((LargeAnswer { graph, decision }, order)),
-        Err(_) => Err(ResolveFault::NoMemory),
-    }
+    let graph = LargeGraph::build(alloc, resolve_large(alloc, snapshot)?)?;
+    let (decision, order) = decide_with_order(alloc, &graph, level)?;
+    Ok((LargeAnswer { graph, decision }, order))
 }

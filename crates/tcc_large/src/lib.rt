@@ -3,30 +3,30 @@
 //! That a cycle of four steps at most is a least one is proved by a look at each place.
 #![tactic(auto)]
 
+mod adjacency;
 mod answer;
 mod back_edges;
-mod backwards;
 mod breadth_first;
 mod cells;
 mod closings;
+mod component_order;
 mod components;
-mod covering;
+mod cycle_links;
+mod cycle_search;
 mod deciding;
 mod decision;
 mod explaining;
-mod finding;
+mod kahn;
 pub mod laws;
-mod lining;
-mod linking;
-mod ordering;
 mod pairs;
-mod reaching;
+mod predecessor_cycle;
+mod reachability;
 mod reasons;
-mod relation;
-mod retracing;
-mod simple;
+mod reverse_search;
+mod session_prefixes;
+mod shortest_walks;
+mod simple_cycle;
 mod trimming;
-mod walking;
 mod work;
 
 pub use answer::LargeAnswer;

@@ -1,15 +1,15 @@
 //! The link between two transactions of which one is known to stand before the other.
 ghost use Rattle.std.specs.Prelude.{◌≢◌, ◌<◌, List, ℕ, IfOk, MatchOption};
 ghost use Rattle.tcc_reads.specs.History.{count};
-ghost use Rattle.tcc_graph.specs.Levels.{causally, atomically, judged};
+ghost use Rattle.tcc_graph.specs.Levels.{causally, judged};
 ghost use Rattle.tcc_graph.specs.Links.{MayContradict};
 ghost use Rattle.tcc_order.specs.Placements.{IsDerivedPair};
 ghost use Rattle.tcc_large.specs.private.Retracing.{IsHeldBack, IsLinkBetween};
 
-use crate::reaching::Reach;
+use crate::reachability::Reach;
 use std::alloc::Global;
-use tcc_graph::{LargeGraph, Level, Link, Walk};
-use tcc_least::overwritten;
+use tcc_graph::{LargeGraph, Level, Link};
+use tcc_least::two_step_link;
 use tcc_txn::{Name, NoMemory};
 
 /// A key that the reader reads from `to`, and that `from`, another transaction, writes too.
@@ -55,23 +55,6 @@ fn derived_by_walk(alloc: Global, graph: &LargeGraph, from: u32, to: u32) -> Res
     unreachable!()
 }
 
-/// At `Atomic` the derived link from one transaction to another.
-fn derived_by_step(alloc: Global, graph: &LargeGraph, from: u32, to: u32) -> Result<Link, NoMemory>
-    requires { IsDerivedPair (atomically graph.now) from to }
-    ensures { IfOk result (IsLinkBetween (atomically graph.now) from to) }
-{
-    let (reader, key) = overwritten(graph, from, to);
-    let mut steps = Vec::new(alloc);
-    steps.push(graph.step(from, reader))?;
-    Ok(Link::Derived {
-        from,
-        to,
-        key,
-        reader,
-        walk: Walk::new(steps),
-    })
-}
-
 /// The link from one transaction to another that it holds back: by a pair where there is one, and else a derived link.
 pub(crate) fn link_between(
     alloc: Global,
@@ -90,6 +73,6 @@ pub(crate) fn link_between(
     }
     match level {
         Level::Causal => derived_by_walk(alloc, graph, from, to),
-        Level::Atomic => derived_by_step(alloc, graph, from, to),
+        Level::Atomic => two_step_link(alloc, graph, from, to),
     }
 }

@@ -1,7 +1,9 @@
-//! Trimming: of a graph what stands in a circle, or between two.
+//! Trimming (McLendon et al., Finding strongly connected components in distributed graphs, 2005): of a graph what stands in a
+//! circle, or between two. What has no neighbour that is left, on one side and then on the other, is taken away again and again;
+//! each pair and link is looked at twice for a side: O(N + R + E) for N transactions, R reads and E links.
+use crate::adjacency::{Adjacency, Side};
 use crate::cells::Cells;
 use crate::pairs::{Pair, Pairs};
-use crate::relation::{Relation, Side};
 use std::alloc::{AllocError, Global};
 use tcc_bits::is_marked;
 use tcc_txn::NoMemory;
@@ -9,7 +11,7 @@ use tcc_txn::NoMemory;
 /// Transactions that are marked, with the pairs and links among them.
 #[derive(Drop)]
 pub(crate) struct Trimmed<'a> {
-    relation: &'a Relation<'a>,
+    adjacency: &'a Adjacency<'a>,
     marked: Cells,
 }
 
@@ -17,29 +19,29 @@ impl<'a> Trimmed<'a> {
     /// Marks of those that an order left, but `init`, each that a marked one leads to and that leads to a marked one.
     pub(crate) fn of(
         alloc: Global,
-        relation: &'a Relation<'a>,
+        adjacency: &'a Adjacency<'a>,
         placed: &[u64],
     ) -> Result<Trimmed<'a>, NoMemory> {
-        let mut marked = Cells::new(alloc, relation.pairs().count() as usize, 0)?;
-        for number in 1..relation.pairs().count() {
+        let mut marked = Cells::new(alloc, adjacency.pairs().count() as usize, 0)?;
+        for number in 1..adjacency.pairs().count() {
             if !is_marked(placed, number as usize) {
                 marked.set(number, 1);
             }
         }
-        let mut trimmed = Trimmed { relation, marked };
+        let mut trimmed = Trimmed { adjacency, marked };
         trimmed.trim(alloc, Side::Before)?;
         trimmed.trim(alloc, Side::Behind)?;
         Ok(trimmed)
     }
 
     /// The pairs and links.
-    pub(crate) fn relation(&self) -> &'a Relation<'a> {
-        self.relation
+    pub(crate) fn adjacency(&self) -> &'a Adjacency<'a> {
+        self.adjacency
     }
 
     /// The pairs.
     pub(crate) fn pairs(&self) -> &'a Pairs<'a> {
-        self.relation.pairs()
+        self.adjacency.pairs()
     }
 
     /// Of each transaction 1 where it is marked, else 0.
@@ -62,7 +64,7 @@ impl<'a> Trimmed<'a> {
                 break;
             };
             self.marked.set(number, 0);
-            self.relation
+            self.adjacency
                 .find_neighbours(&mut neighbours, number, side.other())?;
             self.let_go(&mut degrees, &mut gone, &neighbours)?;
         }
@@ -75,7 +77,7 @@ impl<'a> Trimmed<'a> {
         let mut degrees = Cells::new(alloc, self.pairs().count() as usize, 0)?;
         for number in 1..self.pairs().count() {
             if self.has(number) {
-                self.relation
+                self.adjacency
                     .find_neighbours(&mut neighbours, number, side)?;
                 degrees.set(number, self.count_marked(&neighbours));
             }
@@ -163,7 +165,7 @@ impl<'a> Trimmed<'a> {
         kind: Pair,
         from: u32,
     ) -> Result<(), AllocError> {
-        for to in self.relation.links_from(from) {
+        for to in self.adjacency.links_from(from) {
             if self.has(*to) && self.pairs().is_pair(kind, *to, from) {
                 found.push((from, *to))?;
             }

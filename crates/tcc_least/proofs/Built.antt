@@ -4,6 +4,7 @@ use Rattle.std.specs.Prelude.{◌≢◌, slice_index, slice_index_or}
 use Rattle.tcc_reads.specs.History.{History}
 use Rattle.tcc_graph.specs.Relations.{IsReadsPair, IsCausalPair}
 use Rattle.tcc_graph.specs.Readings.{AreReadings}
+use Rattle.tcc_graph.specs.Keys.{IsWriter}
 use Rattle.tcc_graph.specs.Walks.{IsStep, step_from, step_to}
 use Rattle.tcc_graph.specs.Levels.{IsAllowed, judged}
 use Rattle.tcc_graph.specs.Links.{MayContradict, cost}
@@ -13,30 +14,32 @@ use Rattle.tcc_graph.specs.declared.step.Step.{Step}
 use Rattle.tcc_graph.specs.declared.link.Link.{Link}
 use Rattle.tcc_graph.specs.declared.link.Link.TheVariants as link
 use Rattle.tcc_graph.proofs.Linking.{derived_cost, cost_cons, one_cost, some_links}
-use Rattle.tcc_least.specs.Shapes.{NoneBelow, IsRead, IsRound, AreLeast}
-use Rattle.tcc_least.specs.private.Building.{IsPairLink, Overwrites, IsShortCycle}
+use Rattle.tcc_least.specs.Shapes.{NoneBelow, IsRead, IsRound, IsShortLink, AreLeast}
+use Rattle.tcc_least.specs.private.Building.{Overwrites, IsShortCycle}
 use Rattle.tcc_least.proofs.Listed.{pair_at, at_pair}
 
 module _ (h : History) where
   -- ---- rounds of pairs
-  pub round_of_one : (a c n : ℕ) (l : Link) → c ≡ a → IsRound h n a c → IsPairLink h a c l → IsShortCycle h n (l ∷ [])
+  pub round_of_one : (a c n : ℕ) (l : Link) → c ≡ a → IsRound h n a c → IsShortLink h a c 1 l → IsShortCycle h n (l ∷ [])
   round_of_one a c n l same round p = ((λ v. (a, (omega arith, (p.from, p.link v, p.to ∙ same)))), low round.1)
     where
       low : ((1 < n) × (c ≡ a)) ⊎ (((2 < n) × IsCausalPair h c a) ⊎ ((3 < n) × ((d : ℕ) × IsRead h d a × IsCausalPair h c d))) → cost (l ∷ []) < n
-      low (inl (few, is)) = omega (arith, p.one, one_cost l)
-      low (inr (inl (few, back))) = omega (arith, p.one, one_cost l)
-      low (inr (inr (few, back))) = omega (arith, p.one, one_cost l)
+      low (inl (few, is)) = omega (arith, p.steps, one_cost l)
+      low (inr (inl (few, back))) = omega (arith, p.steps, one_cost l)
+      low (inr (inr (few, back))) = omega (arith, p.steps, one_cost l)
 
-  pub round_of_two : (a c n : ℕ) (l m : Link) → (c ≡ a → ⊥) → IsRound h n a c → IsPairLink h a c l → IsPairLink h c a m → IsShortCycle h n (l ∷ m ∷ [])
-  round_of_two a c n l m other round p q = ((λ v. (a, (omega arith, (p.from, p.link v, (q.from ∙ sym p.to, q.link v, q.to))))), low round.1)
-    where
-      sum : cost (l ∷ m ∷ []) ≡ 2
-      sum = omega (arith, p.one, q.one, cost_cons l (m ∷ []), one_cost m)
+  -- a link there and a link back
+  pub there_and_back : (a c m n most : ℕ) (k l : Link) → IsShortLink h a c m k → IsShortLink h c a n l → m + n < most → IsShortCycle h most (k ∷ l ∷ [])
+  there_and_back a c m n most k l p q few = (
+    (λ v. (a, (omega arith, (p.from, p.link v, (q.from ∙ sym p.to, q.link v, q.to))))),
+    omega (arith, few, p.steps, q.steps, cost_cons k (l ∷ []), one_cost l),
+  )
 
-      low : ((1 < n) × (c ≡ a)) ⊎ (((2 < n) × IsCausalPair h c a) ⊎ ((3 < n) × ((d : ℕ) × IsRead h d a × IsCausalPair h c d))) → cost (l ∷ m ∷ []) < n
-      low (inl (few, is)) = absurd (other is)
-      low (inr (inl (few, back))) = omega (arith, sum)
-      low (inr (inr (few, back))) = omega (arith, sum)
+  -- where the two aren't one, a round has two pairs at least
+  pub round_of_two : (a c n : ℕ) → (c ≡ a → ⊥) → IsRound h n a c → 2 < n
+  round_of_two a c n other (read, inl (few, same)) = absurd (other same)
+  round_of_two a c n other (read, inr (inl (few, back))) = few
+  round_of_two a c n other (read, inr (inr (few, back))) = omega (arith, few)
 
   -- where there is no other, a pair leads to a source of the source
   pub third : (a c n : ℕ) → (c ≡ a → ⊥) → (IsCausalPair h c a → ⊥) → IsRound h n a c → (3 < n) × ((d : ℕ) × IsRead h d a × IsCausalPair h c d)
@@ -44,23 +47,25 @@ module _ (h : History) where
   third a c n other none (read, inr (inl (few, back))) = absurd (none back)
   third a c n other none (read, inr (inr back)) = back
 
-  pub round_of_three : (a c d n : ℕ) (k l m : Link) → 3 < n → IsPairLink h d a k → IsPairLink h a c l → IsPairLink h c d m → IsShortCycle h n (k ∷ l ∷ m ∷ [])
+  pub round_of_three : (a c d n : ℕ) (k l m : Link) → 3 < n → IsShortLink h d a 1 k → IsShortLink h a c 1 l → IsShortLink h c d 1 m → IsShortCycle h n (k ∷ l ∷ m ∷ [])
   round_of_three a c d n k l m few o p q = (
     (λ v. (d, (omega arith, (o.from, o.link v, (p.from ∙ sym o.to, p.link v, (q.from ∙ sym p.to, q.link v, q.to)))))),
-    omega (arith, o.one, p.one, q.one, cost_cons k (l ∷ m ∷ []), cost_cons l (m ∷ []), one_cost m),
+    omega (arith, o.steps, p.steps, q.steps, cost_cons k (l ∷ m ∷ []), cost_cons l (m ∷ []), one_cost m),
   )
 
-  -- ---- a derived link and a pair
+  -- ---- a derived link of two steps
   allowed_one : (v : Level) (s : Step) → IsAllowed v (s ∷ [])
   allowed_one level.Causal s = tt
   allowed_one level.Atomic s = refl
 
-  pub return_of : (b a c : ℕ) (x : List ℕ) (s : Step) (l : Link) → b ≢ a → IsReadsPair h a c x → Overwrites h b c x → step_from s ≡ b → step_to s ≡ c
-      → IsStep h s → IsPairLink h a b l → IsShortCycle h 4 (link.Derived b a x c (s ∷ []) ∷ l ∷ [])
-  return_of b a c x s l other read over from to is p = (
-    (λ v. (b, (omega arith, (refl, ((other, read, over.0), ((omega arith, (from, is, to)), allowed_one v s)), (p.from, p.link v, p.to))))),
-    omega (arith, p.one, derived_cost b a x c (s ∷ []), cost_cons (link.Derived b a x c (s ∷ [])) (l ∷ []), one_cost l),
-  )
+  pub overwriting_link : (b a c : ℕ) (x : List ℕ) (s : Step) → b ≢ a → IsReadsPair h a c x → IsWriter h b x → step_from s ≡ b → step_to s ≡ c
+      → IsStep h s → IsShortLink h b a 2 (link.Derived b a x c (s ∷ []))
+  overwriting_link b a c x s other read writer from to is = record {
+    from = refl;
+    to = refl;
+    link = λ v. ((other, read, writer), ((omega arith, (from, is, to)), allowed_one v s));
+    steps = omega (arith, derived_cost b a x c (s ∷ []), one_cost (link.Derived b a x c (s ∷ [])));
+  }
 
   -- ---- which read is overwritten
   abbrev pub NoneOverwritten : ℕ → List ℕ → List (List ℕ) → ℕ → Type 0

@@ -36,7 +36,7 @@ module _ (h : History) (ordered : IsBySession h.entries) where
         go (inl less) = let p : PairParts h n u = pair_parts h n u ((later u).1 (omega arith, within)) in p.same some
         go (inr more) = let same : n ≡ u = omega arith in ap (λ (z : ℕ). owner h z) same
 
-    pub new_cut : IsCut h end
+    new_cut : IsCut h end
     new_cut u v up within from to same = go (cases_lt u n)
       where
         go : (u < n) ⊎ (n ≤ u) → ⊥
@@ -45,7 +45,7 @@ module _ (h : History) (ordered : IsBySession h.entries) where
             let l = (later v).0 (of_owner n v some (omega arith) to (same_owner u more within ∙ same)) in
             omega (arith, l.1)
 
-    pub new_session : IsSession h n end
+    new_session : IsSession h n end
     new_session = record {
       some = some;
       after = λ u v from within. (
@@ -66,3 +66,6 @@ module _ (h : History) (ordered : IsBySession h.entries) where
         low : (u v : ℕ) → 0 < u → n ≤ v → IsSessionPair h u v → (u < n) ⊎ (n ≤ u) → n ≤ u
         low u v up from p (inr more) = more
         low u v up from p (inl less) = let parts : PairParts h u v = pair_parts h u v p in absurd (cut u v up less from parts.to (parts.same up))
+
+    pub new_range : IsCut h end × IsSession h n end
+    new_range = (new_cut, new_session)

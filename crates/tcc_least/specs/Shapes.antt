@@ -2,9 +2,10 @@
 use Rattle.std.specs.Prelude.{ℕ, ◌<◌, ◌≤◌, ◌≡◌, ◌⊎◌, List}
 use Rattle.tcc_reads.specs.History.{History}
 use Rattle.tcc_graph.specs.Relations.{IsReadsPair, IsCausalPair}
-use Rattle.tcc_graph.specs.Levels.{Judged}
-use Rattle.tcc_graph.specs.Links.{MayContradict, cost}
+use Rattle.tcc_graph.specs.Levels.{Judged, judged}
+use Rattle.tcc_graph.specs.Links.{MayContradict, IsLink, link_from, link_to, link_cost, cost}
 use Rattle.tcc_graph.specs.Routes.{IsCycle, IsLeastCycle}
+use Rattle.tcc_graph.specs.declared.level.Level.{Level}
 use Rattle.tcc_graph.specs.declared.link.Link.{Link}
 use Rattle.tcc_least.specs.declared.short.ShortCycle.{ShortCycle}
 use Rattle.tcc_least.specs.declared.short.ShortCycle.TheVariants as short
@@ -20,6 +21,13 @@ SomeBelow j n = (s : ℕ) × (links : List Link) × IsCycle j s links × (cost l
 -- the links are a cycle from some start, and no cycle costs less
 abbrev pub AreLeast : Judged → List Link → Type 0
 AreLeast j links = (s : ℕ) × IsLeastCycle j s links
+
+-- at each level a link from a to b, of n steps
+pub record IsShortLink (h : History) (a : ℕ) (b : ℕ) (n : ℕ) (l : Link) : Type 0 where
+  pub from : link_from l ≡ a
+  pub to : link_to l ≡ b
+  pub link : (level : Level) → IsLink (judged h level) l
+  pub steps : link_cost l ≡ n
 
 -- b reads some key from a
 abbrev pub IsRead : History → ℕ → ℕ → Type 0

@@ -4,11 +4,11 @@ ghost use Rattle.tcc_reads.specs.History.{count};
 ghost use Rattle.tcc_graph.specs.Relations.{IsReadsPair, IsCausalPair};
 ghost use Rattle.tcc_graph.specs.Keys.{IsWriter};
 ghost use Rattle.tcc_graph.specs.Levels.{Judged, judged};
-ghost use Rattle.tcc_graph.specs.Links.{MayContradict, IsLink, link_cost, link_from, link_to, cost};
+ghost use Rattle.tcc_graph.specs.Links.{MayContradict, cost};
 ghost use Rattle.tcc_graph.specs.Routes.{IsLeastCycle};
 ghost use Rattle.tcc_graph.specs.declared.level.Level.{Level};
-ghost use Rattle.tcc_least.specs.Shapes.{NoneBelow, IsRead, IsRound, IsReturn, IsFirstShort, AreLeast};
-ghost use Rattle.tcc_least.specs.private.Building.{IsShortCycle, Overwrites, IsPairLink};
+ghost use Rattle.tcc_least.specs.Shapes.{NoneBelow, IsRead, IsRound, IsReturn, IsFirstShort, IsShortLink, AreLeast};
+ghost use Rattle.tcc_least.specs.private.Building.{IsShortCycle, Overwrites};
 
 use crate::short::{ShortCycle, short_cycle, up_to_four};
 use std::alloc::Global;
@@ -18,7 +18,7 @@ use tcc_txn::{Name, NoMemory};
 /// The link from one transaction to another by a pair.
 fn pair_link(graph: &LargeGraph, from: u32, to: u32) -> Link
     requires { IsCausalPair graph.now from to }
-    ensures { IsPairLink graph.now from to result }
+    ensures { IsShortLink graph.now from to 1 result }
 {
     Link::of(graph.step(from, to))
 }
@@ -76,7 +76,7 @@ fn overwrites(graph: &LargeGraph, from: u32, reader: u32, key: &Name) -> bool
 
 /// A reader of a transaction, and a key that it reads there, which another transaction overwrites, from which a pair leads to the
 /// reader.
-pub fn overwritten(graph: &LargeGraph, from: u32, to: u32) -> (u32, Name)
+fn overwritten(graph: &LargeGraph, from: u32, to: u32) -> (u32, Name)
     requires { (x : List ℕ) × (c : ℕ) × MayContradict graph.now from to x c × IsCausalPair graph.now from c }
     ensures read { IsReadsPair graph.now to result.0 result.1 }
     ensures writer { IsWriter graph.now from result.1 }
@@ -93,6 +93,29 @@ pub fn overwritten(graph: &LargeGraph, from: u32, to: u32) -> (u32, Name)
     unreachable!()
 }
 
+/// The derived link of two steps from one transaction to another: the first overwrites what is read from the second, and a pair leads
+/// to the reader.
+pub fn two_step_link(
+    alloc: Global,
+    graph: &LargeGraph,
+    from: u32,
+    to: u32,
+) -> Result<Link, NoMemory>
+    requires { (x : List ℕ) × (c : ℕ) × MayContradict graph.now from to x c × IsCausalPair graph.now from c }
+    ensures { IfOk result (IsShortLink graph.now from to 2) }
+{
+    let (reader, key) = overwritten(graph, from, to);
+    let mut steps = Vec::new(alloc);
+    steps.push(graph.step(from, reader))?;
+    Ok(Link::Derived {
+        from,
+        to,
+        key,
+        reader,
+        walk: Walk::new(steps),
+    })
+}
+
 /// A derived link of two steps, and the link of a pair back.
 fn return_links(
     alloc: Global,
@@ -103,17 +126,8 @@ fn return_links(
     requires { IsReturn graph.now from to }
     ensures { IfOk result (λ links. IsShortCycle graph.now 4 links.items) }
 {
-    let (reader, key) = overwritten(graph, from, to);
-    let mut steps = Vec::new(alloc);
-    steps.push(graph.step(from, reader))?;
     let mut links = Vec::new(alloc);
-    links.push(Link::Derived {
-        from,
-        to,
-        key,
-        reader,
-        walk: Walk::new(steps),
-    })?;
+    links.push(two_step_link(alloc, graph, from, to)?)?;
     links.push(pair_link(graph, to, from))?;
     Ok(links)
 }

@@ -8,5 +8,5 @@ mod returning;
 mod rounds;
 mod short;
 
-pub use building::{least_short, overwritten};
+pub use building::{least_short, two_step_link};
 pub use short::{ShortCycle, short_cycle};

@@ -66,7 +66,7 @@ fn session_at(graph: &LargeGraph, session: (u32, u32), number: u32) -> (u32, u32
     if number < session.1 {
         return session;
     }
-    let _numbered = graph.sessions();
+    graph.numbered();
     let (_next, end) = graph.later(number);
     (number, end)
 }

@@ -1,5 +1,6 @@
 -- What a search has reached by pairs, in a queue of numbers, each with the position of the one that led there.
 use Rattle.std.specs.Prelude.{ℕ, ◌<◌, ◌≤◌, ◌≡◌, List, length, slice_index, slice_index_or}
+use Rattle.tcc_txn.specs.declared.limits.TheConstants.{LARGE_COUNT}
 use Rattle.tcc_reads.specs.History.{History, count}
 use Rattle.tcc_graph.specs.Relations.{IsCausalPair}
 
@@ -10,24 +11,27 @@ number_at queue i = (slice_index_or queue i (0, 0)).0
 abbrev pub before_at : List (ℕ × ℕ) → ℕ → ℕ
 before_at queue i = (slice_index_or queue i (0, 0)).1
 
--- behind the first position each transaction stands once, behind one from which a pair leads to it, and has its position noted
-pub record IsReach (h : History) (positions : List ℕ) (queue : List (ℕ × ℕ)) : Type 0 where
+-- before each of these ends all from what stands there on were reached
+abbrev pub AreCovered : List ℕ → List ℕ → Type 0
+AreCovered positions covered = (end v : ℕ) → 0 < slice_index covered end → slice_index covered end ≤ v → v < end → 0 < slice_index positions v
+
+-- behind the first position each transaction stands once, behind one from which a pair leads to it, and has its position noted; and
+-- before each end all from what is noted there on were reached
+pub record IsReach (h : History) (positions : List ℕ) (covered : List ℕ) (queue : List (ℕ × ℕ)) : Type 0 where
+  pub few : count h ≤ LARGE_COUNT
   pub long : length positions ≡ count h
   pub some : 0 < length queue
   pub below : (i : ℕ) → i < length queue → number_at queue i < count h
   pub back : (i : ℕ) → 0 < i → i < length queue → slice_index positions (number_at queue i) ≡ i
   pub noted : (v : ℕ) → 0 < slice_index positions v → (slice_index positions v < length queue) × (number_at queue (slice_index positions v) ≡ v)
   pub led : (i : ℕ) → 0 < i → i < length queue → (before_at queue i < i) × IsCausalPair h (number_at queue (before_at queue i)) (number_at queue i)
+  pub behind : AreCovered positions covered
 
 -- what stood in the queue stands there as before, and what was reached is reached
 pub record IsMore (old : List ℕ) (older : List (ℕ × ℕ)) (new : List ℕ) (newer : List (ℕ × ℕ)) : Type 0 where
   pub longer : length older ≤ length newer
   pub same : (i : ℕ) → i < length older → slice_index_or newer i (0, 0) ≡ slice_index_or older i (0, 0)
   pub reached : (v : ℕ) → 0 < slice_index old v → 0 < slice_index new v
-
--- before each of these ends all from what stands there on were reached
-abbrev pub AreCovered : List ℕ → List ℕ → Type 0
-AreCovered positions covered = (end v : ℕ) → 0 < slice_index covered end → slice_index covered end ≤ v → v < end → 0 < slice_index positions v
 
 -- of the first n of these numbers, and of those from low to below high, each to which a pair leads was reached
 abbrev pub AreMet : History → List ℕ → ℕ → List ℕ → ℕ → Type 0

@@ -1,11 +1,19 @@
 -- What holds transactions back, and going back over it.
 use Rattle.std.specs.Prelude.{ℕ, ◌<◌, ◌+◌, ◌-◌, ◌≡◌, ◌⊎◌, List, length, slice_index}
 use Rattle.tcc_reads.specs.History.{count}
-use Rattle.tcc_graph.specs.Levels.{Judged}
+use Rattle.tcc_graph.specs.Levels.{Judged, judged}
 use Rattle.tcc_graph.specs.Relations.{IsCausalPair}
 use Rattle.tcc_graph.specs.Links.{IsLink, link_from, link_to}
 use Rattle.tcc_graph.specs.declared.link.Link.{Link}
-use Rattle.tcc_order.specs.Placements.{IsDerivedPair}
+use Rattle.tcc_order.specs.Placements.{IsDerivedPair, IsStuck}
+use Rattle.tcc_large.specs.declared.predecessor_cycle.StuckOrder.{StuckOrder}
+
+-- a history at its level, and that an order of it stops
+abbrev pub judged_at : StuckOrder → Judged
+judged_at at = judged at.graph.now at.level
+
+abbrev pub IsStuckAt : StuckOrder → Type 0
+IsStuckAt at = IsStuck (judged_at at) at.stuck.now.kept.items at.stuck.now.placed.items
 
 -- b has to stand before a, by a pair or by a derived link
 abbrev pub IsHeldBack : Judged → ℕ → ℕ → Type 0

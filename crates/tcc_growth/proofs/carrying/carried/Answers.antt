@@ -13,6 +13,5 @@ invariant_of-numbers c =
       ap length c.requires,
       length-map c.names-2.result.now string_bytes,
       length-map-range_with_len (label c.args.graph.now) 0 (count c.args.graph.now),
-      c.count-count.ensures.value,
-      c.count-count.type_inv,
+      c.count.ensures.value,
     )

@@ -15,7 +15,6 @@ loop-position-preserved c =
     let there = c.in-Some.ensures in
     record {
       reach = is.reach;
-      covered = is.covered;
       start = ap (λ (q : ℕ × ℕ). q.0) (is.more.same 0 (omega (arith, was.inside))) ∙ was.start;
       inside = there.0;
       spread = spread_next h old.positions old.queue.items new.positions new.queue.items p was.spread is.more was.inside is.met;
@@ -31,13 +30,13 @@ unreachable-requires c =
     let was = c.loop-position.invariant in
     elim c.loop-position-test.branch [
       | else-loop-position-test w ↦
-          absurd (omega (arith, was.inside, reach_room h old.positions old.queue.items was.reach, w.loop-position-test.false, c.count-position-end.ensures.value))
+          absurd (omega (arith, was.inside, reach_room h old.positions old.covered old.queue.items was.reach, w.loop-position-test.false, c.count-position-end.ensures.value))
       | then-loop-position-test+in_ok-spread+in_default w ↦
           let new = w.spread.new.self in
           let is = w.in_ok-spread.ensures in
           let more : NoneUpTo h c.args.from c.args.to new.queue.items p
           = none_kept h c.args.from c.args.to old.positions old.queue.items new.positions new.queue.items p was.none is.more was.inside in
-          no_walk h c.args.from c.args.to new.positions new.queue.items p is.reach
+          no_walk h c.args.from c.args.to new.positions new.covered new.queue.items p is.reach
           (spread_next h old.positions old.queue.items new.positions new.queue.items p was.spread is.more was.inside is.met)
           (ap (λ (q : ℕ × ℕ). q.0) (is.more.same 0 (omega (arith, was.inside))) ∙ was.start) w.in_default.ensures more c.requires
     ]

@@ -4,7 +4,7 @@ use Rattle.tcc_graph.specs.Relations.{IsCausalPair}
 use Rattle.tcc_graph.specs.declared.link.Link.{Link}
 use Rattle.tcc_graph.proofs.Pairs.{pair_kinds, pair_from_kinds}
 use Rattle.tcc_least.specs.private.Building.{IsShortCycle}
-use Rattle.tcc_least.proofs.Built.{round_of_one, round_of_two, round_of_three, third}
+use Rattle.tcc_least.proofs.Built.{round_of_one, round_of_two, round_of_three, there_and_back, third}
 use Rattle.tcc_least.proofs.building.round_links.Goals as goal
 
 after : (xs ys : List Link) (k : List Link) (l : Link) → xs ≡ k → ys ≡ xs ++ l ∷ [] → ys ≡ k ++ l ∷ []
@@ -29,8 +29,8 @@ returns-then-causal c = λ n low round.
     let all : c.push-then-causal-2.new.self.items ≡ l ∷ m ∷ []
     = after c.push-then-causal.new.self.items c.push-then-causal-2.new.self.items (l ∷ []) m first c.in_ok-push-3.ensures.items in
     subst (λ (z : List Link). IsShortCycle c.args.graph.now n z) (sym all)
-    (round_of_two c.args.graph.now c.args.source c.args.reader n l m c.if-reader-source.false round c.pair_link-then-causal.ensures
-    c.pair_link-then-causal-2.ensures)
+    (there_and_back c.args.graph.now c.args.source c.args.reader 1 1 n l m c.pair_link-then-causal.ensures c.pair_link-then-causal-2.ensures
+    (round_of_two c.args.graph.now c.args.source c.args.reader n c.if-reader-source.false round))
 
 pub source_of_source-first-requires-clause-there : goal.source_of_source-first-requires-clause-there
 source_of_source-first-requires-clause-there c =

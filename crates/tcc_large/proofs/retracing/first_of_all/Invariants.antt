@@ -1,6 +1,0 @@
-use Rattle.std.proofs.Common.{ℕ, ◌<◌, ◌≡◌, true}
-use Rattle.tcc_bits.specs.Bits.{is_marked}
-use Rattle.tcc_large.proofs.retracing.first_of_all.Given as goal
-
-abbrev pub invariant-loop-number : goal.invariant-loop-number
-invariant-loop-number l = (v : ℕ) → v < l.number → is_marked l.stuck.placed.items v ≡ true

@@ -1,5 +1,0 @@
-use Rattle.tcc_large.proofs.Returned.{ArePassed}
-use Rattle.tcc_large.proofs.simple.first_return.Given as goal
-
-abbrev pub invariant-loop-index : goal.invariant-loop-index
-invariant-loop-index l = ArePassed l.count l.links l.positions l.index
