@@ -35,6 +35,15 @@ all_met links needs numbers same some first all (suc m) met =
     let w = met_listed links (suc m) (omega arith) met in
     all (suc m) (in_map (λ (z : ℕ × Need). z.0) needs (suc m, w.0) (Contains-permutation (flat_map needs_of_link links) needs (suc m, w.0) same w.1))
 
+-- where each of some items comes back as it was, so do all
+all_back : {X : Type 0} (there back : X → X) (P : X → Type 0) → ((x : X) → P x → back (there x) ≡ x) → (xs : List X) → All P xs
+    → map back (map there xs) ≡ xs
+all_back there back P each [] have = refl
+all_back there back P each (x ∷ xs) have =
+    let here = each x (All-head P x xs have) in
+    let rest = all_back there back P each xs (All-tail P x xs have) in
+    λ i. here i ∷ rest i
+
 module _ (numbers : List ℕ) (rising : IsRising numbers) (links : List Link) (all : (n : ℕ) → IsMet links n → Contains numbers n) where
   back : (n : ℕ) → IsMet links n → carry numbers (place numbers n) ≡ n
   back n met = (placed_back numbers n rising (all n met)).1
@@ -47,28 +56,14 @@ module _ (numbers : List ℕ) (rising : IsRising numbers) (links : List Link) (a
   step_back (step.Session a b) has = let ends = ends_back (step.Session a b) has in λ i. step.Session (ends.0 i) (ends.1 i)
   step_back (step.Reads a b x) has = let ends = ends_back (step.Reads a b x) has in λ i. step.Reads (ends.0 i) (ends.1 i) x
 
-  walk_back : (walk : List Step) → All (HasStep links) walk → map (step_by (carry numbers)) (map (step_by (place numbers)) walk) ≡ walk
-  walk_back [] have = refl
-  walk_back (s ∷ walk) have =
-      let here = step_back s (All-head (HasStep links) s walk have) in
-      let rest = walk_back walk (All-tail (HasStep links) s walk have) in
-      λ i. here i ∷ rest i
-
   link_back : (l : Link) → Contains links l → link_by (carry numbers) (link_by (place numbers) l) ≡ l
   link_back (link.Session a b) has = ap link_of (step_back (step.Session a b) (session_step links a b has))
   link_back (link.Reads a b x) has = ap link_of (step_back (step.Reads a b x) (reads_step links a b x has))
   link_back (link.Derived b a x c walk) has =
       let from = back b (inr (x, a, c, walk, has)) in
       let read = ends_back (step.Reads a c x) (contradicted_step links b a x c walk has) in
-      let way = walk_back walk (walk_steps links b a x c walk has) in
+      let way = all_back (step_by (place numbers)) (step_by (carry numbers)) (HasStep links) step_back walk (walk_steps links b a x c walk has) in
       λ i. link.Derived (from i) (read.0 i) x (read.1 i) (way i)
 
-  each_back : (some : List Link) → All (Contains links) some → map (link_by (carry numbers)) (map (link_by (place numbers)) some) ≡ some
-  each_back [] have = refl
-  each_back (l ∷ some) have =
-      let here = link_back l (All-head (Contains links) l some have) in
-      let rest = each_back some (All-tail (Contains links) l some have) in
-      λ i. here i ∷ rest i
-
   pub told_back : map (link_by (carry numbers)) (map (link_by (place numbers)) links) ≡ links
-  told_back = each_back links (All-contains_itself links)
+  told_back = all_back (link_by (place numbers)) (link_by (carry numbers)) (Contains links) link_back links (All-contains_itself links)
