@@ -72,7 +72,7 @@ read_op site read is = go site.op is
     go (Get x v) e = by x v (visible_write x site.before) e
     go (Put x v) e = absurd cc
 
-itself_op : (op : Op) → same_op op op ≡ true
+pub itself_op : (op : Op) → same_op op op ≡ true
 itself_op (Get x v) = and_from (bytes_eq x x) (v == v) (itself x) (eq-eqb v v refl)
 itself_op (Put x v) = and_from (bytes_eq x x) (v == v) (itself x) (eq-eqb v v refl)
 

@@ -15,7 +15,7 @@ use crate::needs::Need;
 use std::alloc::Global;
 use tcc_graph::LargeGraph;
 use tcc_operations::source_value;
-use tcc_txn::{GrowFault, LargeSnapshot, Name, NoMemory, Op, Recorded, Snapshot, Txn};
+use tcc_txn::{Alike, GrowFault, LargeSnapshot, Name, NoMemory, Op, Recorded, Snapshot, Txn};
 
 /// The transaction of a number; none for `init` and past the last.
 fn recorded<'a>(
@@ -93,23 +93,7 @@ fn wanted_ops(
 fn is_same(one: &Op, other: &Op) -> bool
     ensures { result ≡ same_op one.now other.now }
 {
-    match (one, other) {
-        (
-            Op::Get { key, value },
-            Op::Get {
-                key: read,
-                value: seen,
-            },
-        ) => key == read && value == seen,
-        (
-            Op::Put { key, value },
-            Op::Put {
-                key: written,
-                value: put,
-            },
-        ) => key == written && value == put,
-        _ => false,
-    }
+    one.is_same(other)
 }
 
 /// Whether an operation may be read from others: none before it writes its key.
