@@ -18,7 +18,8 @@ use Rattle.tcc_judge.specs.Verdicts.{rules_of}
 use Rattle.tcc_judge.specs.declared.verdict.Rule.{Rule as LargeRule}
 use Rattle.tcc_print.specs.Statuses.{code_of, verdict_status}
 use Rattle.tcc_verdict.specs.Checking.{IsRun}
-use Rattle.tcc_verdict.proofs.Shown.{Succeeds, TellsHalts, run_succeeds}
+use Rattle.tcc_verdict.specs.private.Stages.{TellsHalts}
+use Rattle.tcc_verdict.proofs.Shown.{Succeeds, run_succeeds}
 use Rattle.tcc_large_check.specs.LargeChecks.{IsLargeShown, IsLargeTextCheck, IsTrueLargeClaim, IsTrueText, IsVerdictFor, large_check}
 use Rattle.tcc_large_check.specs.LargeTexts.{large_status}
 use Rattle.tcc_large_check.specs.declared.judgement.LargeJudgement.{LargeJudgement}

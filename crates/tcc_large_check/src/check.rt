@@ -1,10 +1,7 @@
 //! From the bytes of a history of any size and of a certificate of any version to the verdict.
 ghost use Rattle.std.specs.Prelude.{◌≡◌, IfSome};
-ghost use Rattle.tcc_txn.specs.declared.limits.Limits.TheVariants.{Large};
-ghost use Rattle.tcc_verdict.specs.Checking.{IsRun, MayBe, PrintsOutcome};
-ghost use Rattle.tcc_verdict.specs.private.Stages.{IsMadeOf};
+ghost use Rattle.tcc_verdict.specs.Checking.{IsRun, PrintsOutcome};
 ghost use Rattle.tcc_large_check.specs.LargeChecks.{IsLargeShown, large_check};
-ghost use Rattle.tcc_large_check.specs.private.Stages.{IsSizedHistory};
 
 use crate::LargeJudgement;
 use crate::laws::accepted;
@@ -15,32 +12,50 @@ use std::alloc::Global;
 use std::io::{Read, Write};
 use tcc_check::laws::certified;
 use tcc_print::Halt;
-use tcc_rows::LargeRecording;
-use tcc_verdict::recorded;
+use tcc_txn::{LargeLimits, LargeSnapshot};
+use tcc_verdict::{Checker, run_checker};
 
-/// The history of all that the records finish, whatever was sealed.
-fn history_of<R: Read + Drop, N: Write>(
-    alloc: Global,
-    reader: R,
-    notes: &mut N,
-) -> Result<SizedGraph, Halt>
-    ensures { IfSome (R.remaining reader) (λ records. IsMadeOf Large IsSizedHistory records result) }
-{
-    let recording: LargeRecording<R> = recorded(alloc, reader, notes)?;
-    sized_graph_of(alloc, recording.snapshot(), notes)
-}
+/// The check of a history within the large limits, and of a certificate of any version.
+struct LargeChecker;
 
-/// The verdict on the certificate for the history, or the first fault of the two.
-fn checked<H: Read + Drop, C: Read + Drop, N: Write>(
-    alloc: Global,
-    history: H,
-    certificate: C,
-    notes: &mut N,
-) -> Result<LargeJudgement, Halt>
-    ensures { IfSome (H.remaining history) (λ records. IfSome (C.remaining certificate) (λ text. MayBe large_check records text result)) }
-{
-    let graph = history_of(alloc, history, notes)?;
-    judged(alloc, &graph, certificate)
+impl Checker for LargeChecker {
+    ghost use Rattle.std.specs.Prelude.{refl};
+    ghost use Rattle.tcc_large_check.specs.LargeChecks.{large_check};
+    ghost use Rattle.tcc_large_check.specs.private.Stages.{IsSizedHistory};
+
+    type Limits = LargeLimits;
+
+    type Graph = SizedGraph;
+
+    type Judgement = LargeJudgement;
+
+    ghost check = { large_check };
+
+    ghost is_made = { IsSizedHistory };
+
+    ghost within = { refl };
+
+    ghost tells = { record { text = λ why. refl; status = λ why. refl } };
+
+    fn graph_of<N: Write>(
+        alloc: Global,
+        snapshot: &LargeSnapshot,
+        notes: &mut N,
+    ) -> Result<SizedGraph, Halt> {
+        sized_graph_of(alloc, snapshot, notes)
+    }
+
+    fn judged<R: Read + Drop>(
+        alloc: Global,
+        graph: &SizedGraph,
+        reader: R,
+    ) -> Result<LargeJudgement, Halt> {
+        judged(alloc, graph, reader)
+    }
+
+    fn print<W: Write>(alloc: Global, outcome: &Result<LargeJudgement, Halt>, out: &mut W) -> u8 {
+        print_large_check(alloc, outcome, out)
+    }
 }
 
 /// Writes the verdict on the certificate, of any version, for the history, within the large limits; or the first fault of the two; and
@@ -61,5 +76,5 @@ pub fn run_check_large<H: Read + Drop, C: Read + Drop, W: Write, N: Write>(
 {
     certified();
     accepted();
-    print_large_check(alloc, &checked(alloc, history, certificate, notes), out)
+    run_checker::<LargeChecker, H, C, W, N>(alloc, history, certificate, out, notes)
 }

@@ -24,6 +24,7 @@ use Rattle.tcc_print.specs.Statuses.{certificate_status, code_of, halt_status, r
 use Rattle.tcc_print.specs.Printed.{Prints, PrintsOrMemory, memory_line}
 use Rattle.tcc_print.specs.Texts.{halt_text}
 use Rattle.tcc_verdict.specs.Checking.{Check, IsOfRecords, IsRun, MayBe, PrintsOutcome}
+use Rattle.tcc_verdict.specs.private.Stages.{TellsHalts}
 use Rattle.tcc_verdict.specs.Checks.{IsCheckRun, IsShown, small_check}
 
 -- ---- of any check
@@ -47,11 +48,6 @@ halt_fails NoMemory h = cc
 
 not_zero : code_of status.Device ≡ 0 → ⊥
 not_zero h = cc
-
--- what stands in the place of a verdict is told as it is elsewhere
-pub record TellsHalts {J : Type 0} (check : Check J) : Type 0 where
-  pub text : (why : Halt) → check.text (Err why) ≡ halt_text why
-  pub status : (why : Halt) → check.status (Err why) ≡ halt_status why
 
 -- a judgement that ended with success, and the records that it is about
 pub record Succeeds {J : Type 0} (check : Check J) (records : List ℕ) (text : List ℕ) : Type 0 where

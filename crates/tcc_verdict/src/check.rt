@@ -1,12 +1,10 @@
 //! From the bytes of a history and of a certificate to the verdict.
-ghost use Rattle.std.specs.Prelude.{◌≡◌, Ok, IfSome, MatchResult};
-ghost use Rattle.tcc_rows.specs.Recordings.{IsRecorded};
-ghost use Rattle.tcc_txn.specs.declared.limits.Limits.TheVariants.{Small};
+ghost use Rattle.std.specs.Prelude.{◌≡◌, IfSome};
 ghost use Rattle.tcc_verdict.specs.Checking.{IsHistory, MayBeResolution};
-ghost use Rattle.tcc_verdict.specs.Checks.{IsCheckRun, IsShown, MayBeCheck, PrintsSome};
-ghost use Rattle.tcc_verdict.specs.private.Stages.{IsMadeOf, MayBeTextCheck};
+ghost use Rattle.tcc_verdict.specs.Checks.{IsCheckRun, IsShown, PrintsSome};
+ghost use Rattle.tcc_verdict.specs.private.Stages.{MayBeTextCheck};
 
-use crate::stopping::note_stop;
+use crate::{Checker, run_checker};
 use std::alloc::Global;
 use std::io::{Read, Write};
 use tcc_check::laws::certified;
@@ -16,34 +14,7 @@ use tcc_print::Halt;
 use tcc_print::notes::note_reads;
 use tcc_print::printing::print_check;
 use tcc_reads::{ResolveFault, resolve};
-use tcc_rows::{Recording, RecordingWithin, RowFault, RowFaultKind};
-use tcc_txn::{Bounds, Snapshot, SnapshotWithin};
-
-/// The recording of all that the records finish within the limits that `B` stands for, whatever they seal; of a record's fault it
-/// is noted what to mend.
-pub fn recorded<R: Read + Drop, B: Bounds, N: Write>(
-    alloc: Global,
-    reader: R,
-    notes: &mut N,
-) -> Result<RecordingWithin<R, B>, RowFault>
-    ensures { IfSome (R.remaining reader) (λ text. MatchResult result
-        (λ recording. IsRecorded B.limits text (Ok recording.snapshot)) (λ fault. IsRecorded B.limits text (Err fault))) }
-{
-    let Ok(recording) = RecordingWithin::<R, B>::new(alloc, reader) else {
-        return Err(RowFault {
-            row: 1,
-            kind: RowFaultKind::NoMemory,
-        });
-    };
-    let mut recording = recording;
-    match recording.pass_seals(alloc) {
-        Ok(()) => Ok(recording),
-        Err(fault) => {
-            note_stop(alloc, &recording, &fault, notes);
-            Err(fault)
-        }
-    }
-}
+use tcc_txn::{Bounds, SmallLimits, Snapshot, SnapshotWithin};
 
 /// What the resolver answered of a snapshot; of the first read faults it is noted which write each of them is about.
 pub fn noted<T, B: Bounds, N: Write>(
@@ -69,18 +40,6 @@ pub fn graph_of<N: Write>(alloc: Global, snapshot: &Snapshot, notes: &mut N) -> 
     Ok(graph)
 }
 
-/// The history of all that the records finish, whatever was sealed.
-fn history_of<R: Read + Drop, N: Write>(
-    alloc: Global,
-    reader: R,
-    notes: &mut N,
-) -> Result<Graph, Halt>
-    ensures { IfSome (R.remaining reader) (λ records. IsMadeOf Small IsHistory records result) }
-{
-    let recording: Recording<R> = recorded(alloc, reader, notes)?;
-    graph_of(alloc, recording.snapshot(), notes)
-}
-
 /// What the certificate claims whose text the reader gives, and the verdict on it. The text is judged as it comes.
 fn judged<R: Read + Drop>(alloc: Global, graph: &Graph, reader: R) -> Result<Judgement, Halt>
     ensures { IfSome (R.remaining reader) (λ text. MayBeTextCheck graph.now text result) }
@@ -89,17 +48,43 @@ fn judged<R: Read + Drop>(alloc: Global, graph: &Graph, reader: R) -> Result<Jud
     Ok(judgement)
 }
 
-/// The verdict on the certificate for the history, or the first fault of the two.
-fn checked<H: Read + Drop, C: Read + Drop, N: Write>(
-    alloc: Global,
-    history: H,
-    certificate: C,
-    notes: &mut N,
-) -> Result<Judgement, Halt>
-    ensures { IfSome (H.remaining history) (λ records. IfSome (C.remaining certificate) (λ text. MayBeCheck records text result)) }
-{
-    let graph = history_of(alloc, history, notes)?;
-    judged(alloc, &graph, certificate)
+/// The check of a history within the small limits, and of a certificate of version 1 or 2.
+struct SmallChecker;
+
+impl Checker for SmallChecker {
+    ghost use Rattle.std.specs.Prelude.{refl};
+    ghost use Rattle.tcc_verdict.specs.Checking.{IsHistory};
+    ghost use Rattle.tcc_verdict.specs.Checks.{small_check};
+
+    type Limits = SmallLimits;
+
+    type Graph = Graph;
+
+    type Judgement = Judgement;
+
+    ghost check = { small_check };
+
+    ghost is_made = { IsHistory };
+
+    ghost within = { refl };
+
+    ghost tells = { record { text = λ why. refl; status = λ why. refl } };
+
+    fn graph_of<N: Write>(
+        alloc: Global,
+        snapshot: &Snapshot,
+        notes: &mut N,
+    ) -> Result<Graph, Halt> {
+        graph_of(alloc, snapshot, notes)
+    }
+
+    fn judged<R: Read + Drop>(alloc: Global, graph: &Graph, reader: R) -> Result<Judgement, Halt> {
+        judged(alloc, graph, reader)
+    }
+
+    fn print<W: Write>(alloc: Global, outcome: &Result<Judgement, Halt>, out: &mut W) -> u8 {
+        print_check(alloc, outcome, out)
+    }
 }
 
 /// Writes the verdict on the certificate for the history, or the first fault of the two, and gives the status of the
@@ -118,5 +103,5 @@ pub fn run_check<H: Read + Drop, C: Read + Drop, W: Write, N: Write>(
     ensures shown { IfSome (H.remaining history) (λ records. IfSome (C.remaining certificate) (λ text. result ≡ 0 → IsShown records text)) }
 {
     certified();
-    print_check(alloc, &checked(alloc, history, certificate, notes), out)
+    run_checker::<SmallChecker, H, C, W, N>(alloc, history, certificate, out, notes)
 }

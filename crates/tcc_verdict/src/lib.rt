@@ -2,7 +2,9 @@
 #![tactic(auto)]
 
 mod check;
+mod checker;
 mod stopping;
 
-pub use check::{graph_of, noted, recorded, run_check};
+pub use check::{graph_of, noted, run_check};
+pub use checker::{Checker, recorded, run_checker};
 pub use stopping::stop;

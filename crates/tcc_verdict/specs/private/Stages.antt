@@ -9,6 +9,8 @@ use Rattle.tcc_rows.specs.declared.fault.RowFault.{RowFault}
 use Rattle.tcc_rows.specs.declared.fault.RowFaultKind.TheVariants as row_kind
 use Rattle.tcc_reads.specs.History.{History}
 use Rattle.tcc_check.specs.declared.judgement.Judgement.{Judgement}
+use Rattle.tcc_print.specs.Statuses.{halt_status}
+use Rattle.tcc_print.specs.Texts.{halt_text}
 use Rattle.tcc_print.specs.declared.halt.Halt.{Halt}
 use Rattle.tcc_print.specs.declared.halt.Halt.TheVariants.{Row, Text, NoMemory}
 use Rattle.tcc_verdict.specs.Checking.{Check, IsResolution}
@@ -31,6 +33,11 @@ IsMadeOf limits is_made records o =
 abbrev pub MayBeOfText : {J : Type 0} → Check J → Sessions → List ℕ → Result J Halt → Type 0
 MayBeOfText check s text o = check.of_text s text o ⊎ (o ≡ Err NoMemory)
 
--- so for a history within the small limits
+-- what stands in the place of a verdict is told as it is elsewhere
+pub record TellsHalts {J : Type 0} (check : Check J) : Type 0 where
+  pub text : (why : Halt) → check.text (Err why) ≡ halt_text why
+  pub status : (why : Halt) → check.status (Err why) ≡ halt_status why
+
+-- what comes of the certificate's text for a history within the small limits, or `NoMemory`
 abbrev pub MayBeTextCheck : History → List ℕ → Result Judgement Halt → Type 0
 MayBeTextCheck h text o = IsTextCheck h text o ⊎ (o ≡ Err NoMemory)

@@ -1,20 +1,9 @@
--- What was printed is what a run may print; and success shows the claim, by the laws of the two judges.
+-- Success shows the claim, by the laws of the two judges.
 use Rattle.std.proofs.lemmas.Option.{IfSome_then}
-use Rattle.tcc_verdict.proofs.Shown.{prints_some, run_of}
-use Rattle.tcc_large_check.specs.LargeChecks.{large_check}
-use Rattle.tcc_large_check.proofs.LargeShown.{large_tells, shown}
+use Rattle.tcc_large_check.proofs.LargeShown.{shown}
 use Rattle.tcc_large_check.proofs.check.run_check_large.Goals as goal
 
-pub returns-clause-run : goal.returns-clause-run
-returns-clause-run g c = IfSome_then (g.H.Read.remaining c.args.history) c.checked.ensures
-    (λ records whole. IfSome_then (g.C.Read.remaining c.args.certificate) whole
-    (λ text may. run_of large_check large_tells _ _ c.checked.result c.print_large_check.result records text may c.print_large_check.ensures))
-
 pub returns-clause-shown : goal.returns-clause-shown
-returns-clause-shown g c = IfSome_then (g.H.Read.remaining c.args.history) c.checked.ensures
+returns-clause-shown g c = IfSome_then (g.H.Read.remaining c.args.history) c.run_checker.ensures.run
     (λ records whole. IfSome_then (g.C.Read.remaining c.args.certificate) whole
-    (λ text may. shown c.certified.ensures c.accepted.ensures records text _ _ c.print_large_check.result
-    (run_of large_check large_tells _ _ c.checked.result c.print_large_check.result records text may c.print_large_check.ensures)))
-
-pub returns-clause-printed : goal.returns-clause-printed
-returns-clause-printed g c = prints_some large_check large_tells _ _ c.checked.result c.print_large_check.result c.print_large_check.ensures
+    (λ text run. shown c.certified.ensures c.accepted.ensures records text _ _ c.run_checker.result run))

@@ -1,0 +1,129 @@
+//! The run of a check, whatever history it makes of the records and however it judges a certificate.
+ghost use Rattle.std.specs.Prelude.{◌≡◌, Ok, IfSome, MatchResult};
+ghost use Rattle.tcc_rows.specs.Recordings.{IsRecorded};
+ghost use Rattle.tcc_verdict.specs.Checking.{IsRun, MayBe, PrintsOutcome};
+ghost use Rattle.tcc_verdict.specs.private.Stages.{IsMadeOf};
+
+use crate::stopping::note_stop;
+use std::alloc::Global;
+use std::io::{Read, Write};
+use tcc_print::Halt;
+use tcc_rows::{RecordingWithin, RowFault, RowFaultKind};
+use tcc_txn::{Bounds, SnapshotWithin};
+
+/// How the history is made of a snapshot, how a certificate is judged for it, and how that is printed.
+pub trait Checker {
+    ghost use Rattle.std.specs.Prelude.{◌≡◌, IfSome, false};
+    ghost use Rattle.tcc_txn.specs.Snapshots.{Sessions};
+    ghost use Rattle.tcc_print.specs.Printed.{PrintsOrMemory};
+    ghost use Rattle.tcc_verdict.specs.Checking.{Check, MayBeResolution};
+    ghost use Rattle.tcc_verdict.specs.private.Stages.{MayBeOfText, TellsHalts};
+
+    /// The limits of the records.
+    type Limits: Bounds;
+
+    /// The history.
+    type Graph: Drop;
+
+    /// What is said of a certificate.
+    type Judgement: Drop;
+
+    ghost check: { Check Self.Judgement };
+
+    ghost is_made: { Sessions → Self.Graph → Type 0 };
+
+    /// The history of a snapshot, or all its read faults; of the first of these it is noted which write each of them is about.
+    fn graph_of<N: Write>(
+        alloc: Global,
+        snapshot: &SnapshotWithin<Self::Limits>,
+        notes: &mut N,
+    ) -> Result<Self::Graph, Halt>
+        ensures { MayBeResolution is_made snapshot.now result };
+
+    /// What the certificate claims whose text the reader gives, and the verdict on it.
+    fn judged<R: Read + Drop>(
+        alloc: Global,
+        graph: &Self::Graph,
+        reader: R,
+    ) -> Result<Self::Judgement, Halt>
+        ensures { IfSome (R.remaining reader) (λ text. (s : Sessions) → is_made s graph.now → MayBeOfText check s text result) };
+
+    /// Writes the outcome, and gives the status of the run. Where memory is out, that is written in its place.
+    fn print<W: Write>(alloc: Global, outcome: &Result<Self::Judgement, Halt>, out: &mut W) -> u8
+        ensures { PrintsOrMemory false (W.contents out.old) (W.contents out.new) (check.text outcome.now) (check.status outcome.now) result };
+
+    ghost within: { check.limits ≡ Self.Limits.limits };
+
+    ghost tells: { TellsHalts check };
+}
+
+/// The recording of all that the records finish within the limits that `B` stands for, whatever they seal; of a record's fault it
+/// is noted what to mend.
+pub fn recorded<R: Read + Drop, B: Bounds, N: Write>(
+    alloc: Global,
+    reader: R,
+    notes: &mut N,
+) -> Result<RecordingWithin<R, B>, RowFault>
+    ensures { IfSome (R.remaining reader) (λ text. MatchResult result
+        (λ recording. IsRecorded B.limits text (Ok recording.snapshot)) (λ fault. IsRecorded B.limits text (Err fault))) }
+{
+    let Ok(recording) = RecordingWithin::<R, B>::new(alloc, reader) else {
+        return Err(RowFault {
+            row: 1,
+            kind: RowFaultKind::NoMemory,
+        });
+    };
+    let mut recording = recording;
+    match recording.pass_seals(alloc) {
+        Ok(()) => Ok(recording),
+        Err(fault) => {
+            note_stop(alloc, &recording, &fault, notes);
+            Err(fault)
+        }
+    }
+}
+
+/// The history of all that the records finish, whatever was sealed.
+fn history_of<C: Checker, R: Read + Drop, N: Write>(
+    alloc: Global,
+    reader: R,
+    notes: &mut N,
+) -> Result<C::Graph, Halt>
+    ensures { IfSome (R.remaining reader) (λ records. IsMadeOf C.Limits.limits C.is_made records result) }
+{
+    let recording = recorded::<R, C::Limits, N>(alloc, reader, notes)?;
+    C::graph_of(alloc, recording.snapshot(), notes)
+}
+
+/// The verdict on the certificate for the history, or the first fault of the two.
+fn checked<C: Checker, H: Read + Drop, R: Read + Drop, N: Write>(
+    alloc: Global,
+    history: H,
+    certificate: R,
+    notes: &mut N,
+) -> Result<C::Judgement, Halt>
+    ensures { IfSome (H.remaining history) (λ records. IfSome (R.remaining certificate) (λ text. MayBe C.check records text result)) }
+{
+    let graph = history_of::<C, H, N>(alloc, history, notes)?;
+    C::judged(alloc, &graph, certificate)
+}
+
+/// Writes the verdict on the certificate for the history, or the first fault of the two, and gives the status of the
+/// run. What to mend, where records or reads have faults, goes to the notes.
+pub fn run_checker<C: Checker, H: Read + Drop, R: Read + Drop, W: Write, N: Write>(
+    alloc: Global,
+    history: H,
+    certificate: R,
+    out: &mut W,
+    notes: &mut N,
+) -> u8
+    ensures run { IfSome (H.remaining history)
+        (λ records. IfSome (R.remaining certificate) (λ text. IsRun C.check records text (W.contents out.old) (W.contents out.new) result)) }
+    ensures printed { PrintsOutcome C.check (W.contents out.old) (W.contents out.new) result }
+{
+    C::print(
+        alloc,
+        &checked::<C, H, R, N>(alloc, history, certificate, notes),
+        out,
+    )
+}
