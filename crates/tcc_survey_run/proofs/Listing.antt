@@ -1,13 +1,17 @@
 -- The parts of a survey's text, one after the other.
-use Rattle.std.proofs.Common.{◌≡◌, ℕ, Bool, List, ◌++◌, flat_map, length, Option, Ok, Err, subst}
+use Rattle.std.proofs.Common.{◌≡◌, ℕ, Bool, List, ◌++◌, flat_map, length, Option, Ok, Err, inl, subst}
 use Rattle.std.specs.Prelude.{Result, IfErr, IsErrAnd, OnOk}
 use Rattle.std.specs.Io.KnownBytes.{Appends}
 use Rattle.std.proofs.KnownBytes.{Appends-trans}
-use Rattle.std.proofs.lemmas.Result.{IfErr-weaker}
+use Rattle.tcc_txn.specs.Snapshots.{Sessions}
+use Rattle.tcc_reads.specs.Faults.{read_faults}
 use Rattle.tcc_reads.specs.History.{History}
 use Rattle.tcc_reads.specs.declared.fault.ReadFault.{ReadFault}
 use Rattle.tcc_print.specs.Printed.{EndsIn}
-use Rattle.tcc_survey_run.specs.Surveys.{BreaksOff, fault_lines, name_line, read_count, read_line, survey_text, total_line}
+use Rattle.tcc_survey.specs.declared.contradicted.Contradicted.{Contradicted}
+use Rattle.tcc_survey_run.specs.Surveys.{BreaksOff, GoesOut, fault_lines, name_line, read_count, read_line, survey_status, survey_text, total_line}
+use Rattle.tcc_survey_run.specs.Told.{AreNames, AreTold}
+use Rattle.tcc_survey_run.specs.private.Saying.{SaysFound}
 use Rattle.tcc_survey_run.specs.declared.counting.NameCount.{NameCount}
 use Rattle.tcc_survey_run.specs.declared.told.ToldRead.{ToldRead}
 use Rattle.tcc_survey_run.proofs.Breaking.{breaks_behind, breaks_ending, breaks_first, ended_by}
@@ -61,18 +65,26 @@ module _ (json : Bool) (h : History) (told : List ToldRead) (faults : List ReadF
           names_out : Appends n k names_said
           names_out = subst (λ ns. Appends n k (flat_map (name_line json) ns)) alike named
 
-          pub all_out : (b : Option (List ℕ)) (r : Result (Unit {0}) ℕ) → OnOk r (Appends k b text) → OnOk r (Appends a b whole)
-          all_out b (Ok done) out =
-              Appends-trans a m b reads_said (faults_said ++ (names_said ++ total_said)) reads_out
-              (Appends-trans m n b faults_said (names_said ++ total_said) faulty
-              (Appends-trans n k b names_said total_said names_out (subst (λ t. Appends k b t) is out)))
-          all_out b (Err code) out = tt
+          -- the last line went out, or the run ended in it
+          pub total_out : (b : Option (List ℕ)) (r : Result (Unit {0}) ℕ) → OnOk r (Appends k b text) → IfErr r (EndsIn json k b text)
+              → OnOk r (Appends a b whole) × IfErr r (BreaksOff json a b whole)
+          total_out b (Ok done) out ends = (
+            Appends-trans a m b reads_said (faults_said ++ (names_said ++ total_said)) reads_out
+                (Appends-trans m n b faults_said (names_said ++ total_said) faulty
+                (Appends-trans n k b names_said total_said names_out (subst (λ t. Appends k b t) is out))),
+            tt,
+          )
+          total_out b (Err code) out ends = (
+            tt,
+            breaks_behind json a m b reads_said (faults_said ++ (names_said ++ total_said)) code reads_out
+                (breaks_behind json m n b faults_said (names_said ++ total_said) code faulty
+                (breaks_behind json n k b names_said total_said code names_out
+                (breaks_ending json k b total_said code (subst (λ t. EndsIn json k b t code) is ends)))),
+          )
 
-          pub total_breaks : (b : Option (List ℕ)) (r : Result (Unit {0}) ℕ) → IfErr r (EndsIn json k b text) → IfErr r (BreaksOff json a b whole)
-          total_breaks b r ends =
-              IfErr-weaker r (EndsIn json k b text) (BreaksOff json a b whole)
-              (λ code end.
-              breaks_behind json a m b reads_said (faults_said ++ (names_said ++ total_said)) code reads_out
-              (breaks_behind json m n b faults_said (names_said ++ total_said) code faulty
-              (breaks_behind json n k b names_said total_said code names_out
-              (breaks_ending json k b total_said code (subst (λ t. EndsIn json k b t code) is end))))) ends
+-- what is found was said, where its lines go out
+pub said : (json : Bool) (s : Sessions) (h : History) (found : List Contradicted) (before after : Option (List ℕ)) (code : ℕ)
+    (faults : List ReadFault) (told : List ToldRead) (names : List NameCount) → AreTold s h found told → AreNames told names → faults ≡ read_faults s
+    → GoesOut json before after (survey_text json h told faults names) (survey_status told faults) code → SaysFound json s h found before after code
+said json s h found before after code faults told names are named same out =
+    inl (told, names, are, named, subst (λ fs. GoesOut json before after (survey_text json h told fs names) (survey_status told fs) code) same out)

@@ -2,15 +2,13 @@
 use Rattle.std.specs.Prelude.{ℕ, List, map, codes}
 use Rattle.serde_json.specs.Data.{Data, number, unsigned, string, array, object, no_members, member}
 use Rattle.serde_json.specs.View.{items_of}
-use Rattle.tcc_reads.specs.History.{History}
-use Rattle.tcc_graph.specs.Numbers.{label}
 use Rattle.tcc_survey_run.specs.declared.counting.NameCount.{NameCount}
 use Rattle.tcc_survey_run.specs.declared.told.ToldRead.{ToldRead}
 use Rattle.tcc_survey_run.specs.Told.{name_words}
 
--- with the labels of the reader and of the writer
-abbrev pub labelled_read_json : List ℕ → List ℕ → ToldRead → Data
-labelled_read_json reader writer told = object
+-- a contradicted read, with the labels of the reader and of the writer
+abbrev pub read_json : List ℕ → List ℕ → ToldRead → Data
+read_json reader writer told = object
     (member (codes "contradicted") (string reader)
     (member (codes "key") (string told.key)
     (member (codes "name") (string (name_words told.name))
@@ -18,9 +16,6 @@ labelled_read_json reader writer told = object
     (member (codes "value") (number (unsigned told.value))
     (member (codes "writer") (string writer)
     no_members))))))
-
-abbrev pub read_json : History → ToldRead → Data
-read_json h told = labelled_read_json (label h told.reader) (label h told.writer) told
 
 abbrev pub name_json : NameCount → Data
 name_json one = object
@@ -36,8 +31,9 @@ total_json contradicted reads faults = object
     (member (codes "reads") (number (unsigned reads))
     no_members))))
 
-abbrev pub circle_json : History → List ℕ → Data
-circle_json h circle = object
+-- transactions in a circle, by their labels
+abbrev pub circle_json : List (List ℕ) → Data
+circle_json labels = object
     (member (codes "answer") (string (codes "circular"))
-    (member (codes "transactions") (array (items_of (map (λ t. string (label h t)) circle)))
+    (member (codes "transactions") (array (items_of (map string labels)))
     no_members))

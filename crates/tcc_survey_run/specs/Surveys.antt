@@ -1,8 +1,9 @@
 -- What is said of a survey, and how it goes out.
-use Rattle.std.specs.Prelude.{ℕ, ◌≡◌, ◌⊎◌, Bool, List, [], ◌∷◌, ◌++◌, length, take, flat_map, sum_by, Option, if◌then◌else◌}
+use Rattle.std.specs.Prelude.{ℕ, ◌≡◌, ◌⊎◌, Bool, List, [], ◌∷◌, ◌++◌, length, map, take, flat_map, sum_by, Option, if◌then◌else◌}
 use Rattle.std.specs.Io.KnownBytes.{Appends}
 use Rattle.tcc_reads.specs.History.{History}
 use Rattle.tcc_reads.specs.declared.fault.ReadFault.{ReadFault}
+use Rattle.tcc_graph.specs.Numbers.{label}
 use Rattle.tcc_answer.specs.Json.{json_line}
 use Rattle.tcc_print.specs.Printed.{CutsOff, Prints, memory_line, unresolved}
 use Rattle.tcc_print.specs.Statuses.{code_of}
@@ -16,7 +17,10 @@ use Rattle.tcc_survey_run.specs.declared.told.ToldRead.{ToldRead}
 -- ---- what is said
 
 abbrev pub read_line : Bool → History → ToldRead → List ℕ
-read_line json h told = if json then json_line (read_json h told) else read_text h told
+read_line json h told =
+    let reader = label h told.reader in
+    let writer = label h told.writer in
+    if json then json_line (read_json reader writer told) else read_text reader writer told
 
 abbrev pub name_line : Bool → NameCount → List ℕ
 name_line json one = if json then json_line (name_json one) else name_text one
@@ -25,7 +29,7 @@ abbrev pub total_line : Bool → ℕ → ℕ → ℕ → List ℕ
 total_line json contradicted reads faults = if json then json_line (total_json contradicted reads faults) else total_text contradicted reads faults
 
 abbrev pub circle_line : Bool → History → List ℕ → List ℕ
-circle_line json h circle = if json then json_line (circle_json h circle) else circle_text h circle
+circle_line json h circle = if json then json_line (circle_json (map (label h) circle)) else circle_text (map (label h) circle)
 
 -- all read faults, as explain prints them; where there is none nothing
 abbrev pub fault_lines : Bool → List ReadFault → List ℕ

@@ -16,6 +16,14 @@ pub struct NameCount {
     pub count: usize,
 }
 
+/// How many contradicted reads there are of how many, and how many faults.
+#[derive(Clone, Copy)]
+pub(crate) struct Totals {
+    pub contradicted: usize,
+    pub reads: usize,
+    pub faults: usize,
+}
+
 /// The usual names, in the order in which the first that fits is taken.
 const NAMES: [UsualName; 6] = [
     UsualName::ReadYourWrites,
@@ -51,7 +59,7 @@ fn push_name(
     Ok(())
 }
 
-/// Those of these names that some of the reads have, with their counts.
+/// Which of these names some of the reads have, with their counts.
 fn names_among(
     alloc: Global,
     told: &[ToldRead],
@@ -66,7 +74,7 @@ fn names_among(
     Ok(names)
 }
 
-/// By falling count; of equal counts the first name first.
+/// Sorts names by falling count; of equal counts the first name comes first.
 fn sort_by_count(names: &mut [NameCount])
     ensures permutation { IsPermutation names.old names.new }
     ensures sorted { IsSortedByKey (λ one. (falling one.count, rank one.name)) operation_cmp names.new }

@@ -1,50 +1,28 @@
 //! The lines of a survey as text, each made as a whole before a byte of it goes out.
-ghost use Rattle.std.specs.Prelude.{◌≡◌, ◌<◌, All, IfOk};
-ghost use Rattle.tcc_reads.specs.History.{count};
+ghost use Rattle.std.specs.Prelude.{◌≡◌, IfOk, map, string_bytes};
 ghost use Rattle.tcc_survey_run.specs.Texts.{circle_text, name_text, read_text, total_text};
 
-use crate::counting::NameCount;
+use crate::counting::{NameCount, Totals};
 use crate::naming::name_words;
 use crate::told::ToldRead;
 use std::alloc::Global;
-use tcc_answer::pieces::push;
-use tcc_graph::LargeGraph;
+use tcc_answer::pieces::{joined, push};
+use tcc_print::texts::push_operation;
 use tcc_txn::NoMemory;
 
-/// The line of a contradicted read.
+/// The line of a contradicted read, with the labels of the reader and of the writer.
 pub(crate) fn read_line(
     alloc: Global,
-    graph: &LargeGraph,
+    reader: &str,
+    writer: &str,
     told: &ToldRead,
 ) -> Result<Vec<u8>, NoMemory>
-    requires reader { told.now.reader < count graph.now }
-    requires writer { told.now.writer < count graph.now }
-    ensures { IfOk result (λ text. text.items ≡ read_text graph.now told.now) }
+    ensures { IfOk result (λ text. text.items ≡ read_text reader.now writer.now told.now) }
 {
-    let reader = graph.label(alloc, told.reader)?;
-    let op = told.op.to_string(alloc)?;
-    let key = told.key;
-    let value = told.value.to_string(alloc)?;
-    let writer = graph.label(alloc, told.writer)?;
-    let mut text = Vec::new(alloc);
-    push(
-        &mut text,
-        &[
-            b"contradicted ",
-            reader.as_bytes(),
-            b" op ",
-            op.as_bytes(),
-            b" ",
-            key.bytes(),
-            b" ",
-            value.as_bytes(),
-            b": knew of ",
-            writer.as_bytes(),
-            b", ",
-            name_words(told.name).as_bytes(),
-            b"\n",
-        ],
-    )?;
+    let mut text = joined(alloc, &[b"contradicted ", reader.as_bytes()])?;
+    push_operation(alloc, &mut text, told.op, &told.key, told.value)?;
+    push(&mut text, &[b": knew of ", writer.as_bytes(), b", "])?;
+    push(&mut text, &[name_words(told.name).as_bytes(), b"\n"])?;
     Ok(text)
 }
 
@@ -52,35 +30,20 @@ pub(crate) fn read_line(
 pub(crate) fn name_line(alloc: Global, one: &NameCount) -> Result<Vec<u8>, NoMemory>
     ensures { IfOk result (λ text. text.items ≡ name_text one.now) }
 {
+    let name = name_words(one.name).as_bytes();
     let count = one.count.to_string(alloc)?;
-    let mut text = Vec::new(alloc);
-    push(
-        &mut text,
-        &[
-            name_words(one.name).as_bytes(),
-            b": ",
-            count.as_bytes(),
-            b"\n",
-        ],
-    )?;
-    Ok(text)
+    joined(alloc, &[name, b": ", count.as_bytes(), b"\n"])
 }
 
-/// The last line: so many contradicted reads of so many, and so many faults.
-pub(crate) fn total_line(
-    alloc: Global,
-    contradicted: usize,
-    reads: usize,
-    faults: usize,
-) -> Result<Vec<u8>, NoMemory>
-    ensures { IfOk result (λ text. text.items ≡ total_text contradicted reads faults) }
+/// The last line.
+pub(crate) fn total_line(alloc: Global, totals: &Totals) -> Result<Vec<u8>, NoMemory>
+    ensures { IfOk result (λ text. text.items ≡ total_text totals.now.contradicted totals.now.reads totals.now.faults) }
 {
-    let contradicted = contradicted.to_string(alloc)?;
-    let reads = reads.to_string(alloc)?;
-    let faults = faults.to_string(alloc)?;
-    let mut text = Vec::new(alloc);
-    push(
-        &mut text,
+    let contradicted = totals.contradicted.to_string(alloc)?;
+    let reads = totals.reads.to_string(alloc)?;
+    let faults = totals.faults.to_string(alloc)?;
+    joined(
+        alloc,
         &[
             contradicted.as_bytes(),
             b" contradicted reads of ",
@@ -89,23 +52,15 @@ pub(crate) fn total_line(
             faults.as_bytes(),
             b" faults\n",
         ],
-    )?;
-    Ok(text)
+    )
 }
 
-/// The line of transactions in a circle.
-pub(crate) fn circle_line(
-    alloc: Global,
-    graph: &LargeGraph,
-    circle: &[u32],
-) -> Result<Vec<u8>, NoMemory>
-    requires { All (λ t. t < count graph.now) circle.now }
-    ensures { IfOk result (λ text. text.items ≡ circle_text graph.now circle.now) }
+/// The line of transactions in a circle, by their labels.
+pub(crate) fn circle_line(alloc: Global, labels: &[String]) -> Result<Vec<u8>, NoMemory>
+    ensures { IfOk result (λ text. text.items ≡ circle_text (map string_bytes labels.now)) }
 {
-    let mut text = Vec::new(alloc);
-    push(&mut text, &[b"circular:"])?;
-    for number in circle {
-        let label = graph.label(alloc, *number)?;
+    let mut text = joined(alloc, &[b"circular:"])?;
+    for label in labels {
         push(&mut text, &[b" ", label.as_bytes()])?;
     }
     push(&mut text, &[b"\n"])?;

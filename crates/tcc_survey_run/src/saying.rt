@@ -1,15 +1,17 @@
 //! What is said of a snapshot, and how it goes out line by line.
-ghost use Rattle.std.specs.Prelude.{◌≡◌, ◌<◌, All, flat_map, IfErr, IfOk, OnOk};
+ghost use Rattle.std.specs.Prelude.{◌≡◌, ◌<◌, All, flat_map, map, string_bytes, IfErr, IfOk, OnOk};
 ghost use Rattle.std.specs.Io.KnownBytes.{Appends};
 ghost use Rattle.tcc_reads.specs.Faults.{read_faults};
 ghost use Rattle.tcc_reads.specs.History.{count, entry_at, initial};
 ghost use Rattle.tcc_graph.specs.Levels.{judged};
+ghost use Rattle.tcc_graph.specs.Numbers.{label};
+ghost use Rattle.tcc_graph.specs.declared.level.Level.{Level};
 ghost use Rattle.tcc_survey.specs.Contradictions.{AreContradicted};
 ghost use Rattle.tcc_survey_run.specs.Surveys.{BreaksOff, GoesOut, circle_line, fault_lines, name_line, read_count, read_line, survey_status, survey_text, total_line};
 ghost use Rattle.tcc_survey_run.specs.Told.{AreNames, AreTold};
 ghost use Rattle.tcc_survey_run.specs.private.Saying.{SaysFound};
 
-use crate::counting::{NameCount, names_of};
+use crate::counting::{NameCount, Totals, names_of};
 use crate::options::SurveyOptions;
 use crate::outgoing::write_line;
 use crate::told::{ToldRead, told_reads};
@@ -34,10 +36,12 @@ fn read_line(
     requires writer { told.now.writer < count graph.now }
     ensures { IfOk result (λ text. text.items ≡ read_line json graph.now told.now) }
 {
+    let reader = graph.label(alloc, told.reader)?;
+    let writer = graph.label(alloc, told.writer)?;
     if json {
-        objects::read_object(alloc, graph, told)
+        objects::read_object(alloc, reader.as_str(), writer.as_str(), told)
     } else {
-        lines::read_line(alloc, graph, told)
+        lines::read_line(alloc, reader.as_str(), writer.as_str(), told)
     }
 }
 
@@ -53,20 +57,26 @@ fn name_line(alloc: Global, json: bool, one: &NameCount) -> Result<Vec<u8>, NoMe
 }
 
 /// The last line.
-fn total_line(
-    alloc: Global,
-    json: bool,
-    contradicted: usize,
-    reads: usize,
-    faults: usize,
-) -> Result<Vec<u8>, NoMemory>
-    ensures { IfOk result (λ text. text.items ≡ total_line json contradicted reads faults) }
+fn total_line(alloc: Global, json: bool, totals: &Totals) -> Result<Vec<u8>, NoMemory>
+    ensures { IfOk result (λ text. text.items ≡ total_line json totals.now.contradicted totals.now.reads totals.now.faults) }
 {
     if json {
-        objects::total_object(alloc, contradicted, reads, faults)
+        objects::total_object(alloc, totals)
     } else {
-        lines::total_line(alloc, contradicted, reads, faults)
+        lines::total_line(alloc, totals)
     }
+}
+
+/// The labels of transactions.
+fn labels_of(alloc: Global, graph: &LargeGraph, numbers: &[u32]) -> Result<Vec<String>, NoMemory>
+    requires { All (λ t. t < count graph.now) numbers.now }
+    ensures { IfOk result (λ labels. map string_bytes labels.items ≡ map (label graph.now) numbers.now) }
+{
+    let mut labels = Vec::new(alloc);
+    for number in numbers {
+        labels.push(graph.label(alloc, *number)?)?;
+    }
+    Ok(labels)
 }
 
 /// The line of transactions in a circle.
@@ -79,10 +89,11 @@ fn circle_line(
     requires { All (λ t. t < count graph.now) circle.now }
     ensures { IfOk result (λ text. text.items ≡ circle_line json graph.now circle.now) }
 {
+    let labels = labels_of(alloc, graph, circle)?;
     if json {
-        objects::circle_object(alloc, graph, circle)
+        objects::circle_object(alloc, &labels)
     } else {
-        lines::circle_line(alloc, graph, circle)
+        lines::circle_line(alloc, &labels)
     }
 }
 
@@ -181,8 +192,12 @@ fn write_listing<W: Write>(
     write_reads(alloc, graph, json, &listing.told, out)?;
     write_faults(alloc, json, faults, out)?;
     write_names(alloc, json, &listing.names, out)?;
-    let total = total_line(alloc, json, listing.told.len(), listing.reads, faults.len());
-    send_made(total, json, out)
+    let totals = Totals {
+        contradicted: listing.told.len(),
+        reads: listing.reads,
+        faults: faults.len(),
+    };
+    send_made(total_line(alloc, json, &totals), json, out)
 }
 
 /// How a run ends that told these contradicted reads and these faults.
@@ -203,18 +218,17 @@ fn listing_of<B: Bounds>(
     alloc: Global,
     snapshot: &SnapshotWithin<B>,
     graph: &LargeGraph,
-    options: &SurveyOptions,
     found: &[Contradicted],
 ) -> Result<Listing, NoMemory>
     requires initial { entry_at graph.now 0 ≡ initial }
-    requires found { AreContradicted (judged graph.now options.now.level) found.now }
+    requires found { (level : Level) × AreContradicted (judged graph.now level) found.now }
     ensures told { IfOk result (λ l. AreTold snapshot.now graph.now found.now l.told.items) }
     ensures names { IfOk result (λ l. AreNames l.told.items l.names.items) }
     ensures reads { IfOk result (λ l. l.reads ≡ read_count graph.now) }
     ensures readers { IfOk result (λ l. All (λ one. one.reader < count graph.now) l.told.items) }
     ensures writers { IfOk result (λ l. All (λ one. one.writer < count graph.now) l.told.items) }
 {
-    let told = told_reads(alloc, snapshot, graph, options.level, found)?;
+    let told = told_reads(alloc, snapshot, graph, found)?;
     let names = names_of(alloc, &told)?;
     let reads = read_count(graph)?;
     Ok(Listing { told, names, reads })
@@ -235,7 +249,7 @@ pub(crate) fn say_found<B: Bounds, W: Write>(
     requires faults { faults.now ≡ read_faults snapshot.now }
     ensures { SaysFound options.now.json snapshot.now graph.now found.now (W.contents out.old) (W.contents out.new) result }
 {
-    let listing = match listing_of(alloc, snapshot, graph, options, found) {
+    let listing = match listing_of(alloc, snapshot, graph, found) {
         Ok(listing) => listing,
         Err(NoMemory) => return print_memory(out, options.json),
     };

@@ -10,7 +10,7 @@ ghost use Rattle.tcc_operations.specs.Operations.{ops_of};
 ghost use Rattle.tcc_survey_run.specs.Told.{AreTold, IsToldOf, first_read, operation_cmp};
 
 use std::alloc::Global;
-use tcc_graph::{LargeGraph, Level};
+use tcc_graph::LargeGraph;
 use tcc_operations::{first_reading, source_value};
 use tcc_survey::{Contradicted, UsualName, name_of};
 use tcc_txn::{Bounds, Name, NoMemory, SnapshotWithin};
@@ -70,7 +70,7 @@ fn told_of<B: Bounds>(
     }
 }
 
-/// By the number of the transaction, then by operation.
+/// Sorts what is told by the number of the transaction, then by operation.
 fn sort_by_operation(told: &mut [ToldRead])
     ensures permutation { IsPermutation told.old told.new }
     ensures sorted { IsSortedByKey (λ one. (one.reader, one.op)) operation_cmp told.new }
@@ -78,7 +78,7 @@ fn sort_by_operation(told: &mut [ToldRead])
     told.sort_unstable_by_key(|one| (one.reader, one.op));
 }
 
-/// These, by the number of the transaction, then by operation.
+/// What is told, by the number of the transaction, then by operation.
 fn by_operation(told: Vec<ToldRead>) -> Vec<ToldRead>
     ensures permutation { IsPermutation told.items result.items }
     ensures sorted { IsSortedByKey (λ one. (one.reader, one.op)) operation_cmp result.items }
@@ -93,11 +93,10 @@ pub(crate) fn told_reads<B: Bounds>(
     alloc: Global,
     snapshot: &SnapshotWithin<B>,
     graph: &LargeGraph,
-    level: Level,
     found: &[Contradicted],
 ) -> Result<Vec<ToldRead>, NoMemory>
     requires initial { entry_at graph.now 0 ≡ initial }
-    requires found { AreContradicted (judged graph.now level) found.now }
+    requires found { (level : Level) × AreContradicted (judged graph.now level) found.now }
     ensures told { IfOk result (λ told. AreTold snapshot.now graph.now found.now told.items) }
     ensures inside { IfOk result (λ told. All (λ one. (one.reader < count graph.now) × (one.writer < count graph.now)) told.items) }
 {

@@ -1,6 +1,6 @@
 use Rattle.std.proofs.Common.{◌∙◌, length}
 use Rattle.tcc_survey_run.specs.Surveys.{total_line}
-use Rattle.tcc_survey_run.proofs.Listing.{all_out, faults_break, names_break, reads_break, total_breaks}
+use Rattle.tcc_survey_run.proofs.Listing.{faults_break, names_break, reads_break, total_out}
 use Rattle.tcc_survey_run.proofs.saying.write_listing.Goals as goal
 
 pub returns-in_err-write_reads-clause-ended : goal.returns-in_err-write_reads-clause-ended
@@ -19,16 +19,11 @@ returns-in_err-write_names-clause-ended g c =
     _ c.in_ok-write_faults.ensures.whole _ c.deref-2.ensures.value _
     c.in_err-write_names.field-0.0 c.in_err-write_names.ensures.ended c.from_residual-in_err-write_names.result c.from_residual-in_err-write_names.ensures.1
 
-pub returns-clause-whole : goal.returns-clause-whole
-returns-clause-whole g c =
-    all_out c.args.json c.args.graph.now c.args.listing.now.told.items c.args.faults.now c.args.listing.now.names.items _ _ c.deref.ensures.value _ c.in_ok-write_reads.ensures.whole
+pub returns : goal.returns
+returns g c =
+    let (whole, ended) =
+    total_out c.args.json c.args.graph.now c.args.listing.now.told.items c.args.faults.now c.args.listing.now.names.items _ _ c.deref.ensures.value _ c.in_ok-write_reads.ensures.whole
     _ c.in_ok-write_faults.ensures.whole _ c.deref-2.ensures.value _ c.in_ok-write_names.ensures.whole _
     (λ i. total_line c.args.json ((c.len.ensures ∙ c.args.listing.now.told.ok.0) i) (c.requires.reads i) (length c.args.faults.now)) _
-    c.send_made.result (c.send_made.ensures.whole _ c.total_line-total.ensures)
-
-pub returns-clause-ended : goal.returns-clause-ended
-returns-clause-ended g c =
-    total_breaks c.args.json c.args.graph.now c.args.listing.now.told.items c.args.faults.now c.args.listing.now.names.items _ _ c.deref.ensures.value _ c.in_ok-write_reads.ensures.whole
-    _ c.in_ok-write_faults.ensures.whole _ c.deref-2.ensures.value _ c.in_ok-write_names.ensures.whole _
-    (λ i. total_line c.args.json ((c.len.ensures ∙ c.args.listing.now.told.ok.0) i) (c.requires.reads i) (length c.args.faults.now)) _
-    c.send_made.result (c.send_made.ensures.ended _ c.total_line-total.ensures)
+    c.send_made.result (c.send_made.ensures.whole _ c.total_line.ensures) (c.send_made.ensures.ended _ c.total_line.ensures) in
+    record { whole = whole; ended = ended }

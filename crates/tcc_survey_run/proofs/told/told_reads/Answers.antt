@@ -22,7 +22,7 @@ loop-one-preserved g c =
           (told_more s h found k _ told c.told_of.result c.loop-one-test.true c.loop-one.invariant.each c.told_of.ensures);
       inside = subst (All IsIn) (sym c.in_ok-push.ensures.items)
           (All-push IsIn told c.told_of.result c.loop-one.invariant.inside
-          (told_below (judged h c.args.level) found c.requires.initial c.requires.found k _ c.loop-one-test.true
+          (told_below (judged h c.requires.found.0) found c.requires.initial c.requires.found.1 k _ c.loop-one-test.true
           c.told_of.result.reader c.told_of.result.writer c.told_of.ensures.reader c.told_of.ensures.writer));
     }
 
