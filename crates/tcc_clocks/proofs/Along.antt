@@ -60,7 +60,7 @@ rows_before h IsRow order k table among numbering inside before done =
     All-weaker (Contains among) (λ p. IsRow p (row_of table p)) (λ p there. done p (before p there).0 (taken_before order k p numbering inside (before p there).1))
     among (All-contains_itself among)
 
--- so are those of its parents
+-- the rows of the next one's parents are there
 pub parents_have : (h : History) → IsBySession h.entries → (IsRow : ℕ → List ℕ → Type 0) (order : List ℕ) (k : ℕ) (table : List (List ℕ))
     → IsNumbering (count h) order → LeadsOnward h order → k < length order → HasSourcesAt h (get_or order k 0)
     → HaveRows h IsRow (Contains (take k order)) table → All (λ p. IsRow p (row_of table p)) (parents h (get_or order k 0))

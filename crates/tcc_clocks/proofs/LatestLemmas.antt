@@ -1,7 +1,7 @@
 -- Rows along an order, by the transactions right before each one.
-use Rattle.std.proofs.Common.{◌≡◌, ◌≢◌, ◌<◌, ◌+◌, ◌⊎◌, inl, inr, ℕ, List, [], ◌∷◌, map, length, get_or, take, slice_index, refl, sym, ap, ◌∙◌, subst, arith}
+use Rattle.std.proofs.Common.{◌≡◌, ◌≢◌, ◌<◌, ℕ, List, [], ◌∷◌, map, length, get_or, take, refl, sym, ap, ◌∙◌, subst, arith}
 use Rattle.std.specs.List.{All, Contains}
-use Rattle.std.proofs.lemmas.Bool.{cases_eq, eq-eqb, ne_eqb}
+use Rattle.std.proofs.lemmas.Bool.{eq-eqb, ne_eqb}
 use Rattle.std.proofs.lemmas.List.Elements.{All-weaker, All-map}
 use Rattle.tcc_reads.specs.History.{History, IsBySession, count, entry_at}
 use Rattle.tcc_graph.specs.Keys.{keys, key_at}
@@ -15,15 +15,6 @@ use Rattle.tcc_clocks.specs.declared.side.Side.TheVariants.{Past}
 use Rattle.tcc_clocks.proofs.Along.{parents_below, parents_have}
 use Rattle.tcc_clocks.proofs.RowLemmas.{entries_same}
 use Rattle.tcc_clocks.proofs.UpTo.{up_to_parents}
-
--- what holds of each number so far, and of one more
-pub each_more : (P : ℕ → Type 0) (xs : List ℕ) (n : ℕ) → ((k : ℕ) → k < n → P (slice_index xs k)) → P (slice_index xs n) → (k : ℕ) → k < n + 1
-    → P (slice_index xs k)
-each_more P xs n before one k l = go (cases_eq k n)
-  where
-    go : (k ≡ n) ⊎ (k ≢ n) → P (slice_index xs k)
-    go (inl same) = rw same one
-    go (inr other) = before k (omega (arith, l, other))
 
 -- ---- the order
 module _ (h : History) (numbered : IsBySession h.entries) (from : ℕ) (order : List ℕ) (i : ℕ) (table : List (List ℕ)) (numbering : IsNumbering (count h) order)

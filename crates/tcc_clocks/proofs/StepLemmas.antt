@@ -16,7 +16,7 @@ still_step h c numbers more start end is = record {
   sources = is.sources;
 }
 
--- one more
+-- the step of one transaction more
 last_step : (h : History) (c : ℕ) (numbers more : List ℕ) → more ≡ parents h c → HasSourcesAt h c → IsStep h c (numbers ++ more) (length numbers) (length (numbers ++ more))
 last_step h c numbers more are sources = record {
   order = omega (arith, length-append numbers more);

@@ -3,13 +3,13 @@ use Rattle.std.specs.Prelude.{ℕ, ◌<◌, ◌≤◌, ◌-◌, ◌≡◌, ◌==
 use Rattle.tcc_reads.specs.History.{History, count, entry_at}
 pub use Rattle.tcc_graph.specs.Relations.{previous}
 
--- a list of them, 0 for `init`
+-- the list has the transaction before each one, 0 for `init`
 pub record ArePrevious (h : History) (parents : List ℕ) : Type 0 where
   pub long : length parents ≡ count h
   pub init : slice_index parents 0 ≡ 0
   pub each : (c : ℕ) → 0 < c → c < count h → slice_index parents c ≡ previous h c
 
--- and where that is one: none for `init`
+-- the transaction before c, none for `init`
 abbrev pub previous_one : History → ℕ → List ℕ
 previous_one h c = if c == 0 then [] else previous h c ∷ []
 
@@ -17,7 +17,7 @@ previous_one h c = if c == 0 then [] else previous h c ∷ []
 abbrev pub sources : History → ℕ → List ℕ
 sources h c = map (λ read. read.1) (entry_at h c).reads
 
--- they are transactions of the history
+-- what c reads from are transactions of the history
 abbrev pub HasSourcesAt : History → ℕ → Type 0
 HasSourcesAt h c = All (λ read. read.1 < count h) (entry_at h c).reads
 
@@ -32,7 +32,7 @@ pub record IsStep (h : History) (c : ℕ) (numbers : List ℕ) (start : ℕ) (en
   pub is : take (end - start) (drop start numbers) ≡ parents h c
   pub sources : HasSourcesAt h c
 
--- so for each position of an order before `n`
+-- each position of an order before `n` has the step of its transaction
 pub record AreSteps (h : History) (order : List ℕ) (spans : List (ℕ × ℕ)) (numbers : List ℕ) (n : ℕ) : Type 0 where
   pub long : length spans ≡ n
   pub each : (k : ℕ) → k < n → IsStep h (slice_index order k) numbers (slice_index_or spans k (0, 0)).0 (slice_index_or spans k (0, 0)).1

@@ -15,7 +15,7 @@ pub record IsSpan (numbers : List ℕ) (low : ℕ) (high : ℕ) (start : ℕ) (e
   pub first : IsCountBelow numbers low start
   pub last : IsCountBelow numbers high end
 
--- so for the writers of each key
+-- of each key the writers from `low` to below `high` begin and end at its span
 pub record AreSpans (h : History) (low : ℕ) (high : ℕ) (spans : List (ℕ × ℕ)) (end : ℕ) : Type 0 where
   pub long : length spans ≡ end
   pub each : (key_index : ℕ) → key_index < end

@@ -154,7 +154,7 @@ module _ (j : Judged) (rank : ℕ → ℕ) (rises : Rises j.history rank) where
       let (b, a, x, c, walk, there, is, low, high) = spanned_in v links cycle in
       (b, a, x, c, walk, is, never (link.Derived b a x c walk) there, low, high)
 
-  -- so at both ends of each link, where the cycle may as well begin
+  -- both ends of each link are spanned, as the cycle may as well begin there
   pub spanned_aside : (v : ℕ) (links : List Link) → IsCycle j v links → ((l : Link) → Contains links l → link_to l ≢ 0) → (l : Link) → Contains links l
       → IsSpannedAside j rank (link_from l) × IsSpannedAside j rank (link_to l)
   spanned_aside v links cycle never l there = (

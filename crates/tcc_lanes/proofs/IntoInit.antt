@@ -39,7 +39,7 @@ joined_all h key_lanes key_indices v inside written n word all w = λ i l. (ther
         (w i l).1 (m, omega (arith, inside_m, all), subst (λ (z : ℕ). IsAt key_lanes z i) (sym (get_or_default key_indices m 0 k inside_m ∙ here)) at)
 
 -- ---- who writes them
--- so far
+-- the transactions before `end` are marked with the lanes whose keys they write
 abbrev pub AreBegunTo : History → List ℕ → ℕ → List ℕ → Type 0
 AreBegunTo h key_lanes end begun =
     (length begun ≡ count h)

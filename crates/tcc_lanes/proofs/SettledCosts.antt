@@ -31,7 +31,7 @@ module _ (rows : List (List ℕ)) (table : IsTable rows) (level : ℕ) (old : Li
         go (inl stays) = sym stays ∙ is
         go (inr (t, inside, at, over)) = absurd (omega (arith, is, over, table.some t u (omega (arith, inside, same)) (omega (arith, l, same))))
 
-    -- and does so from then on
+    -- a cost of this level has it from then on
     yet : (u : ℕ) → u < length old → get_or old u 0 ≡ level → get_or mid u 0 ≡ level
     yet u l is = go (w.either u l)
       where

@@ -96,7 +96,7 @@ stale_read-into = (
   omega arith,
 )
 
--- and no fewer than three
+-- from `init` to a/1 and back costs no fewer than three steps
 pub stale_read-three : HasCheaperIntoInit (causally stale_read) (0 ∷ []) 3 → ⊥
 stale_read-three (b, k, c, walk, there, reason, few) = omega (arith, few, reason.1.0.0)
 

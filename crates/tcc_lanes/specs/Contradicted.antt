@@ -20,7 +20,7 @@ abbrev pub IsSpanned : Judged → (ℕ → ℕ) → ℕ → Type 0
 IsSpanned j rank v =
     (b : ℕ) × (a : ℕ) × (x : List ℕ) × (c : ℕ) × (walk : List Step) × IsReason j b a x c walk × (rank a ≤ rank v) × (rank v ≤ rank b)
 
--- so of a derived link that doesn't lead into `init`
+-- a derived link that doesn't lead into `init` spans the rank of v
 abbrev pub IsSpannedAside : Judged → (ℕ → ℕ) → ℕ → Type 0
 IsSpannedAside j rank v =
     (b : ℕ) × (a : ℕ) × (x : List ℕ) × (c : ℕ) × (walk : List Step) × IsReason j b a x c walk × (a ≢ 0) × (rank a ≤ rank v) × (rank v ≤ rank b)

@@ -73,7 +73,7 @@ chain-alone [] is = absurd (omega (arith, is.1))
 chain-alone (s ∷ []) is = no_step chain 1 4 s refl is.0
 chain-alone (s ∷ t ∷ steps) is = absurd (omega (arith, is.1))
 
--- and each of them leads as far as it does among others
+-- where a single pair is allowed, each step leads as far as it does among others
 chain-pair : IsShortest (atomically chain) 1 2 1
 chain-pair = record {
   attained = (step.Reads 1 2 x ∷ [], ((omega arith, (refl, (lit< tt, lit< tt, (0, omega arith, refl)), refl)), refl), refl);

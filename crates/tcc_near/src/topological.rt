@@ -68,19 +68,14 @@ fn lengthen(row: &mut [u16])
 /// session.
 fn row_over(
     alloc: Global,
-    pairs: &Pairs<'_>,
     run: &[u16],
     rows: &[Row<u16>],
     readers: &[u32],
-    from: u32,
 ) -> Result<Row<u16>, AllocError>
-    requires pairs { ArePairs pairs.now }
-    requires below { from < count pairs.now.history }
-    requires known { AreKnown pairs.now.history rows.now }
-    requires there { All (IsThere rows.now (count pairs.now.history)) readers.now }
-    requires run { IsLeastFrom pairs.now.history (IsSessionPair pairs.now.history from) run.now }
-    requires others { AreOthers pairs.now.history from readers.now }
-    ensures { IfOk result (HasLengths (causally pairs.now.history) from) }
+    requires same { length rows.now ≡ length run.now }
+    requires there { All (IsThere rows.now (length run.now)) readers.now }
+    ensures { (h : History) (a : ℕ) → count h ≤ MAX_COUNT → AreKnown h rows.now → IsLeastFrom h (IsSessionPair h a) run.now → AreOthers h a readers.now
+        → IfOk result (HasLengths (causally h) a) }
 {
     let mut row = run.to_vec(alloc)?;
     take_in_each(&mut row, rows, readers);
@@ -143,7 +138,7 @@ fn row_of_head(
 {
     let readers = pairs.readers(head);
     if are_there(rows, readers, pairs.count()) {
-        row_over(alloc, pairs, run, rows, readers, head)
+        row_over(alloc, run, rows, readers)
     } else {
         let bound = bound_from(alloc, run, head)?;
         lengths_from(alloc, pairs, head, bound.as_slice())

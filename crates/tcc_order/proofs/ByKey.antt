@@ -196,7 +196,7 @@ module _ (table : List (List ℕ)) (readings : List (ℕ × ℕ)) (start : ℕ) 
             omega (arith, at)
         most j above (inr other) below = is.greatest j above (omega (arith, other, below))
 
--- so for each session of a block
+-- the greatest of each session of a block
 module _ (table : List (List ℕ)) (readings : List (ℕ × ℕ)) (start : ℕ) (known : List ℕ) where
   pub tops_none : (row : List ℕ) → length row ≡ WIDE → ((k : ℕ) → k < length row → slice_index row k ≡ 0)
       → (length row ≡ WIDE) × ((k : ℕ) → k < WIDE → IsTop table readings start start known k (slice_index row k))

@@ -87,7 +87,7 @@ module _ (precedes : ℕ → ℕ → Bool) (n : ℕ) (Left : ℕ → Type 0) (in
       step : (a : ℕ) × Left a × (precedes a x ≡ true) → ((a : ℕ) → IsTrail precedes n Left a (x ∷ xs) → HasCircle precedes) → HasCircle precedes
       step (a, left, p) rest = go a left p (rest a) (cases_Bool (has (x ∷ xs) a))
 
-  -- so where some number is left there is a circle
+  -- where some number is left there is a circle
   pub left_circle : (x : ℕ) → Left x → HasCircle precedes
   left_circle x left =
       back n x [] (omega arith) (record {

@@ -51,7 +51,7 @@ module _ (h : History) (kept : List (List ℕ)) (placed : List ℕ) (x : ℕ) (l
       let v = from_map (λ (r : ℕ × ℕ). (key_at h r.0, r.1)) reads w.0 (rw read w.1) in
       (v.1.0, v.1.1, ap (λ (r : ℕ × ℕ). r.1) (get_or_default reads v.1.0 (0, 0) v.0 v.1.1 ∙ v.1.2) ∙ (ap (λ (r : List ℕ × ℕ). r.1) v.2 ∙ w.2))
 
-  -- so nothing behind the parent is missing
+  -- nothing behind the parent is missing where all reads and links are placed
   pub none_behind : ((k : ℕ) → k < length reads → is_marked placed (get_or reads k (0, 0)).1 ≡ true)
       → ((k : ℕ) → k < length (row_of kept x) → is_marked placed (slice_index (row_of kept x) k) ≡ true) → (b : ℕ)
       → Contains (sources h x ++ row_of kept x) b → is_marked placed b ≡ true
@@ -68,7 +68,7 @@ module _ (h : History) (kept : List (List ℕ)) (placed : List ℕ) (x : ℕ) (l
       (Contains-append_left (parents h x) (row_of kept x) (get_or reads k (0, 0)).1
       (Contains-append_right (previous_one h x) (sources h x) (get_or reads k (0, 0)).1 (read_source k l)))
 
--- and what is missing does hold it back
+-- a parent, source or link that is missing holds a transaction back
 module _ (h : History) (ps : List ℕ) (are : ArePrevious h ps) (kept : List (List ℕ)) (x : ℕ) (low : x < count h) where
   pub parent_missing : (b : ℕ) → 0 < x → b ≡ slice_index ps x → holds h kept b x ≡ true
   parent_missing b some is =

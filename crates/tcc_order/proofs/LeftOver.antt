@@ -106,7 +106,7 @@ pairs_left h kept none placed is = record { some = (is.some.0, is.some.1.0, is.s
         → (b : ℕ) × (b < count h) × (is_marked placed b ≡ false) × Contains (parents h x) b
     held x (b, left, p) = (b, left.0, left.1, parent b x (Contains-append_cases (parents h x) (row_of kept x) b (holds_parts h kept b x p).2))
 
--- and so one reaches itself
+-- where an order of pairs stops, a transaction reaches itself
 pub pairs_circle : (h : History) → IsBySession h.entries → (placed : List ℕ) → ArePairsStuck h placed → (a : ℕ) × IsReached h a a
 pairs_circle h numbered placed is = stuck_pairs h numbered [] nothing placed record {
   some = (is.some.0, (is.some.1, is.some.2));

@@ -106,7 +106,7 @@ queued_popped precedes ps placed old new waiting x is rest still = record {
         by (inr still_there) = inl still_there
     go y other left (inr w) = inr w
 
--- and was placed before
+-- a queue without x is the whole queue where x was placed
 pub queued_placed : (precedes : ℕ → ℕ → Bool) (ps placed ready : List ℕ) (waiting : List (List ℕ)) (x : ℕ) → AreQueued precedes ps placed (IsNot x) ready waiting
     → is_marked placed x ≡ true → AreQueued precedes ps placed IsAny ready waiting
 queued_placed precedes ps placed ready waiting x is done = record {
@@ -249,7 +249,7 @@ pub sure_after : (precedes : ℕ → ℕ → Bool) (placed marks old new : List 
     → ((b : ℕ) → is_marked marks b ≡ (is_marked placed b || (b == next))) → AreSure precedes marks new
 sure_after precedes placed marks old new next sure still now x there b p = now b ∙ rw (sure x (still x there) b p) refl
 
--- and one more is sure
+-- all that is ready is sure once one more that is free is ready
 pub sure_more : (precedes : ℕ → ℕ → Bool) (placed old new : List ℕ) (x : ℕ) → AreSure precedes placed old → ((b : ℕ) → precedes b x ≡ true → is_marked placed b ≡ true)
     → ((y : ℕ) → Contains new y ↔ (Contains old y ⊎ (y ≡ x))) → AreSure precedes placed new
 sure_more precedes placed old new x sure free put y there b p = go ((put y).0 there)

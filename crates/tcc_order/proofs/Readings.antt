@@ -64,7 +64,7 @@ module _ (h : History) (a : ℕ) (rs ps : List ℕ) (long : length rs ≡ length
   pub reader_below : (k : ℕ) → k < length rs → get_or rs k 0 < count h
   reader_below k l = ((each (get_or rs k 0) (get_or ps k 0)).0 (zip_has rs ps k 0 long l)).1.1
 
-  -- and each who reads is listed
+  -- each who reads is listed
   pub reader_at : (c : ℕ) (x : List ℕ) → IsReadsPair h a c x → (k : ℕ) × (k < length rs) × (get_or rs k 0 ≡ c)
   reader_at c x pair = go ((named_each c x).1 pair)
     where

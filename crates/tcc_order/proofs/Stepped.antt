@@ -287,7 +287,7 @@ parents_more h n rows row are is = record { long = omega (arith, are.long, lengt
     go c less (inl same) = let at : length rows ≡ c = omega (arith, are.long, same) in rw (get_or_at rows row [] [] c at, same) is
     go c less (inr other) = rw (get_or_append_left rows (row ∷ []) [] c (omega (arith, less, other, are.long))) (are.each c (omega (arith, less, other)))
 
--- and what is kept by them
+-- what is kept by the parents
 pub by_parents : (h : History) (c : ℕ) (numbers mid new : List ℕ) (IsMeant : ℕ → Type 0) → HasParents h c numbers
     → ((b : ℕ) → Contains new b ↔ (Contains mid b ⊎ (Contains numbers b × IsMeant b)))
     → (b : ℕ) → Contains new b ↔ (Contains mid b ⊎ (Contains (parents h c) b × IsMeant b))

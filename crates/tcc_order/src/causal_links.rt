@@ -8,13 +8,11 @@ ghost use Rattle.tcc_graph.specs.Relations.{IsReadsPair};
 ghost use Rattle.tcc_clocks.specs.Clocks.{AreOwners, AreClocks, LeadsOnward};
 ghost use Rattle.tcc_order.specs.private.CausalLinks.{IsOverwritten, IsLifted, AreDerived, AreEnough, AreLinks, Overwrites, HasNone, lifted_by};
 ghost use Rattle.tcc_graph.specs.Levels.{causally};
-ghost use Rattle.tcc_graph.specs.Keys.{keys};
 ghost use Rattle.tcc_graph.specs.Tables.{row_of};
 ghost use Rattle.tcc_graph.specs.Orders.{IsNumbering};
 ghost use Rattle.tcc_clocks.specs.Parents.{ArePrevious};
-ghost use Rattle.tcc_order.specs.private.CausalLinks.{AreOrdered, CanLift, IsLastUpTo, IsLastBut, AreLatestPast, TellsNothing, KeepsNews, IsBegun};
+ghost use Rattle.tcc_order.specs.private.CausalLinks.{AreOrdered, AreSpansOf, CanLift, IsLastUpTo, IsLastBut, AreLatestPast, TellsNothing, KeepsNews, IsBegun};
 ghost use Rattle.tcc_order.specs.private.ByKey.{AreReadingsFrom, AreReadingRows, IsTop, AreAlike, IsLikeBefore, key_index_in, reader_in};
-ghost use Rattle.tcc_clocks.specs.Spans.{AreSpans, AreBounds};
 ghost use Rattle.tcc_clocks.specs.declared.latest.TheConstants.{WIDE};
 ghost use Rattle.std.specs.List.Sorted.{IsNonDecreasing, IsPartitionPoint};
 ghost use Rattle.std.specs.Prelude.{nat_le, true, false, ◌∷◌, []};
@@ -196,7 +194,6 @@ fn needed(
     graph: &LargeGraph,
     owners: &[u32],
     from: u32,
-    bounds: (usize, usize),
     spans: &[(usize, usize)],
     table: &SharedRows,
     readings: &[(u32, u32)],
@@ -205,9 +202,8 @@ fn needed(
     requires wide { length need.old ≡ WIDE }
     requires numbered { IsBySession graph.now.entries }
     requires owners { AreOwners graph.now owners.now }
-    requires bounds { AreBounds owners.now from bounds.0 bounds.1 }
     requires clocks { AreClocks graph.now from table.now }
-    requires spans { AreSpans graph.now bounds.0 bounds.1 spans.now (length (keys graph.now)) }
+    requires spans { AreSpansOf graph.now owners.now from spans.now }
     requires readings { AreReadingsFrom graph.now a readings.now }
     requires below { a < count graph.now }
     ensures { AreLatestPast graph.now (IsOverwritten graph.now (IsReadsPair graph.now a) a) from (row_of table.now a) need.new }
@@ -370,9 +366,7 @@ fn keep_block(
         begin_session(&mut run, owners, a);
         if has_more(graph, owners, table, readings, a) {
             let from_a = readings[a as usize].as_slice();
-            needed(
-                &mut need, graph, owners, from, bounds, &spans, table, from_a, a,
-            );
+            needed(&mut need, graph, owners, from, &spans, table, from_a, a);
             keep(&mut kept[a as usize], &need, table.get(a), &mut run)?;
         }
     }

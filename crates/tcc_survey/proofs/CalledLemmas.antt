@@ -1,7 +1,7 @@
 -- The usual names of contradicted reads.
-use Rattle.std.proofs.Common.{◌≡◌, ◌≢◌, ◌<◌, ◌≤◌, ◌+◌, ◌-◌, ◌⊎◌, inl, inr, ℕ, true, false, List, length, map, get_or, sym, ap, ◌∙◌, subst, arith}
+use Rattle.std.proofs.Common.{◌≡◌, ◌≢◌, ◌<◌, ◌≤◌, ◌+◌, ◌-◌, ◌⊎◌, ◌↔◌, inl, inr, ℕ, true, List, length, map, get_or, sym, ap, ◌∙◌, subst, arith}
 use Rattle.std.specs.List.{All, Contains}
-use Rattle.std.proofs.lemmas.Bool.{cases_lt, cases_eq, false≢true}
+use Rattle.std.proofs.lemmas.Bool.{cases_lt, cases_eq}
 use Rattle.std.proofs.lemmas.List.{get_or_default}
 use Rattle.std.proofs.lemmas.List.Elements.{All-filter, All-contains, filter_passes}
 use Rattle.tcc_txn.proofs.Lists.{from_map, in_filter, in_map}
@@ -12,10 +12,9 @@ use Rattle.tcc_graph.proofs.NameLemmas.{has_name-contains, contains-has_name}
 use Rattle.tcc_graph.proofs.Pairs.{PairParts, pair_kinds, pair_from_reads, pair_parts}
 use Rattle.tcc_graph.proofs.WriterLemmas.{numbers_below, number_in}
 use Rattle.tcc_clocks.proofs.Reaching.{reads_source, same_session}
-use Rattle.tcc_survey.specs.declared.usual_name.UsualName.{UsualName}
 use Rattle.tcc_survey.specs.declared.usual_name.UsualName.TheVariants as name
-use Rattle.tcc_survey.specs.Names.{ReadsFrom, IsUpTo, Fits, rank, IsUsualName}
-use Rattle.tcc_survey.specs.private.Spells.{ReadsLater, ReadsAfter, IsStart}
+use Rattle.tcc_survey.specs.Names.{ReadsFrom, IsUpTo, Fits}
+use Rattle.tcc_survey.specs.private.Spells.{IsAfterAny, IsStart, NoneBefore}
 use Rattle.tcc_survey.proofs.ListLemmas.{listed_pair}
 
 -- ---- who reads a key
@@ -112,78 +111,31 @@ start_of h numbered c start some upto below inside outside e = (λ w. there w, �
 
 -- ---- the names
 module _ (h : History) (c : ℕ) (x : List ℕ) (b : ℕ) where
-  pub called_own : IsSessionPair h b c → IsUsualName h c x b name.ReadYourWrites
-  called_own fits = record { fits = fits; first = λ other less w. absurd (omega arith) }
+  pub fits_fractured : NoneBefore h c x b 1 → (causal_pair h b c ≡ true) ↔ Fits h c x b name.FracturedRead
+  fits_fractured before = (λ pair. go (pair_kinds h b c pair), λ w. pair_from_reads h b c w.0 w.1)
+    where
+      go : IsSessionPair h b c ⊎ ((y : List ℕ) × IsReadsPair h b c y) → ReadsFrom h b c
+      go (inl p) = absurd (before name.ReadYourWrites (omega arith) p)
+      go (inr w) = w
 
-  module _ (no_own : IsSessionPair h b c → ⊥) where
-    pub called_fractured : causal_pair h b c ≡ true → IsUsualName h c x b name.FracturedRead
-    called_fractured pair = record { fits = go (pair_kinds h b c pair); first = first }
+  module _ (below : b < count h) where
+    pub fits_reads : NoneBefore h c x b 2 → IsAfterAny h (readers h b x) c ↔ Fits h c x b name.MonotonicReads
+    fits_reads before = (λ w. go w.0 w.1 w.2, λ w. (w.0, reads_reader h b x w.0 w.1, inr w.2))
       where
-        go : IsSessionPair h b c ⊎ ((y : List ℕ) × IsReadsPair h b c y) → ReadsFrom h b c
-        go (inl p) = absurd (no_own p)
-        go (inr w) = w
+        go : (e : ℕ) → Contains (readers h b x) e → (e ≡ c) ⊎ IsSessionPair h e c → Fits h c x b name.MonotonicReads
+        go e there (inl same) =
+            let pair : IsReadsPair h b c x = subst (λ (z : ℕ). IsReadsPair h b z x) same (reader_reads h b x e below there) in
+            absurd (before name.FracturedRead (omega arith) (x, pair))
+        go e there (inr p) = (e, reader_reads h b x e below there, p)
 
-        first : (other : UsualName) → rank other < 1 → Fits h c x b other → ⊥
-        first name.ReadYourWrites less w = no_own w
-        first name.FracturedRead less w = omega arith
-        first name.MonotonicReads less w = omega arith
-        first name.MonotonicWrites less w = omega arith
-        first name.WritesFollowReads less w = omega arith
-        first name.CausalChain less w = omega arith
+    pub fits_follow : (among : List ℕ) → among ≡ readers h b x
+        → ((e : ℕ) × IsUpTo h e c × ((d : ℕ) × ReadsFrom h d e × IsAfterAny h among d)) ↔ Fits h c x b name.WritesFollowReads
+    fits_follow among are = (there, back)
+      where
+        there : (e : ℕ) × IsUpTo h e c × ((d : ℕ) × ReadsFrom h d e × IsAfterAny h among d) → Fits h c x b name.WritesFollowReads
+        there (e, upto, (d, reads, (f, listed, way))) =
+            (e, d, upto, reads, (f, reader_reads h b x f below (subst (λ (rs : List ℕ). Contains rs f) are listed), way))
 
-    module _ (below : b < count h) (no_pair : causal_pair h b c ≡ false) where
-      no_fractured : ReadsFrom h b c → ⊥
-      no_fractured (y, p) = false≢true (sym no_pair ∙ pair_from_reads h b c y p)
-
-      pub called_reads : (e : ℕ) × Contains (readers h b x) e × IsSessionPair h e c → IsUsualName h c x b name.MonotonicReads
-      called_reads (e, there, p) = record { fits = (e, reader_reads h b x e below there, p); first = first }
-        where
-          first : (other : UsualName) → rank other < 2 → Fits h c x b other → ⊥
-          first name.ReadYourWrites less w = no_own w
-          first name.FracturedRead less w = no_fractured w
-          first name.MonotonicReads less w = omega arith
-          first name.MonotonicWrites less w = omega arith
-          first name.WritesFollowReads less w = omega arith
-          first name.CausalChain less w = omega arith
-
-      module _ (no_reads : (e : ℕ) × Contains (readers h b x) e × IsSessionPair h e c → ⊥) where
-        not_reads : (e : ℕ) × IsReadsPair h b e x × IsSessionPair h e c → ⊥
-        not_reads (e, pair, p) = no_reads (e, reads_reader h b x e pair, p)
-
-        pub called_writes : (e : ℕ) × IsUpTo h e c × ReadsLater h b e → IsUsualName h c x b name.MonotonicWrites
-        called_writes (e, upto, (d, reads, p)) = record { fits = (e, d, upto, reads, p); first = first }
-          where
-            first : (other : UsualName) → rank other < 3 → Fits h c x b other → ⊥
-            first name.ReadYourWrites less w = no_own w
-            first name.FracturedRead less w = no_fractured w
-            first name.MonotonicReads less w = not_reads w
-            first name.MonotonicWrites less w = omega arith
-            first name.WritesFollowReads less w = omega arith
-            first name.CausalChain less w = omega arith
-
-        module _ (no_writes : (e : ℕ) × IsUpTo h e c × ReadsLater h b e → ⊥) where
-          not_writes : Fits h c x b name.MonotonicWrites → ⊥
-          not_writes (e, d, upto, reads, p) = no_writes (e, upto, (d, reads, p))
-
-          pub called_follow : (e : ℕ) × IsUpTo h e c × ReadsAfter h (readers h b x) e → IsUsualName h c x b name.WritesFollowReads
-          called_follow (e, upto, (d, reads, (f, there, way))) =
-              record { fits = (e, d, upto, reads, (f, reader_reads h b x f below there, way)); first = first }
-            where
-              first : (other : UsualName) → rank other < 4 → Fits h c x b other → ⊥
-              first name.ReadYourWrites less w = no_own w
-              first name.FracturedRead less w = no_fractured w
-              first name.MonotonicReads less w = not_reads w
-              first name.MonotonicWrites less w = not_writes w
-              first name.WritesFollowReads less w = omega arith
-              first name.CausalChain less w = omega arith
-
-          pub called_chain : ((e : ℕ) × IsUpTo h e c × ReadsAfter h (readers h b x) e → ⊥) → IsUsualName h c x b name.CausalChain
-          called_chain no_follow = record { fits = tt; first = first }
-            where
-              first : (other : UsualName) → rank other < 5 → Fits h c x b other → ⊥
-              first name.ReadYourWrites less w = no_own w
-              first name.FracturedRead less w = no_fractured w
-              first name.MonotonicReads less w = not_reads w
-              first name.MonotonicWrites less w = not_writes w
-              first name.WritesFollowReads less (e, d, upto, reads, (f, pair, way)) = no_follow (e, upto, (d, reads, (f, reads_reader h b x f pair, way)))
-              first name.CausalChain less w = omega arith
+        back : Fits h c x b name.WritesFollowReads → (e : ℕ) × IsUpTo h e c × ((d : ℕ) × ReadsFrom h d e × IsAfterAny h among d)
+        back (e, d, upto, reads, (f, pair, way)) =
+            (e, upto, (d, reads, (f, subst (λ (rs : List ℕ). Contains rs f) (sym are) (reads_reader h b x f pair), way)))

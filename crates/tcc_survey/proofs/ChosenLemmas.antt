@@ -1,7 +1,6 @@
 -- Of the external reads in a list those that are contradicted.
 use Rattle.std.proofs.Common.{◌≡◌, ◌<◌, ◌≤◌, ◌+◌, ◌⊎◌, inl, inr, ℕ, List, [], ◌∷◌, ◌++◌, length, length-append, slice_index, refl, sym, ap, ◌∙◌, subst, arith}
-use Rattle.std.proofs.lemmas.Bool.{cases_lt, cases_eq}
-use Rattle.std.proofs.lemmas.List.{get_or_append_left, get_or_at}
+use Rattle.std.proofs.lemmas.Bool.{cases_eq}
 use Rattle.tcc_reads.specs.History.{count}
 use Rattle.tcc_graph.specs.Levels.{Judged}
 use Rattle.tcc_survey.specs.declared.external_reads.Reading.{Reading}
@@ -9,6 +8,7 @@ use Rattle.tcc_survey.specs.declared.contradicted.Contradicted.{Contradicted}
 use Rattle.tcc_survey.specs.Contradictions.{IsContradictedBy, Contradicts, HasRead, IsContradicted, ComesBefore, contradicted_at, AreContradicted}
 use Rattle.tcc_survey.specs.private.Settled.{IsAgainst, AreFound, reading_of}
 use Rattle.tcc_survey.specs.private.Listed.{IsReadOf, AreReadsUpTo, AreContradictedUpTo}
+use Rattle.tcc_survey.proofs.Pushed.{pushed_early, pushed_last, pushed_all, pushed_order}
 
 -- what contradicts a read that is listed contradicts it by its index, and the other way round
 module _ (j : Judged) (r : Reading) (is : IsReadOf j.history r) where
@@ -47,7 +47,7 @@ module _ (j : Judged) (reads : List Reading) (listed : AreReadsUpTo j.history (c
           absurd (omega (arith, none, ((are.each n inside).least b against).0))
       go m b l w (inr other) = before.all m b (omega (arith, l, other)) w
 
-  -- and one that something does
+  -- a read that something contradicts
   module _ (some : 0 < slice_index found n) where
     abbrev new : Contradicted
     new = record { reading = reading_of reads n; writer = slice_index found n }
@@ -68,27 +68,17 @@ module _ (j : Judged) (reads : List Reading) (listed : AreReadsUpTo j.history (c
       least = λ b w. ((are.each n inside).least b (by_numbers j (reading_of reads n) (listed.each n inside) b w)).1;
     }
 
-    was : (k : ℕ) → k < length list → contradicted_at (list ++ new ∷ []) k ≡ contradicted_at list k
-    was k l = get_or_append_left list (new ∷ []) _ k l
-
-    last : (k : ℕ) → length list ≡ k → contradicted_at (list ++ new ∷ []) k ≡ new
-    last k e = get_or_at list new [] _ k e
-
-    at : (P : Contradicted → Type 0) (k : ℕ) → k < length (list ++ new ∷ []) → ((m : ℕ) → m < length list → P (contradicted_at list m)) → P new
-        → P (contradicted_at (list ++ new ∷ []) k)
-    at P k l early mine = go (cases_lt k (length list))
-      where
-        go : (k < length list) ⊎ (length list ≤ k) → P (contradicted_at (list ++ new ∷ []) k)
-        go (inl less) = subst P (sym (was k less)) (early k less)
-        go (inr more) = subst P (sym (last k (omega (arith, l, more, length-append list (new ∷ []))))) mine
+    -- what stands where there is no read
+    abbrev none : Contradicted
+    none = contradicted_at [] 0
 
     pub chosen_more : AreContradictedUpTo j reads (n + 1) (list ++ (record { reading = reading_of reads n; writer = slice_index found n }) ∷ [])
     chosen_more = record {
-      each = λ k l. at (IsContradicted j) k l before.each new_is;
-      among = λ k l. at (λ c. (m : ℕ) × (m < n + 1) × (c.reading ≡ reading_of reads m)) k l
-          (λ m s. let w = before.among m s in (w.0, omega (arith, w.1), w.2)) (n, omega arith, refl);
+      each = pushed_all list new none (IsContradicted j) before.each new_is;
+      among = pushed_all list new none (λ c. (m : ℕ) × (m < n + 1) × (c.reading ≡ reading_of reads m))
+          (λ k l. let w = before.among k l in (w.0, omega (arith, w.1), w.2)) (n, omega arith, refl);
       all = λ m b l w. all m b l w (cases_eq m n);
-      order = λ k l less up. order k l less up (cases_lt l (length list));
+      order = pushed_order list new none (λ c d. ComesBefore c.reading d.reading) before.order last;
     }
       where
         all : (m b : ℕ) → m < n + 1 → IsAgainst j (reading_of reads m) b → (m ≡ n) ⊎ ((m ≡ n) → ⊥)
@@ -96,26 +86,17 @@ module _ (j : Judged) (reads : List Reading) (listed : AreReadsUpTo j.history (c
         all m b l w (inl same) = (
           length list,
           omega (arith, length-append list (new ∷ [])),
-          ap (λ c. c.reading) (last (length list) refl) ∙ ap (reading_of reads) (sym same),
+          ap (λ c. c.reading) (pushed_last list new none (length list) refl) ∙ ap (reading_of reads) (sym same),
         )
         all m b l w (inr other) =
             let v = before.all m b (omega (arith, l, other)) w in
-            (v.0, omega (arith, v.1, length-append list (new ∷ [])), ap (λ c. c.reading) (was v.0 v.1) ∙ v.2)
+            (v.0, omega (arith, v.1, length-append list (new ∷ [])), ap (λ c. c.reading) (pushed_early list new none v.0 v.1) ∙ v.2)
 
-        order : (k l : ℕ) → k < l → l < length (list ++ new ∷ []) → (l < length list) ⊎ (length list ≤ l)
-            → ComesBefore (contradicted_at (list ++ new ∷ []) k).reading (contradicted_at (list ++ new ∷ []) l).reading
-        order k l less up (inl early) =
-            let short : k < length list = omega (arith, less, early) in
-            subst (λ c. ComesBefore c.reading (contradicted_at (list ++ new ∷ []) l).reading) (sym (was k short))
-            (subst (λ c. ComesBefore (contradicted_at list k).reading c.reading) (sym (was l early)) (before.order k l less early))
-        order k l less up (inr late) =
-            let end : length list ≡ l = omega (arith, late, up, length-append list (new ∷ [])) in
-            let short : k < length list = omega (arith, less, end) in
-            let w = before.among k short in
+        last : (k : ℕ) → k < length list → ComesBefore (contradicted_at list k).reading (reading_of reads n)
+        last k l =
+            let w = before.among k l in
             let comes : ComesBefore (reading_of reads w.0) (reading_of reads n) = listed.order w.0 n w.1 inside in
-            let mine : ComesBefore (contradicted_at list k).reading (reading_of reads n) = subst (λ q. ComesBefore q (reading_of reads n)) (sym w.2) comes in
-            subst (λ c. ComesBefore c.reading (contradicted_at (list ++ new ∷ []) l).reading) (sym (was k short))
-            (subst (λ c. ComesBefore (contradicted_at list k).reading c.reading) (sym (last l end)) mine)
+            subst (λ q. ComesBefore q (reading_of reads n)) (sym w.2) comes
 
 pub chosen_all : (j : Judged) (reads : List Reading) → AreReadsUpTo j.history (count j.history) 0 reads → (n : ℕ) → length reads ≤ n → (list : List Contradicted)
     → AreContradictedUpTo j reads n list → AreContradicted j list

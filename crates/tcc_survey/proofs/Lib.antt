@@ -2,6 +2,7 @@ pub mod CircleLemmas
 pub mod FirstLemmas
 mod Worked
 pub mod ScanLemmas
+pub mod Pushed
 pub mod ListLemmas
 pub mod FindLemmas
 pub mod ChosenLemmas

@@ -2,7 +2,7 @@
 use Rattle.std.proofs.Common.{◌≡◌, ◌<◌, ◌≤◌, ◌+◌, ◌==◌, ◌⊎◌, inl, inr, ℕ, zero, suc, List, [], ◌∷◌, ◌++◌, length, length-append, map, filter, get_or, refl, sym, ap, ◌∙◌, subst, arith}
 use Rattle.std.specs.List.{All, Contains}
 use Rattle.std.proofs.lemmas.Bool.{cases_lt, eq-eqb}
-use Rattle.std.proofs.lemmas.List.{get_or_append_left, get_or_at, get_or_default, length-map}
+use Rattle.std.proofs.lemmas.List.{get_or_default, length-map}
 use Rattle.tcc_txn.proofs.Lists.{in_filter, in_map}
 use Rattle.tcc_reads.specs.History.{History, count, entry_at}
 use Rattle.tcc_graph.specs.Relations.{IsReadsPair}
@@ -11,6 +11,7 @@ use Rattle.tcc_survey.specs.declared.external_reads.Reading.{Reading}
 use Rattle.tcc_survey.specs.Contradictions.{ComesBefore}
 use Rattle.tcc_survey.specs.private.Settled.{reading_of}
 use Rattle.tcc_survey.specs.private.Listed.{IsEarlier, IsReadOf, AreReadsUpTo}
+use Rattle.tcc_survey.proofs.Pushed.{pushed_early, pushed_last, pushed_all, pushed_order}
 
 -- a read that is listed is a pair
 pub listed_pair : (h : History) (a c : ℕ) (x : List ℕ) → a < count h → c < count h → (let read : List ℕ × ℕ = (x, a) in Contains (entry_at h c).reads read)
@@ -60,30 +61,20 @@ module _ (h : History) (c i : ℕ) (reads : List (ℕ × ℕ)) (value : map (λ 
   abbrev new : Reading
   new = added c i (get_or reads i (0, 0)).0 (get_or reads i (0, 0)).1
 
+  -- what stands where there is no read
+  abbrev unread : Reading
+  unread = added 0 0 0 0
+
   -- one read more
   pub reads_more : (all : List Reading) → AreReadsUpTo h c i all
       → AreReadsUpTo h c (i + 1) (all ++ added c i (get_or reads i (0, 0)).0 (get_or reads i (0, 0)).1 ∷ [])
   reads_more all are = record {
-    each = λ k l. at (IsReadOf h) k l are.each is_read;
-    early = λ k l. at (λ r. IsEarlier r.reader r.index c (i + 1)) k l (λ m n. later m (are.early m n)) (inr (refl, omega arith));
+    each = pushed_all all new unread (IsReadOf h) are.each is_read;
+    early = pushed_all all new unread (λ r. IsEarlier r.reader r.index c (i + 1)) (λ m n. later m (are.early m n)) (inr (refl, omega arith));
     whole = λ d e low less early. find d e low less (split d e early);
-    order = λ k l less up. order k l less up (cases_lt l (length all));
+    order = pushed_order all new unread ComesBefore are.order are.early;
   }
     where
-      was : (k : ℕ) → k < length all → reading_of (all ++ new ∷ []) k ≡ reading_of all k
-      was k l = get_or_append_left all (new ∷ []) _ k l
-
-      last : (k : ℕ) → length all ≡ k → reading_of (all ++ new ∷ []) k ≡ new
-      last k e = get_or_at all new [] _ k e
-
-      at : (P : Reading → Type 0) (k : ℕ) → k < length (all ++ new ∷ []) → ((m : ℕ) → m < length all → P (reading_of all m)) → P new
-          → P (reading_of (all ++ new ∷ []) k)
-      at P k l before mine = go (cases_lt k (length all))
-        where
-          go : (k < length all) ⊎ (length all ≤ k) → P (reading_of (all ++ new ∷ []) k)
-          go (inl less) = subst P (sym (was k less)) (before k less)
-          go (inr more) = subst P (sym (last k (omega (arith, l, more, length-append all (new ∷ []))))) mine
-
       later : (m : ℕ) → IsEarlier (reading_of all m).reader (reading_of all m).index c i → IsEarlier (reading_of all m).reader (reading_of all m).index c (i + 1)
       later m (inl less) = inl less
       later m (inr w) = inr (w.0, omega (arith, w.1))
@@ -100,26 +91,11 @@ module _ (h : History) (c i : ℕ) (reads : List (ℕ × ℕ)) (value : map (λ 
           → (k : ℕ) × (k < length (all ++ new ∷ [])) × ((reading_of (all ++ new ∷ []) k).reader ≡ d) × ((reading_of (all ++ new ∷ []) k).index ≡ e)
       find d e low less (inl before) =
           let w = are.whole d e low less before in
-          (w.0, omega (arith, w.1, length-append all (new ∷ [])), ap (λ r. r.reader) (was w.0 w.1) ∙ w.2, ap (λ r. r.index) (was w.0 w.1) ∙ w.3)
+          let was = pushed_early all new unread w.0 w.1 in
+          (w.0, omega (arith, w.1, length-append all (new ∷ [])), ap (λ r. r.reader) was ∙ w.2, ap (λ r. r.index) was ∙ w.3)
       find d e low less (inr same) =
-          let n : ℕ = length all in (
-            length all,
-            omega (arith, length-append all (new ∷ [])),
-            ap (λ r. r.reader) (last (length all) refl) ∙ sym same.0,
-            ap (λ r. r.index) (last (length all) refl) ∙ sym same.1,
-          )
-
-      order : (k l : ℕ) → k < l → l < length (all ++ new ∷ []) → (l < length all) ⊎ (length all ≤ l)
-          → ComesBefore (reading_of (all ++ new ∷ []) k) (reading_of (all ++ new ∷ []) l)
-      order k l less up (inl early) =
-          let short : k < length all = omega (arith, less, early) in
-          subst (λ r. ComesBefore r (reading_of (all ++ new ∷ []) l)) (sym (was k short))
-          (subst (λ r. ComesBefore (reading_of all k) r) (sym (was l early)) (are.order k l less early))
-      order k l less up (inr late) =
-          let end : length all ≡ l = omega (arith, late, up, length-append all (new ∷ [])) in
-          let short : k < length all = omega (arith, less, end) in
-          subst (λ r. ComesBefore r (reading_of (all ++ new ∷ []) l)) (sym (was k short))
-          (subst (λ r. ComesBefore (reading_of all k) r) (sym (last l end)) (are.early k short))
+          let last = pushed_last all new unread (length all) refl in
+          (length all, omega (arith, length-append all (new ∷ [])), ap (λ r. r.reader) last ∙ sym same.0, ap (λ r. r.index) last ∙ sym same.1)
 
 -- all reads of a transaction are those before the next one
 pub reads_next : (h : History) (c i : ℕ) (all : List Reading) → length (entry_at h c).reads ≤ i → AreReadsUpTo h c i all → AreReadsUpTo h (c + 1) 0 all

@@ -53,7 +53,7 @@ never_init h acyclic a below reached = go (cases_eq a 0)
         let w = pair_walk h 0 a (inl (initial_pair h 0 a refl (omega (arith, below)) (omega (arith, other)) below)) in
         acyclic 0 (reached_append h 0 a 0 (w.0, w.1) reached)
 
--- so it contradicts nothing
+-- `init` contradicts nothing
 pub against_some : (j : Judged) → IsAcyclic j.history → (r : Reading) → IsReading j.history r → (b : ℕ) → IsAgainst j r b → 0 < b
 against_some j acyclic r read b w = go (cases_eq b 0)
   where
@@ -138,7 +138,7 @@ kept_least j numbered from r old is some = record { attained = up is.attained; l
         by (inl less) = absurd (omega (arith, (numbered d old less one.0.0.1.0.2.0).0, late, one.1))
         by (inr more) = more
 
--- and where none of the block contradicts it
+-- what is known stays the least where none of the block contradicts the read
 pub none_least : (j : Judged) (from : ℕ) (r : Reading) (old : ℕ) → IsLeastBefore j from r old
     → ((d : ℕ) → IsAgainst j r d → from ≤ owner j.history d → owner j.history d < from + WIDE → ⊥) → IsLeastBefore j (from + WIDE) r old
 none_least j from r old is nobody = record { attained = up is.attained; least = λ d w. least d w (cases_lt (owner j.history d) from) }

@@ -1,7 +1,7 @@
 //! Which of the writers in a block of sessions contradict a read: those that its source reaches and that reach its reader. Of few
 //! writers each is looked at; of many, in each session the first by binary search, as numbers rise with places in a session. A read
 //! of a key with W writers in the block takes 32 steps, or 64 log W and one for each that is not known at the level.
-ghost use Rattle.std.specs.Prelude.{◌≡◌, ◌<◌, ◌≤◌, ◌+◌, ◌^◌, ◌↔◌, ℕ, length, slice_index, All, IsTrue, OnOk};
+ghost use Rattle.std.specs.Prelude.{◌≡◌, ◌<◌, ◌≤◌, ◌+◌, ◌^◌, ◌↔◌, ℕ, length, slice_index, IsTrue, OnOk};
 ghost use Rattle.std.specs.List.Sorted.{IsNonDecreasing};
 ghost use Rattle.tcc_reads.specs.History.{IsBySession, count};
 ghost use Rattle.tcc_graph.specs.Keys.{key_at};
@@ -9,7 +9,7 @@ ghost use Rattle.tcc_graph.specs.Levels.{judged};
 ghost use Rattle.tcc_clocks.specs.Clocks.{AreOwners, AreClocks};
 ghost use Rattle.tcc_survey.specs.private.Firsts.{AreFirsts};
 ghost use Rattle.tcc_clocks.specs.declared.latest.TheConstants.{WIDE};
-ghost use Rattle.tcc_survey.specs.private.Settled.{IsLeastOf, IsAcyclic, IsBlock, MayHit, IsWithin, IsKnown, IsHit, IsHitIn, AreWritersIn, IsReading, IsLeastBefore, AreReads, AreSettled, AreSpansIn};
+ghost use Rattle.tcc_survey.specs.private.Settled.{IsLeastOf, IsAcyclic, IsBlock, MayHit, IsWithin, IsKnown, IsHitOf, IsHitOnLane, AreWritersIn, IsReading, IsLeastBefore, AreReads, AreSettled, AreSpansIn};
 
 use crate::external_reads::Reading;
 use std::alloc::Global;
@@ -20,57 +20,6 @@ use tcc_txn::NoMemory;
 /// Up to so many writers of a key are looked at one by one.
 const FEW: usize = 32;
 
-/// Whether a transaction is of the block, and no earlier in its session than the one row says and no later than the other.
-fn is_within(owners: &[u32], from: u32, first: &[u32], clock: &[u32], b: u32) -> bool
-    requires inside { b < length owners.now }
-    requires first { length first.now ≡ WIDE }
-    requires clock { length clock.now ≡ WIDE }
-    ensures { IsTrue result ↔ IsWithin owners.now from first.now clock.now b }
-{
-    let owner = owners[b as usize];
-    if owner < from {
-        return false;
-    }
-    let lane = (owner - from) as usize;
-    lane < WIDE && first[lane] <= b && b <= clock[lane]
-}
-
-/// Whether what reaches `c` is known to it at the level.
-fn is_known(level: Level, graph: &LargeGraph, b: u32, c: u32) -> bool
-    requires from { b < count graph.now }
-    requires to { c < count graph.now }
-    ensures { IsTrue result ↔ IsKnown level graph.now b c }
-{
-    match level {
-        Level::Causal => true,
-        Level::Atomic => graph.causal(b, c),
-    }
-}
-
-/// The first of these writers, which rise, that lies between the rows and is known to `c`, or 0 where there is none: one by
-/// one.
-fn hit_of_few(
-    level: Level,
-    graph: &LargeGraph,
-    owners: &[u32],
-    from: u32,
-    first: &[u32],
-    clock: &[u32],
-    writers: &[u32],
-    c: u32,
-) -> u32
-    requires { MayHit graph.now owners.now from first.now clock.now writers.now c }
-    ensures { IsLeastOf (IsHit (judged graph.now level) owners.now from first.now clock.now writers.now c) result }
-{
-    for writer in writers {
-        let b = *writer;
-        if b > 0 && is_within(owners, from, first, clock, b) && is_known(level, graph, b, c) {
-            return b;
-        }
-    }
-    0
-}
-
 /// How many of these, which rise, are less than `bound`.
 fn count_before(numbers: &[u32], bound: u32) -> usize
     requires { IsNonDecreasing numbers.now }
@@ -80,91 +29,116 @@ fn count_before(numbers: &[u32], bound: u32) -> usize
     numbers.partition_point(|number| *number < bound)
 }
 
-/// The first of these writers, which rise, that is of a session, from `low` up to `high`, and known to `c`, or 0.
-fn hit_in_session(
+/// A look at the writers of a read's key in a block of sessions.
+#[derive(Clone, Copy)]
+struct Scan<'a> {
     level: Level,
-    graph: &LargeGraph,
-    owners: &[u32],
-    session: u32,
-    low: u32,
-    high: u32,
-    writers: &[u32],
-    c: u32,
-) -> u32
-    requires owners { length owners.now ≡ count graph.now }
-    requires inside { All (λ b. b < count graph.now) writers.now }
-    requires rising { IsNonDecreasing writers.now }
-    requires reader { c < count graph.now }
-    ensures { IsLeastOf (IsHitIn (judged graph.now level) owners.now session low high writers.now c) result }
-{
-    if low > high {
-        return 0;
+    graph: &'a LargeGraph,
+    /// The index of each transaction's session.
+    owners: &'a [u32],
+    /// The first session of the block.
+    from: u32,
+    /// Of each session of the block the first number that the source reaches.
+    first: &'a [u32],
+    /// Of each session of the block the last number that reaches the reader.
+    clock: &'a [u32],
+    /// The writers, which rise.
+    writers: &'a [u32],
+    /// The number of the reader.
+    reader: u32,
+}
+
+impl Scan<'_> {
+    /// Whether a writer is of the block, and lies between the rows in its session.
+    fn is_within(&self, b: u32) -> bool
+        requires may { MayHit self.now }
+        requires inside { b < length self.now.owners.now }
+        ensures { IsTrue result ↔ IsWithin self.now.owners.now self.now.from self.now.first.now self.now.clock.now b }
+    {
+        let owner = self.owners[b as usize];
+        if owner < self.from {
+            return false;
+        }
+        let lane = (owner - self.from) as usize;
+        lane < WIDE && self.first[lane] <= b && b <= self.clock[lane]
     }
-    for index in count_before(writers, low)..writers.len() {
-        let b = writers[index];
-        if b > high {
+
+    /// Whether a writer that reaches the reader is known to it at the level.
+    fn is_known(&self, b: u32) -> bool
+        requires may { MayHit self.now }
+        requires inside { b < count self.now.graph.now }
+        ensures { IsTrue result ↔ IsKnown self.now.level self.now.graph.now b self.now.reader }
+    {
+        match self.level {
+            Level::Causal => true,
+            Level::Atomic => self.graph.causal(b, self.reader),
+        }
+    }
+
+    /// The first of the writers that lies between the rows and is known to the reader, or 0 where there is none: one by one.
+    fn hit_of_few(&self) -> u32
+        requires { MayHit self.now }
+        ensures { IsLeastOf (IsHitOf self.now) result }
+    {
+        for writer in self.writers {
+            let b = *writer;
+            if b > 0 && self.is_within(b) && self.is_known(b) {
+                return b;
+            }
+        }
+        0
+    }
+
+    /// The first of the writers that is of a session of the block, lies between the rows and is known to the reader, or 0.
+    fn hit_in_session(&self, lane: usize) -> u32
+        requires may { MayHit self.now }
+        requires lane { lane < WIDE }
+        ensures { IsLeastOf (IsHitOnLane self.now lane) result }
+    {
+        let session = self.from + lane as u32;
+        let low = self.first[lane];
+        let high = self.clock[lane];
+        if low > high {
             return 0;
         }
-        if b > 0 && b >= low && owners[b as usize] == session && is_known(level, graph, b, c) {
-            return b;
+        for index in count_before(self.writers, low)..self.writers.len() {
+            let b = self.writers[index];
+            if b > high {
+                return 0;
+            }
+            if b > 0 && b >= low && self.owners[b as usize] == session && self.is_known(b) {
+                return b;
+            }
+        }
+        0
+    }
+
+    /// The first of the writers that lies between the rows and is known to the reader, or 0: session by session.
+    fn hit_of_many(&self) -> u32
+        requires { MayHit self.now }
+        ensures { IsLeastOf (IsHitOf self.now) result }
+    {
+        for lane in 0..WIDE {
+            let found = self.hit_in_session(lane);
+            if found > 0 {
+                return found;
+            }
+        }
+        0
+    }
+
+    /// The first of the writers that lies between the rows and is known to the reader, or 0: of many session by session, but where
+    /// all are reached, as they are from `init`.
+    fn first_hit(&self, are_reached: bool) -> u32
+        requires { MayHit self.now }
+        ensures { IsLeastOf (IsHitOf self.now) result }
+    {
+        if are_reached || self.writers.len() <= FEW {
+            self.hit_of_few()
+        } else {
+            self.hit_of_many()
         }
     }
-    0
-}
-
-/// The first of these writers, which rise, that lies between the rows and is known to `c`, or 0: session by session.
-fn hit_of_many(
-    level: Level,
-    graph: &LargeGraph,
-    owners: &[u32],
-    from: u32,
-    first: &[u32],
-    clock: &[u32],
-    writers: &[u32],
-    c: u32,
-) -> u32
-    requires { MayHit graph.now owners.now from first.now clock.now writers.now c }
-    ensures { IsLeastOf (IsHit (judged graph.now level) owners.now from first.now clock.now writers.now c) result }
-{
-    for lane in 0..WIDE {
-        let session = from + lane as u32;
-        let found = hit_in_session(
-            level,
-            graph,
-            owners,
-            session,
-            first[lane],
-            clock[lane],
-            writers,
-            c,
-        );
-        if found > 0 {
-            return found;
-        }
-    }
-    0
-}
-
-/// The first of these writers, which rise, that lies between the rows and is known to `c`, or 0: of many session by session, but
-/// where all are reached, as they are from `init`.
-fn first_hit(
-    level: Level,
-    graph: &LargeGraph,
-    owners: &[u32],
-    from: u32,
-    first: &[u32],
-    clock: &[u32],
-    writers: &[u32],
-    c: u32,
-    are_reached: bool,
-) -> u32
-    requires { MayHit graph.now owners.now from first.now clock.now writers.now c }
-    ensures { IsLeastOf (IsHit (judged graph.now level) owners.now from first.now clock.now writers.now c) result }
-{
-    if are_reached || writers.len() <= FEW {
-        return hit_of_few(level, graph, owners, from, first, clock, writers, c);
-    }
-    hit_of_many(level, graph, owners, from, first, clock, writers, c)
 }
 
 /// The least number that contradicts a read, of those up to the block: the one of an earlier block, or else of these writers of
@@ -189,21 +163,17 @@ fn least_up_to(
     if known > 0 || writers.is_empty() || clocks.are_same(reading.source, reading.reader) {
         return known;
     }
-    let first = firsts.get(reading.source);
-    let clock = clocks.get(reading.reader);
-    let c = reading.reader;
-    let are_reached = reading.source == 0;
-    first_hit(
+    let scan = Scan {
         level,
         graph,
         owners,
         from,
-        first,
-        clock,
+        first: firsts.get(reading.source),
+        clock: clocks.get(reading.reader),
         writers,
-        c,
-        are_reached,
-    )
+        reader: reading.reader,
+    };
+    scan.first_hit(reading.source == 0)
 }
 
 /// Goes on, for each read, to the writers of its key in the block.

@@ -1,68 +1,72 @@
 //! The usual names of contradicted reads, those of the session guarantees (Terry et al., Session guarantees for weakly consistent
 //! replicated data, 1994) among them: by the sessions and the reads that lead from the writer to the reader. It is the first name that
 //! fits. A look at each reader of the key from the writer, and, for each read of the reader's session up to the reader, at these again.
-ghost use Rattle.std.specs.Prelude.{◌≡◌, ◌<◌, ◌≤◌, ◌↔◌, ℕ, length, All, Contains, IsTrue};
+ghost use Rattle.std.specs.Prelude.{◌≡◌, ◌<◌, ◌≤◌, ◌↔◌, ℕ, length, All, IsTrue};
 ghost use Rattle.tcc_txn.specs.declared.limits.TheConstants.{LARGE_COUNT};
 ghost use Rattle.tcc_reads.specs.History.{count};
-ghost use Rattle.tcc_graph.specs.Relations.{IsSessionPair};
-ghost use Rattle.tcc_graph.specs.Keys.{keys, key_at};
-ghost use Rattle.tcc_survey.specs.Names.{ReadsFrom, IsUpTo, IsUsualName};
-ghost use Rattle.tcc_survey.specs.private.Spells.{IsAfterAny, IsStart, ReadsLater, ReadsAfter};
+ghost use Rattle.tcc_graph.specs.Keys.{keys, key_at, readers};
+ghost use Rattle.tcc_survey.specs.Names.{Fits, IsUpTo, IsUsualName, rank};
+ghost use Rattle.tcc_survey.specs.private.Spells.{AreInside, IsAfterAny, IsSource, IsStart, NoneBefore, ReadsFromAny};
 
 use crate::contradicted::Contradicted;
 use crate::usual_name::UsualName;
 use tcc_graph::LargeGraph;
 
-/// Whether one of these transactions stands before `c` in its session.
-fn is_later_read(graph: &LargeGraph, readers: &[u32], c: u32) -> bool
-    requires inside { All (λ e. e < count graph.now) readers.now }
-    requires below { c < count graph.now }
-    ensures { IsTrue result ↔ ((e : ℕ) × Contains readers.now e × IsSessionPair graph.now e c) }
-{
-    for reader in readers {
-        if graph.session(*reader, c) {
-            return true;
-        }
-    }
-    false
-}
+/// The usual names, in the order in which the first that fits is taken.
+const NAMES: [UsualName; 6] = [
+    UsualName::ReadYourWrites,
+    UsualName::FracturedRead,
+    UsualName::MonotonicReads,
+    UsualName::MonotonicWrites,
+    UsualName::WritesFollowReads,
+    UsualName::CausalChain,
+];
 
 /// Whether `d` is one of these transactions, or a later one of its session.
-fn is_after_any(graph: &LargeGraph, readers: &[u32], d: u32) -> bool
-    requires inside { All (λ f. f < count graph.now) readers.now }
+fn is_after_any(graph: &LargeGraph, among: &[u32], d: u32) -> bool
+    requires inside { All (λ f. f < count graph.now) among.now }
     requires below { d < count graph.now }
-    ensures { IsTrue result ↔ IsAfterAny graph.now readers.now d }
+    ensures { IsTrue result ↔ IsAfterAny graph.now among.now d }
 {
-    for reader in readers {
-        if *reader == d || graph.session(*reader, d) {
+    for one in among {
+        if *one == d || graph.session(*one, d) {
             return true;
         }
     }
     false
 }
 
-/// Whether `e` reads from a later transaction of the session of `b`.
-fn reads_later(graph: &LargeGraph, b: u32, e: u32) -> bool
-    requires writer { b < count graph.now }
-    requires reader { e < count graph.now }
-    ensures { IsTrue result ↔ ReadsLater graph.now b e }
-{
-    for read in graph.reads_at(e) {
-        if graph.session(b, read.1) {
-            return true;
-        }
-    }
-    false
+/// Transactions that are read from.
+#[derive(Clone, Copy)]
+enum Sources<'a> {
+    /// Those later in the session of this one.
+    Later(u32),
+    /// These, and those later in their sessions.
+    From(&'a [u32]),
 }
 
-/// Whether `e` reads from one of these transactions, or from a later one of its session.
-fn reads_after(graph: &LargeGraph, readers: &[u32], e: u32) -> bool
-    requires inside { All (λ f. f < count graph.now) readers.now }
+impl Sources<'_> {
+    /// Whether a transaction is one of them.
+    fn has(&self, graph: &LargeGraph, d: u32) -> bool
+        requires inside { AreInside graph.now self.now }
+        requires below { d < count graph.now }
+        ensures { IsTrue result ↔ IsSource graph.now self.now d }
+    {
+        match self {
+            Sources::Later(b) => graph.session(*b, d),
+            Sources::From(among) => is_after_any(graph, among, d),
+        }
+    }
+}
+
+/// Whether `e` reads from one of the sources.
+fn reads_any(graph: &LargeGraph, sources: &Sources<'_>, e: u32) -> bool
+    requires inside { AreInside graph.now sources.now }
     requires reader { e < count graph.now }
-    ensures { IsTrue result ↔ ReadsAfter graph.now readers.now e }
+    ensures { IsTrue result ↔ ReadsFromAny graph.now sources.now e }
 {
     for read in graph.reads_at(e) {
-        if is_after_any(graph, readers, read.1) {
+        if sources.has(graph, read.1) {
             return true;
         }
     }
@@ -93,36 +97,42 @@ fn are_few(graph: &LargeGraph)
     graph.count();
 }
 
-/// Whether the reader, or its session before, reads from a later transaction of the session of `b`.
-fn is_monotonic_writes(graph: &LargeGraph, start: u32, b: u32, c: u32) -> bool
-    requires writer { b < count graph.now }
+/// Whether the reader, or its session before, reads from one of the sources.
+fn session_reads_any(graph: &LargeGraph, sources: &Sources<'_>, c: u32) -> bool
+    requires inside { AreInside graph.now sources.now }
+    requires some { 0 < c }
     requires below { c < count graph.now }
-    requires start { IsStart graph.now c start }
-    ensures { IsTrue result ↔ ((e : ℕ) × IsUpTo graph.now e c × ReadsLater graph.now b e) }
+    ensures { IsTrue result ↔ ((e : ℕ) × IsUpTo graph.now e c × ReadsFromAny graph.now sources.now e) }
 {
     are_few(graph);
+    let start = session_start(graph, c);
     for e in start..c + 1 {
-        if reads_later(graph, b, e) {
+        if reads_any(graph, sources, e) {
             return true;
         }
     }
     false
 }
 
-/// Whether the reader, or its session before, reads from one of these transactions or from a later one of its session.
-fn is_writes_follow_reads(graph: &LargeGraph, start: u32, readers: &[u32], c: u32) -> bool
-    requires inside { All (λ f. f < count graph.now) readers.now }
-    requires below { c < count graph.now }
-    requires start { IsStart graph.now c start }
-    ensures { IsTrue result ↔ ((e : ℕ) × IsUpTo graph.now e c × ReadsAfter graph.now readers.now e) }
+/// Whether a name fits where none before it does, by the readers of the key from the writer.
+fn is_called(graph: &LargeGraph, among: &[u32], one: &Contradicted, name: UsualName) -> bool
+    requires some { 0 < one.now.reading.reader }
+    requires reader { one.now.reading.reader < count graph.now }
+    requires writer { one.now.writer < count graph.now }
+    requires readers { among.now ≡ readers graph.now one.now.writer (key_at graph.now one.now.reading.key_index) }
+    requires first { NoneBefore graph.now one.now.reading.reader (key_at graph.now one.now.reading.key_index) one.now.writer (rank name) }
+    ensures { IsTrue result ↔ Fits graph.now one.now.reading.reader (key_at graph.now one.now.reading.key_index) one.now.writer name }
 {
-    are_few(graph);
-    for e in start..c + 1 {
-        if reads_after(graph, readers, e) {
-            return true;
-        }
+    let b = one.writer;
+    let c = one.reading.reader;
+    match name {
+        UsualName::ReadYourWrites => graph.session(b, c),
+        UsualName::FracturedRead => graph.causal(b, c),
+        UsualName::MonotonicReads => is_after_any(graph, among, c),
+        UsualName::MonotonicWrites => session_reads_any(graph, &Sources::Later(b), c),
+        UsualName::WritesFollowReads => session_reads_any(graph, &Sources::From(among), c),
+        UsualName::CausalChain => true,
     }
-    false
 }
 
 /// The usual name of a contradicted read: the first that fits.
@@ -133,24 +143,11 @@ pub fn name_of(graph: &LargeGraph, one: &Contradicted) -> UsualName
     requires writer { one.now.writer < count graph.now }
     ensures { IsUsualName graph.now one.now.reading.reader (key_at graph.now one.now.reading.key_index) one.now.writer result }
 {
-    let b = one.writer;
-    let c = one.reading.reader;
-    let readers = graph.readers(b, &graph.keys()[one.reading.key_index as usize]);
-    if graph.session(b, c) {
-        return UsualName::ReadYourWrites;
-    }
-    if graph.causal(b, c) {
-        return UsualName::FracturedRead;
-    }
-    if is_later_read(graph, readers, c) {
-        return UsualName::MonotonicReads;
-    }
-    let start = session_start(graph, c);
-    if is_monotonic_writes(graph, start, b, c) {
-        return UsualName::MonotonicWrites;
-    }
-    if is_writes_follow_reads(graph, start, readers, c) {
-        return UsualName::WritesFollowReads;
+    let among = graph.readers(one.writer, &graph.keys()[one.reading.key_index as usize]);
+    for name in &NAMES {
+        if is_called(graph, among, one, *name) {
+            return *name;
+        }
     }
     UsualName::CausalChain
 }

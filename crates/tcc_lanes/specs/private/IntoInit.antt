@@ -23,7 +23,7 @@ abbrev pub IsReadOfInit : History → List ℕ → ℕ → ℕ → Type 0
 IsReadOfInit h key_lanes word reader =
     (i : ℕ) × (i < LANES) × HasLane word i × (k : ℕ) × (k < length (keys h)) × IsReadsPair h 0 reader (key_at h k) × IsAt key_lanes k i
 
--- so where lanes have come to it
+-- a reader that lanes have come to reads the key of one of them from `init`
 abbrev pub IsMetByInit : History → List ℕ → List ℕ → Type 0
 IsMetByInit h key_lanes reached = (reader : ℕ) × (reader < count h) × IsReadOfInit h key_lanes (slice_index reached reader) reader
 
@@ -31,6 +31,6 @@ IsMetByInit h key_lanes reached = (reader : ℕ) × (reader < count h) × IsRead
 abbrev pub IsIntoInit : Judged → ℕ → ℕ → Type 0
 IsIntoInit j most k = (b : ℕ) × (c : ℕ) × (walk : List Step) × IsReason j b 0 (key_at j.history k) c walk × (length walk ≤ most)
 
--- so of one of these keys
+-- a derived link into `init` by a reader of one of these keys
 abbrev pub HasIntoInit : Judged → ℕ → List ℕ → Type 0
 HasIntoInit j most key_indices = (n : ℕ) × (n < length key_indices) × IsIntoInit j most (slice_index key_indices n)

@@ -23,7 +23,7 @@ abbrev pub IsMetAt : History → List ℕ → List ℕ → ℕ → ℕ → ℕ �
 IsMetAt h columns writers word reader v i =
     HasLane word i × (a : ℕ) × (k : ℕ) × (slice_index columns a ≡ v) × (k < length (keys h)) × IsReadsPair h a reader (key_at h k) × IsAt writers k i
 
--- so one of the first readers, where lanes have come to
+-- one of the first readers reads it, by the lanes that have come there
 abbrev pub IsMetIn : History → List ℕ → List ℕ → List ℕ → ℕ → ℕ → ℕ → Type 0
 IsMetIn h columns writers reached end v i = (reader : ℕ) × (reader < end) × IsMetAt h columns writers (slice_index reached reader) reader v i
 

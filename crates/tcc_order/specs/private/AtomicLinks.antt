@@ -48,6 +48,6 @@ pub record KeepsSome (h : History) (a : ℕ) (IsDone : ℕ → List ℕ → Type
   pub enough : (c : ℕ) (x : List ℕ) (b : ℕ) → IsReadsPair h a c x → IsDone c x → StepsOver h c x a b
       → (d : ℕ) × ((b ≡ d) ⊎ IsSessionPair h b d) × Contains row d
 
--- so by all reads
+-- the links into a that its readers ask for by all their reads
 abbrev pub KeepsInto : History → ℕ → List ℕ → Type 0
 KeepsInto h a row = KeepsSome h a (λ c x. Unit {0}) row

@@ -4,7 +4,7 @@ use Rattle.std.specs.List.Sorted.{IsNonDecreasing}
 use Rattle.tcc_reads.specs.History.{History, IsBySession, count, owner}
 use Rattle.tcc_graph.specs.Relations.{causal_pair, IsReadsPair}
 use Rattle.tcc_graph.specs.Keys.{keys, key_at, writers}
-use Rattle.tcc_graph.specs.Levels.{Judged}
+use Rattle.tcc_graph.specs.Levels.{Judged, judged}
 use Rattle.tcc_graph.specs.Walks.{IsReached}
 use Rattle.tcc_graph.specs.declared.level.Level.{Level}
 use Rattle.tcc_graph.specs.declared.level.Level.TheVariants as level
@@ -12,6 +12,7 @@ use Rattle.tcc_clocks.specs.Clocks.{AreOwners, AreClocks}
 use Rattle.tcc_survey.specs.private.Firsts.{AreFirsts}
 use Rattle.tcc_clocks.specs.declared.latest.TheConstants.{WIDE}
 use Rattle.tcc_survey.specs.declared.external_reads.Reading.{Reading}
+use Rattle.tcc_survey.specs.declared.scanning.Scan.{Scan}
 use Rattle.tcc_survey.specs.Contradictions.{IsContradictedBy}
 
 -- the least number that is one of those meant, or 0 where there is none; 0 itself isn't meant
@@ -51,16 +52,25 @@ pub record IsBlock (h : History) (owners : List ℕ) (from : ℕ) (firsts clocks
   pub first : AreFirsts h from firsts
   pub clock : AreClocks h from clocks
 
--- these, which rise, are transactions, and so is c; the rows are as wide as a block
-pub record MayHit (h : History) (owners : List ℕ) (from : ℕ) (first clock among : List ℕ) (c : ℕ) : Type 0 where
-  pub numbered : IsBySession h.entries
-  pub owned : AreOwners h owners
-  pub room : from + WIDE < 2 ^ 32
-  pub inside : All (λ b. b < count h) among
-  pub rising : IsNonDecreasing among
-  pub first_wide : length first ≡ WIDE
-  pub clock_wide : length clock ≡ WIDE
-  pub reader : c < count h
+-- the writers, which rise, are transactions, and so is the reader; the rows are as wide as a block
+pub record MayHit (s : Scan) : Type 0 where
+  pub numbered : IsBySession s.graph.now.entries
+  pub owned : AreOwners s.graph.now s.owners.now
+  pub room : s.from + WIDE < 2 ^ 32
+  pub inside : All (λ b. b < count s.graph.now) s.writers.now
+  pub rising : IsNonDecreasing s.writers.now
+  pub first_wide : length s.first.now ≡ WIDE
+  pub clock_wide : length s.clock.now ≡ WIDE
+  pub reader : s.reader < count s.graph.now
+
+-- b is a hit of the scan
+abbrev pub IsHitOf : Scan → ℕ → Type 0
+IsHitOf s b = IsHit (judged s.graph.now s.level) s.owners.now s.from s.first.now s.clock.now s.writers.now s.reader b
+
+-- b is a hit of the scan in one session of the block
+abbrev pub IsHitOnLane : Scan → ℕ → ℕ → Type 0
+IsHitOnLane s lane b =
+    IsHitIn (judged s.graph.now s.level) s.owners.now (s.from + lane) (slice_index s.first.now lane) (slice_index s.clock.now lane) s.writers.now s.reader b
 
 -- some writers of the key, and all that are of the block; they rise
 pub record AreWritersIn (h : History) (from : ℕ) (x : List ℕ) (among : List ℕ) : Type 0 where

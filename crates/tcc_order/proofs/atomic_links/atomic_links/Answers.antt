@@ -1,4 +1,4 @@
-use Rattle.std.proofs.Common.{rules, ◌≡◌, ◌∙◌, ◌++◌, ◌∷◌, [], length, take, drop, sym, take_at}
+use Rattle.std.proofs.Common.{rules, ◌≡◌, ◌∙◌, ◌++◌, ◌∷◌, [], length, sym, take_at}
 use Rattle.tcc_reads.specs.History.{count}
 use Rattle.tcc_order.proofs.Stepped.{atomic_links, below_more}
 use Rattle.tcc_order.proofs.atomic_links.atomic_links.Goals as goal
@@ -9,9 +9,8 @@ loop-a-preserved c =
     let old = c.loop-a.places.items in
     let same : length new ≡ length old = rw c.deref_mut.ensures.value at c.links_into.ensures.same in
     let long : c.loop-a.places.len ≡ length old = search rules in
-    let whole : take c.loop-a.places.len (new ++ drop (length new) old) ≡ new = take_at new (drop (length new) old) c.loop-a.places.len (same ∙ sym long) in
     let pushed : c.push.new.self.items ≡ c.loop-a.kept.items ++ c.in_ok-into.into ∷ [] = search rules in
-    rw (whole, pushed) (
+    rw (take_at new _ c.loop-a.places.len (same ∙ sym long), pushed) (
       same ∙ c.loop-a.invariant.0,
       below_more c.args.graph.now c.loop-a.a c.loop-a.kept.items c.in_ok-into.into c.loop-a.invariant.1 c.in_ok-into.ensures.kept,
     )

@@ -1,4 +1,4 @@
-use Rattle.std.proofs.Common.{rules, ◌≡◌, ◌<◌, ◌∙◌, ◌++◌, ◌∷◌, ◌↔◌, ℕ, [], length, take, drop, sym, subst, take_at, arith}
+use Rattle.std.proofs.Common.{rules, ◌≡◌, ◌<◌, ◌∙◌, ◌++◌, ◌∷◌, ◌↔◌, ℕ, [], length, sym, subst, take_at, arith}
 use Rattle.std.specs.Prelude.{Contains}
 use Rattle.std.proofs.lemmas.List.Elements.{All-weaker}
 use Rattle.tcc_reads.specs.History.{count}
@@ -25,12 +25,11 @@ loop-c-preserved c =
     let old = c.loop-c.places.items in
     let same : length new ≡ length old = rw c.deref_mut.ensures.value at c.once.ensures.same in
     let long : c.loop-c.places.len ≡ length old = search rules in
-    let whole : take c.loop-c.places.len (new ++ drop (length new) old) ≡ new = take_at new (drop (length new) old) c.loop-c.places.len (same ∙ sym long) in
     let pushed : c.push.new.self.items ≡ c.loop-c.rows.items ++ c.in_ok-row.row ∷ [] = search rules in
     let listed : (b : ℕ) → Contains c.in_ok-row.row b ↔ Contains (parents h c.loop-c.c) b
     = rw (c.deref.ensures.value, c.in_ok-find_parents.ensures.found) at c.in_ok-row.ensures.listed in
     let has : HasParents h c.loop-c.c c.in_ok-row.row = record { listed = listed; sources = c.in_ok-find_parents.ensures.sources } in
-    rw (whole, pushed) (same ∙ c.loop-c.invariant.0, parents_more h c.loop-c.c c.loop-c.rows.items c.in_ok-row.row c.loop-c.invariant.1 has)
+    rw (take_at new _ c.loop-c.places.len (same ∙ sym long), pushed) (same ∙ c.loop-c.invariant.0, parents_more h c.loop-c.c c.loop-c.rows.items c.in_ok-row.row c.loop-c.invariant.1 has)
 
 pub returns : goal.returns
 returns c =

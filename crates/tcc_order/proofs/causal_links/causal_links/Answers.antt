@@ -1,4 +1,4 @@
-use Rattle.std.proofs.Common.{rules, ◌≡◌, ◌<◌, ◌≤◌, ◌*◌, ◌∙◌, ◌++◌, ℕ, length, take, drop, sym, arith, take_at}
+use Rattle.std.proofs.Common.{rules, ◌≡◌, ◌<◌, ◌≤◌, ◌*◌, ◌∙◌, ℕ, length, sym, arith, take_at}
 use Rattle.tcc_reads.specs.History.{count, owner}
 use Rattle.tcc_order.specs.private.CausalLinks.{Overwrites}
 use Rattle.tcc_clocks.specs.declared.latest.TheConstants.{WIDE}
@@ -25,8 +25,7 @@ loop-block-preserved c =
     let inv = c.loop-block.invariant in
     let same : length new ≡ length old = rw c.deref_mut.ensures.value at c.in_ok-keep_block.ensures.same in
     let long : c.loop-block.kept.len ≡ length old = search rules in
-    let whole : take c.loop-block.kept.len (new ++ drop (length new) old) ≡ new = take_at new (drop (length new) old) c.loop-block.kept.len (same ∙ sym long) in
-    rw whole (
+    rw (take_at new _ c.loop-block.kept.len (same ∙ sym long)) (
       c.in_ok-find_clocks.ensures.long,
       same ∙ inv.1,
       c.in_ok-keep_block.ensures.derived,

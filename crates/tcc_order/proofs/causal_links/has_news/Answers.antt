@@ -1,6 +1,6 @@
-use Rattle.std.proofs.Common.{◌≡◌, arith}
+use Rattle.std.proofs.Common.{◌≡◌, slice_index, arith}
+use borrow.Author.Count.{below_more}
 use Rattle.tcc_graph.specs.Tables.{row_of}
-use Rattle.tcc_clocks.proofs.LatestLemmas.{each_more}
 use Rattle.tcc_order.proofs.Readings.{reader_at, reader_below}
 use Rattle.tcc_order.proofs.causal_links.has_news.Goals as goal
 
@@ -12,7 +12,8 @@ are_same-requires-clause-one c =
 
 pub loop-reader-preserved : goal.loop-reader-preserved
 loop-reader-preserved c =
-    each_more (λ n. row_of c.args.table.now n ≡ row_of c.args.table.now c.args.a) c.readings_at.result.0.now c.loop-reader.reader-index c.loop-reader.invariant
+    below_more (λ k. row_of c.args.table.now (slice_index c.readings_at.result.0.now k) ≡ row_of c.args.table.now c.args.a) c.loop-reader.reader-index
+    c.loop-reader.invariant
     (c.are_same.ensures c.if-not-are_same.false)
 
 pub returns : goal.returns

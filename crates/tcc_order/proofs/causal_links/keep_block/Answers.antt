@@ -100,4 +100,6 @@ returns-clause-enough c = λ a b over some less.
     c.loop-a.invariant.4 a b over some (inr (less, low))
 
 pub needed-requires-clause-spans : goal.needed-requires-clause-spans
-needed-requires-clause-spans c = rw c.deref.ensures.value c.in_ok-find_spans.ensures
+needed-requires-clause-spans c =
+    let bounds = c.block_bounds-bounds in
+    rw c.deref.ensures.value (bounds.result.0, bounds.result.1, bounds.ensures, c.in_ok-find_spans.ensures)

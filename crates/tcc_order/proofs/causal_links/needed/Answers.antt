@@ -16,15 +16,15 @@ use Rattle.tcc_order.proofs.causal_links.needed.Goals as goal
 
 -- the writers of the key that are looked at
 writers_part : (c : After-between-writers) → IsBetween (writers c.args.graph.now (key_at c.args.graph.now (key_index_in c.args.readings.now c.loop-start.start)))
-    c.args.bounds.0 c.args.bounds.1 c.between-writers.result.now
+    c.requires.spans.0 c.requires.spans.1 c.between-writers.result.now
 writers_part c =
     let h = c.args.graph.now in
     let readings = c.args.readings.now in
     let start = c.loop-start.start in
     let key : ℕ = key_index_in readings start in
     let ws = writers h (key_at h key) in
-    let span = c.requires.spans.each key (reading_key h c.args.a readings c.requires.readings start c.loop-start-test.true) in
-    rw (c.between-writers.ensures, c.writers_at.ensures) (between_span ws (writers_rise h (key_at h key)) c.args.bounds.0 c.args.bounds.1 _ _ span)
+    let span = c.requires.spans.3.each key (reading_key h c.args.a readings c.requires.readings start c.loop-start-test.true) in
+    rw (c.between-writers.ensures, c.writers_at.ensures) (between_span ws (writers_rise h (key_at h key)) c.requires.spans.0 c.requires.spans.1 _ _ span)
 
 pub loop-start-init : goal.loop-start-init
 loop-start-init c =
@@ -43,25 +43,20 @@ pub lift_writers-requires : goal.lift_writers-requires
 lift_writers-requires c =
     let h = c.args.graph.now in
     let owners = c.args.owners.now in
-    let table = c.args.table.now in
-    let readings = c.args.readings.now in
-    let a = c.args.a in
-    let low = c.args.bounds.0 in
-    let high = c.args.bounds.1 in
-    let start = c.loop-start.start in
-    let end = c.end_of_key-end.result in
-    let top = c.top_of-top.result in
-    let key : ℕ = key_index_in readings start in
-    let ws = writers h (key_at h key) in
-    let part : IsBetween ws low high c.between-writers.result.now = writers_part (goal.at.lift_writers-requires c).After-between-writers in
+    let key : ℕ = key_index_in c.args.readings.now c.loop-start.start in
+    let tops = c.top_of-top.ensures in
+    let low : ℕ = c.requires.spans.0 in
+    let high : ℕ = c.requires.spans.1 in
+    let part : IsBetween (writers h (key_at h key)) low high c.between-writers.result.now = writers_part (goal.at.lift_writers-requires c).After-between-writers in
     record {
-      same = c.loop-start.invariant.1.wide ∙ sym c.top_of-top.ensures.wide;
+      same = c.loop-start.invariant.1.wide ∙ sym tops.wide;
       ordered = owners_ordered h c.requires.numbered owners c.requires.owners;
-      owned = top_clock h c.requires.numbered owners c.requires.owners c.args.from a readings table c.requires.clocks
-          (reading_below h a readings c.requires.readings) start end c.end_of_key-end.ensures.within top (row_of table a) c.top_of-top.ensures.wide
-          c.top_of-top.ensures.tops;
+      owned = top_clock h c.requires.numbered owners c.requires.owners c.args.from c.args.a c.args.readings.now c.args.table.now c.requires.clocks
+          (reading_below h c.args.a c.args.readings.now c.requires.readings) c.loop-start.start c.end_of_key-end.result c.end_of_key-end.ensures.within
+          c.top_of-top.result (row_of c.args.table.now c.args.a) tops.wide tops.tops;
       rising = part.rising;
-      inside = all_between (λ b. b < length owners) ws low high c.between-writers.result.now part (writers_inside h owners c.requires.owners (key_at h key));
+      inside = all_between (λ b. b < length owners) (writers h (key_at h key)) low high c.between-writers.result.now part
+          (writers_inside h owners c.requires.owners (key_at h key));
     }
 
 pub loop-start-preserved : goal.loop-start-preserved
@@ -72,8 +67,8 @@ loop-start-preserved c =
     let table = c.args.table.now in
     let readings = c.args.readings.now in
     let a = c.args.a in
-    let low = c.args.bounds.0 in
-    let high = c.args.bounds.1 in
+    let low = c.requires.spans.0 in
+    let high = c.requires.spans.1 in
     let start = c.loop-start.start in
     let end = c.end_of_key-end.result in
     let top = c.top_of-top.result in
@@ -88,7 +83,7 @@ loop-start-preserved c =
     let lift : (s : ℕ) → s < length old → IsLifted owners from top ws a s (slice_index old s) (slice_index new s)
     = λ s l.
     lifted_between owners from low high top ws c.between-writers.result.now a s (slice_index old s) (slice_index new s)
-    (omega (arith, l, inv.1.wide)) c.requires.bounds (writers_inside h owners c.requires.owners (key_at h key)) part (some s l) in
+    (omega (arith, l, inv.1.wide)) c.requires.spans.2 (writers_inside h owners c.requires.owners (key_at h key)) part (some s l) in
     let upto : start ≤ end = omega (arith, c.end_of_key-end.ensures.past) in (
       c.end_of_key-end.ensures.within,
       read_more h c.requires.numbered owners c.requires.owners from a readings table c.requires.clocks (reading_below h a readings c.requires.readings) start end

@@ -12,7 +12,13 @@ use Rattle.tcc_order.proofs.Greedy.{IsNext, Picks-push, Picks-first, Picks-order
 use Rattle.tcc_order.proofs.LeftOver.{stuck_placed}
 use Rattle.tcc_order.proofs.Fronts.{holds_below, says_more, placed_free, free_placed, session_fronts}
 use Rattle.tcc_order.proofs.QueuedLemmas.{all_ready, queued_begin, queued_popped, queued_after, sure_after}
+use Rattle.tcc_order.proofs.kahn.first_placing.Goals.{After-first_ready}
 use Rattle.tcc_order.proofs.kahn.first_placing.Goals as goal
+
+-- the queue once those that were woken are looked at
+queued : (c : After-first_ready) → AreQueued (holds c.args.graph.now c.args.kept.now) c.args.parents.now c.loop.placed.items IsAny
+    c.look_at_woken.new.queue.ready c.look_at_woken.new.queue.waiting.items
+queued c = rw c.deref.ensures.value at c.in_ok-look_at_woken.ensures.queued
 
 pub loop-init : goal.loop-init
 loop-init c =
@@ -43,26 +49,18 @@ returns-in_default c =
     let ps = c.args.parents.now in
     let held = holds h kept in
     let placed = c.loop.placed.items in
-    let queued : AreQueued held ps placed IsAny c.look_at_woken.new.queue.ready c.look_at_woken.new.queue.waiting.items
-    = rw c.deref.ensures.value at c.in_ok-look_at_woken.ensures.queued in
     let done : (y : ℕ) → Contains c.look_at_woken.new.queue.ready y → is_marked placed y ≡ true = rw c.deref-in-loop.ensures.value at c.in_default.ensures.none in
     stuck_placed held (count h) placed c.loop.order.items c.loop.invariant.2 (holds_below h kept)
-    (λ x free. false≢true (sym free.new ∙ done x (all_ready h kept ps c.requires.parents queued x free))) (omega (arith, c.loop.invariant.1))
+    (λ x free. false≢true (sym free.new ∙ done x (all_ready h kept ps c.requires.parents (queued (goal.at.returns-in_default c).After-first_ready) x free))) (omega (arith, c.loop.invariant.1))
 
 pub mark-requires : goal.mark-requires
 mark-requires c =
-    let h = c.args.graph.now in
-    let queued : AreQueued (holds h c.args.kept.now) c.args.parents.now c.loop.placed.items IsAny c.look_at_woken.new.queue.ready c.look_at_woken.new.queue.waiting.items
-    = rw c.deref.ensures.value at c.in_ok-look_at_woken.ensures.queued in
-    let low = queued.inside c.in-Some.next c.in-Some.ensures.one.0 in
+    let low = (queued (goal.at.mark-requires c).After-first_ready).inside c.in-Some.next c.in-Some.ensures.one.0 in
     rw c.deref_mut.ensures.value (omega (arith, low, c.requires.parents.long, c.loop.invariant.0))
 
 pub wake-requires-clause-inside : goal.wake-requires-clause-inside
 wake-requires-clause-inside c =
-    let h = c.args.graph.now in
-    let queued : AreQueued (holds h c.args.kept.now) c.args.parents.now c.loop.placed.items IsAny c.look_at_woken.new.queue.ready c.look_at_woken.new.queue.waiting.items
-    = rw c.deref.ensures.value at c.in_ok-look_at_woken.ensures.queued in
-    queued.inside c.in-Some.next c.in-Some.ensures.one.0
+    (queued (goal.at.wake-requires-clause-inside c).After-first_ready).inside c.in-Some.next c.in-Some.ensures.one.0
 
 pub loop-preserved : goal.loop-preserved
 loop-preserved c =
@@ -80,7 +78,7 @@ loop-preserved c =
     let waiting = c.look_at_woken.new.queue.waiting.items in
     let woken = c.wake.new.woken.items in
     let fronts = session_fronts h kept ps c.requires.parents in
-    let before : AreQueued held ps placed IsAny old waiting = rw c.deref.ensures.value at c.in_ok-look_at_woken.ensures.queued in
+    let before : AreQueued held ps placed IsAny old waiting = queued (goal.at.loop-preserved c).After-first_ready in
     let sure : AreSure held placed old = rw c.deref.ensures.value at c.in_ok-look_at_woken.ensures.sure in
     let one : Contains old next × (is_marked placed next ≡ false) = rw c.deref-in-loop.ensures.value at c.in-Some.ensures.one in
     let first : (y : ℕ) → Contains old y → y < next → is_marked placed y ≡ true = rw c.deref-in-loop.ensures.value at c.in-Some.ensures.least in
@@ -93,7 +91,7 @@ loop-preserved c =
     } in
     let least : (y : ℕ) → y < next → IsFreeBy held (count h) placed y → ⊥
     = λ y less other. false≢true (sym other.new ∙ first y (all_ready h kept ps c.requires.parents before y other) less) in
-    let queued : AreQueued held ps placed (IsNot next) ready waiting = queued_popped held ps placed old ready waiting next before rest still in
+    let popped : AreQueued held ps placed (IsNot next) ready waiting = queued_popped held ps placed old ready waiting next before rest still in
     let each : (b : ℕ) → is_marked marks b ≡ (is_marked placed b || (b == next)) = rw c.deref_mut.ensures.value at c.mark.ensures.each in
     let pushed : c.push.new.self.items ≡ order ++ next ∷ [] = search rules in
     let same : length marks ≡ length placed = rw c.deref_mut.ensures.value at c.mark.ensures.same in
@@ -110,7 +108,7 @@ loop-preserved c =
       says_more placed marks order next inv.2 each,
       Picks-push held (count h) [] order next inv.3 is_next,
       c.in_ok-look_at_woken.ensures.seen,
-      queued_after held (count h) ps fronts placed ready woken marks waiting next queued free each wake,
+      queued_after held (count h) ps fronts placed ready woken marks waiting next popped free each wake,
       sure_after held placed marks old ready next sure still each,
     )
 

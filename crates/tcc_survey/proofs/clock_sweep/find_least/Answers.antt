@@ -1,4 +1,4 @@
-use Rattle.std.proofs.Common.{rules, ◌≡◌, ◌≤◌, ◌*◌, ◌+◌, ◌∙◌, ◌++◌, ℕ, length, take, drop, sym, subst, arith, take_at}
+use Rattle.std.proofs.Common.{rules, ◌≡◌, ◌≤◌, ◌*◌, ◌+◌, ◌∙◌, ℕ, length, sym, subst, arith, take_at}
 use Rattle.tcc_graph.specs.Levels.{Judged, judged}
 use Rattle.tcc_clocks.specs.declared.latest.TheConstants.{WIDE}
 use Rattle.tcc_survey.specs.private.Settled.{AreSettled, reading_of}
@@ -27,10 +27,9 @@ loop-block-preserved c =
     let inv = c.loop-block.invariant in
     let same : length new ≡ length old = rw c.deref_mut.ensures.value at c.in_ok-settle_block.ensures.same in
     let long : c.loop-block.found.len ≡ length old = search rules in
-    let whole : take c.loop-block.found.len (new ++ drop (length new) old) ≡ new = take_at new (drop (length new) old) c.loop-block.found.len (same ∙ sym long) in
     let bound : c.loop-block.block * WIDE + WIDE ≡ (c.loop-block.block + 1) * WIDE = omega arith in
     let settled : AreSettled j all ((c.loop-block.block + 1) * WIDE) new = subst (λ (z : ℕ). AreSettled j all z new) bound c.in_ok-settle_block.ensures.settled in
-    rw whole (c.in_ok-find_clocks.ensures.long, c.in_ok-find_firsts.ensures.long, settled)
+    rw (take_at new _ c.loop-block.found.len (same ∙ sym long)) (c.in_ok-find_clocks.ensures.long, c.in_ok-find_firsts.ensures.long, settled)
 
 pub returns : goal.returns
 returns c =

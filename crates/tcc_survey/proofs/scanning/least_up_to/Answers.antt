@@ -19,8 +19,8 @@ first_hit-requires c =
       room = c.requires.block.room;
       inside = all_below h c.args.from (key_at h r.key_index) c.args.writers.now c.requires.writers;
       rising = c.requires.writers.rising;
-      first_wide = rw c.get-first.ensures (c.requires.block.first.each r.source pair.0 pair.0).wide;
-      clock_wide = rw c.get-clock.ensures (c.requires.block.clock.each r.reader pair.1 pair.1).wide;
+      first_wide = rw c.get.ensures (c.requires.block.first.each r.source pair.0 pair.0).wide;
+      clock_wide = rw c.get-2.ensures (c.requires.block.clock.each r.reader pair.1 pair.1).wide;
       reader = pair.1;
     }
 
@@ -54,9 +54,9 @@ returns c =
     let j : Judged = judged h c.args.level in
     let r = c.args.reading in
     let from = c.args.from in
-    let first : AreFirstOf h (IsAfter h r.source) from c.get-first.result.now
-    = rw c.get-first.ensures (c.requires.block.first.each r.source c.requires.read.pair.0 c.requires.read.pair.0) in
-    let clock : AreLatestOf h (IsBefore h r.reader) from c.get-clock.result.now
-    = rw c.get-clock.ensures (c.requires.block.clock.each r.reader c.requires.read.pair.1 c.requires.read.pair.1) in
-    hit_least j c.requires.block.numbered c.requires.block.acyclic c.args.owners.now c.requires.block.owned from r c.requires.read c.get-first.result.now c.get-clock.result.now
+    let first : AreFirstOf h (IsAfter h r.source) from c.get.result.now
+    = rw c.get.ensures (c.requires.block.first.each r.source c.requires.read.pair.0 c.requires.read.pair.0) in
+    let clock : AreLatestOf h (IsBefore h r.reader) from c.get-2.result.now
+    = rw c.get-2.ensures (c.requires.block.clock.each r.reader c.requires.read.pair.1 c.requires.read.pair.1) in
+    hit_least j c.requires.block.numbered c.requires.block.acyclic c.args.owners.now c.requires.block.owned from r c.requires.read c.get.result.now c.get-2.result.now
     c.args.writers.now first clock c.requires.writers c.args.known c.first_hit.result c.requires.known (omega (arith, c.if-known-gt0.false)) c.first_hit.ensures
