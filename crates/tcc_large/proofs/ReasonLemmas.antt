@@ -4,12 +4,12 @@ use Rattle.std.specs.Prelude.{All, slice_index}
 use Rattle.std.proofs.lemmas.Bool.{cases_lt, false≢true}
 use Rattle.std.proofs.lemmas.List.{get_or-map, get_or_default, get_or_read}
 use Rattle.tcc_reads.specs.History.{History, count}
-use Rattle.tcc_graph.specs.Relations.{IsCausalPair, IsReadsPair, causal_pair, reads_from}
+use Rattle.tcc_graph.specs.Relations.{IsCausalPair, causal_pair, reads_from}
 use Rattle.tcc_graph.specs.KeyIndices.{name_of}
 use Rattle.tcc_graph.specs.Keys.{IsWriter, key_at, keys}
 use Rattle.tcc_graph.specs.Levels.{Judged, causally, atomically}
 use Rattle.tcc_graph.specs.Links.{MayContradict}
-use Rattle.tcc_graph.specs.Walks.{step_from, step_to, IsStep, IsWalk}
+use Rattle.tcc_graph.specs.Walks.{step_from, IsWalk}
 use Rattle.tcc_graph.specs.declared.step.Step.{Step}
 use Rattle.tcc_graph.specs.declared.link.Link.TheVariants as link
 use Rattle.tcc_graph.proofs.Pairs.{pair_from_kinds, step_pair}
