@@ -13,7 +13,7 @@ fn names_key(op: &Op)
     key.bytes();
 }
 
-/// So are those of operations.
+/// The keys of operations are names.
 fn names_keys(ops: &[Op])
     ensures { All NamesKey ops.now }
 {
@@ -22,7 +22,7 @@ fn names_keys(ops: &[Op])
     }
 }
 
-/// And those of transactions.
+/// The keys of the operations of transactions are names.
 fn all_name_keys(txns: &[Txn])
     ensures { All NamesKeys txns.now }
 {
