@@ -1,6 +1,6 @@
 -- What a run does with its bytes, from what its stages tell.
-use Rattle.std.proofs.Common.{◌≡◌, ℕ, ◌+◌, ◌≤◌, false, nat_le, List, [], ◌∷◌, ◌++◌, length, take, Option, None, Some, option_map, cond, Ok, Err, Result, inl, inr, sym, ap, subst, ◌∙◌, arith, length-take-le}
-use Rattle.std.specs.Prelude.{◌⊎◌, MatchResult, IfOk, IfSome}
+use Rattle.std.proofs.Common.{◌≡◌, ℕ, ◌+◌, ◌≤◌, false, nat_le, List, [], ◌∷◌, ◌++◌, length, take, Option, None, Some, option_map, cond, Ok, Err, inl, inr, sym, ap, subst, ◌∙◌, arith, length-take-le}
+use Rattle.std.specs.Prelude.{◌⊎◌, IfSome}
 use Rattle.std.specs.Io.{appended_bytes}
 use Rattle.std.specs.Io.KnownBytes.{Consumes}
 use Rattle.std.proofs.lemmas.Bool.{cases_lt}
@@ -9,7 +9,6 @@ use Rattle.std.proofs.lemmas.Bool.Decides.{nat_tests}
 use Rattle.csv.specs.Reading.{default_config, records, strip_bom}
 use Rattle.tcc_txn.specs.Limits.{most_bytes}
 use Rattle.tcc_txn.specs.Snapshots.{Sessions}
-use Rattle.tcc_txn.specs.declared.memory.NoMemory.{NoMemory}
 use Rattle.tcc_rows.specs.Answers.{Answers, answers_after_within, answers_within, records_within}
 use Rattle.tcc_rows.specs.ByteLimit.{marked, past_limit}
 use Rattle.tcc_rows.specs.Failing.{FailsAtWithin}
@@ -30,23 +29,20 @@ stopped asked required bytes fault before after code is (inl tells) = inr (inl (
 stopped asked required bytes fault before after code is (inr memory) = inr (inr memory)
 
 -- what is found for all that they finish is told
-pub told : (asked : Asked) (required : ℕ) (bytes : List ℕ) (s : Sessions) (found : Result Found NoMemory) (before after : Option (List ℕ)) (code : ℕ)
-    → IsRecorded asked.limits bytes (Ok s) → IfOk found (IsFound asked.level s)
-    → MatchResult found
-    (λ one. TellsFound asked required (within asked.limits bytes) s one before after code ⊎ TellsMemory asked before after code)
-    (λ _. TellsMemory asked before after code)
+pub told : (asked : Asked) (required : ℕ) (bytes : List ℕ) (s : Sessions) (found : Found) (before after : Option (List ℕ)) (code : ℕ)
+    → IsRecorded asked.limits bytes (Ok s) → IsFound asked.level s found
+    → TellsFound asked required (within asked.limits bytes) s found before after code ⊎ TellsMemory asked before after code
     → IsFullRun asked required bytes before after code
-told asked required bytes s (Ok one) before after code whole is (inl tells) =
+told asked required bytes s found before after code whole is (inl tells) =
     inl (
       whole.0,
       (
-        one,
-        subst (λ (s : Sessions). IsFound asked.level s one) whole.1 is,
-        subst (λ (s : Sessions). TellsFound asked required (within asked.limits bytes) s one before after code) whole.1 tells,
+        found,
+        subst (λ (s : Sessions). IsFound asked.level s found) whole.1 is,
+        subst (λ (s : Sessions). TellsFound asked required (within asked.limits bytes) s found before after code) whole.1 tells,
       ),
     )
-told asked required bytes s (Ok one) before after code whole is (inr memory) = inr (inr memory)
-told asked required bytes s (Err fault) before after code whole is memory = inr (inr memory)
+told asked required bytes s found before after code whole is (inr memory) = inr (inr memory)
 
 -- ---- the bytes past the limit
 

@@ -1,8 +1,8 @@
 //! From the bytes of records to all that is told of their answer.
-ghost use Rattle.std.specs.Prelude.{◌≡◌, ◌⊎◌, ◌++◌, ℕ, Err, IfSome, MatchResult};
+ghost use Rattle.std.specs.Prelude.{◌≡◌, ◌++◌, ℕ, Err, IfOk, IfSome, MatchResult, Ok};
 ghost use Rattle.tcc_rows.specs.Recordings.{IsRecorded};
-ghost use Rattle.tcc_txn.specs.declared.limits.Limits.TheVariants.{Large, Small};
-ghost use Rattle.tcc_full_run.specs.Runs.{IsFullRun, TellsFound, TellsMemory};
+ghost use Rattle.tcc_full_run.specs.Found.{IsFound};
+ghost use Rattle.tcc_full_run.specs.Runs.{IsFullRun};
 
 use crate::finding::{Found, find_large, find_small};
 use crate::reading::{Failed, within};
@@ -33,7 +33,7 @@ fn note<B: Bounds, N: Write>(
     }
 }
 
-/// Tells what was found for a snapshot, with the rows of the operations in a text.
+/// Tells what was found for all that the records of a text finish, with the rows of its operations.
 fn say<T: Threads + Sync, G: Gate, B: Bounds, W: Write, N: Write>(
     run: &Run<T, G>,
     asked: &Asked,
@@ -43,76 +43,46 @@ fn say<T: Threads + Sync, G: Gate, B: Bounds, W: Write, N: Write>(
     out: &mut W,
     notes: &mut N,
 ) -> u8
-    ensures { MatchResult found
-        (λ found. TellsFound asked.now run.now.options.now.required text.now snapshot.now found (W.contents out.old) (W.contents out.new) result
-        ⊎ TellsMemory asked.now (W.contents out.old) (W.contents out.new) result)
-        (λ _. TellsMemory asked.now (W.contents out.old) (W.contents out.new) result) }
+    ensures { IsRecorded asked.now.limits text.now (Ok snapshot.now) → IfOk found (IsFound asked.now.level snapshot.now)
+        → IsFullRun asked.now run.now.options.now.required text.now (W.contents out.old) (W.contents out.new) result }
 {
-    let required = run.options.required;
+    let text = within(text, asked.limits);
     match found {
         Ok(found) => {
-            let code = tell_found(run.alloc, asked, required, text, snapshot, &found, out);
-            note(run.alloc, snapshot, found, required, notes);
+            let code = tell_found(run, asked, text, snapshot, &found, out);
+            note(run.alloc, snapshot, found, run.options.required, notes);
             code
         }
         Err(NoMemory) => tell_memory(run.alloc, asked, out),
     }
 }
 
-/// The run of a text within the small limits.
-fn run_small<T: Threads + Sync, G: Gate, W: Write, N: Write>(
+/// The run of a text whose records have no fault; else that fault.
+fn run_lawful<T: Threads + Sync, G: Gate, W: Write, N: Write>(
     run: &Run<T, G>,
     asked: &Asked,
     text: &[u8],
     out: &mut W,
     notes: &mut N,
-) -> u8
-    requires { asked.now.limits ≡ Small }
-    ensures { IsFullRun asked.now run.now.options.now.required text.now (W.contents out.old) (W.contents out.new) result }
+) -> Result<u8, RowFault>
+    ensures { MatchResult result
+        (λ code. IsFullRun asked.now run.now.options.now.required text.now (W.contents out.old) (W.contents out.new) code)
+        (λ fault. IsRecorded asked.now.limits text.now (Err fault) × (W.contents out.new ≡ W.contents out.old)) }
 {
-    let recording: Recording<&[u8]> = match recorded(run.alloc, text, notes) {
-        Ok(recording) => recording,
-        Err(fault) => return tell_fault(run.alloc, asked, &fault, out),
-    };
-    let snapshot = recording.snapshot();
-    let found = find_small(run, snapshot, asked.level);
-    say(
-        run,
-        asked,
-        within(text, asked.limits),
-        snapshot,
-        found,
-        out,
-        notes,
-    )
-}
-
-/// The run of a text within the large limits.
-fn run_large<T: Threads + Sync, G: Gate, W: Write, N: Write>(
-    run: &Run<T, G>,
-    asked: &Asked,
-    text: &[u8],
-    out: &mut W,
-    notes: &mut N,
-) -> u8
-    requires { asked.now.limits ≡ Large }
-    ensures { IsFullRun asked.now run.now.options.now.required text.now (W.contents out.old) (W.contents out.new) result }
-{
-    let recording: LargeRecording<&[u8]> = match recorded(run.alloc, text, notes) {
-        Ok(recording) => recording,
-        Err(fault) => return tell_fault(run.alloc, asked, &fault, out),
-    };
-    let snapshot = recording.snapshot();
-    let found = find_large(run, snapshot, asked.level);
-    say(
-        run,
-        asked,
-        within(text, asked.limits),
-        snapshot,
-        found,
-        out,
-        notes,
-    )
+    match asked.limits {
+        Limits::Small => {
+            let recording: Recording<&[u8]> = recorded(run.alloc, text, notes)?;
+            let snapshot = recording.snapshot();
+            let found = find_small(run, snapshot, asked.level);
+            Ok(say(run, asked, text, snapshot, found, out, notes))
+        }
+        Limits::Large => {
+            let recording: LargeRecording<&[u8]> = recorded(run.alloc, text, notes)?;
+            let snapshot = recording.snapshot();
+            let found = find_large(run, snapshot, asked.level);
+            Ok(say(run, asked, text, snapshot, found, out, notes))
+        }
+    }
 }
 
 /// The run of a text that was read whole.
@@ -125,9 +95,9 @@ fn run_text<T: Threads + Sync, G: Gate, W: Write, N: Write>(
 ) -> u8
     ensures { IsFullRun asked.now run.now.options.now.required text.now (W.contents out.old) (W.contents out.new) result }
 {
-    match asked.limits {
-        Limits::Small => run_small(run, asked, text, out, notes),
-        Limits::Large => run_large(run, asked, text, out, notes),
+    match run_lawful(run, asked, text, out, notes) {
+        Ok(code) => code,
+        Err(fault) => tell_fault(run.alloc, asked, &fault, out),
     }
 }
 

@@ -18,10 +18,10 @@ use tcc_full::{
 };
 use tcc_graph::{LargeGraph, Link};
 use tcc_large::Decision;
-use tcc_print::Status;
 use tcc_print::large::steps_of;
 use tcc_print::printing::{print_memory, print_text};
 use tcc_print::status::{order_status, row_status};
+use tcc_print::{Run, Status};
 use tcc_reads::{Traced, resolve_traced};
 use tcc_rows::{RowFault, RowFaultKind};
 use tcc_txn::{Bounds, NoMemory, SnapshotWithin};
@@ -93,17 +93,17 @@ pub(crate) fn found_status(found: &Found, required: u32) -> Status
 }
 
 /// The line of what is found for a snapshot, with the rows of the operations in a text.
-fn told_line<B: Bounds>(
-    alloc: Global,
+fn told_line<T, G, B: Bounds>(
+    run: &Run<T, G>,
     asked: &Asked,
-    required: u32,
     text: &[u8],
     snapshot: &SnapshotWithin<B>,
     found: &Found,
 ) -> Result<Vec<u8>, NoMemory>
     ensures { IfOk result (λ line. (rows : OperationRows) × HasRowsOf text.now rows
-        × (line.items ≡ json_line (found_json asked.now required (records_by snapshot.now rows) found.now))) }
+        × (line.items ≡ json_line (found_json asked.now run.now.options.now.required (records_by snapshot.now rows) found.now))) }
 {
+    let alloc = run.alloc;
     let rows = operation_rows(alloc, text)?;
     let Traced { history, .. } = resolve_traced(alloc, snapshot)?;
     let graph = LargeGraph::build(alloc, history)?;
@@ -114,7 +114,7 @@ fn told_line<B: Bounds>(
         labels: &labels,
         rows: &rows,
     };
-    found_line(alloc, asked, required, &lookup, found)
+    found_line(alloc, asked, run.options.required, &lookup, found)
 }
 
 /// Tells that memory is out.
@@ -128,21 +128,20 @@ pub(crate) fn tell_memory<W: Write>(alloc: Global, asked: &Asked, out: &mut W) -
 }
 
 /// Tells what is found for a snapshot, with the rows of the operations in a text.
-pub(crate) fn tell_found<B: Bounds, W: Write>(
-    alloc: Global,
+pub(crate) fn tell_found<T, G, B: Bounds, W: Write>(
+    run: &Run<T, G>,
     asked: &Asked,
-    required: u32,
     text: &[u8],
     snapshot: &SnapshotWithin<B>,
     found: &Found,
     out: &mut W,
 ) -> u8
-    ensures { TellsFound asked.now required text.now snapshot.now found.now (W.contents out.old) (W.contents out.new) result
+    ensures { TellsFound asked.now run.now.options.now.required text.now snapshot.now found.now (W.contents out.old) (W.contents out.new) result
         ⊎ TellsMemory asked.now (W.contents out.old) (W.contents out.new) result }
 {
-    match told_line(alloc, asked, required, text, snapshot, found) {
-        Ok(line) => print_text(out, &line, found_status(found, required)),
-        Err(NoMemory) => tell_memory(alloc, asked, out),
+    match told_line(run, asked, text, snapshot, found) {
+        Ok(line) => print_text(out, &line, found_status(found, run.options.required)),
+        Err(NoMemory) => tell_memory(run.alloc, asked, out),
     }
 }
 
