@@ -1,5 +1,5 @@
 -- What a run of explain --large wrote is accepted by the check of the same records.
-use Rattle.std.proofs.Common.{◌≡◌, ◌≢◌, ◌≤◌, ◌<◌, ℕ, List, [], Option, None, Some, Result, Ok, Err, true, false, length, refl, sym, ap, subst, ◌∙◌, inl, inr, arith}
+use Rattle.std.proofs.Common.{◌≡◌, ◌≢◌, ◌<◌, ℕ, List, [], Option, None, Some, Result, Ok, Err, true, false, length, refl, sym, ap, subst, ◌∙◌, inl, inr, arith}
 use Rattle.std.specs.Io.KnownBytes.{Appends}
 use Rattle.std.proofs.Math.Seq.{take-length}
 use Rattle.tcc_txn.specs.Finished.{KeepsLimits}
@@ -12,10 +12,7 @@ use Rattle.tcc_reads.specs.History.{History, count}
 use Rattle.tcc_reads.specs.Sources.{history}
 use Rattle.tcc_reads.proofs.Rising.{by_session}
 use Rattle.tcc_graph.specs.Levels.{judged}
-use Rattle.tcc_graph.specs.Links.{cost}
-use Rattle.tcc_graph.specs.Routes.{IsCycle, IsLeastCycle}
 use Rattle.tcc_graph.specs.declared.level.Level.{Level}
-use Rattle.tcc_graph.specs.declared.link.Link.{Link}
 use Rattle.tcc_cert.specs.LargeReading.{large_certificate_read}
 use Rattle.tcc_cert.specs.LargeTexts.{HasLargeText, large_certificate_text}
 use Rattle.tcc_cert.specs.Outcomes.{IsFailure, IsLargeReading, IsReading}
@@ -41,8 +38,7 @@ use Rattle.tcc_explain.specs.Keys.{HasNames}
 use Rattle.tcc_explain.proofs.CertifiedAnswer.{certified}
 use Rattle.tcc_explain.proofs.RecordedKeys.{recorded_within}
 use Rattle.tcc_explain.proofs.WrittenAnswer.{read_back}
-use Rattle.tcc_judge.specs.Claims.{cycle_claim_of, short_claim_of}
-use Rattle.tcc_judge.specs.Verdicts.{cycle_rules, rules_of}
+use Rattle.tcc_judge.specs.Verdicts.{rules_of}
 use Rattle.tcc_judge.specs.declared.verdict.Rule.{Rule}
 use Rattle.tcc_judge.proofs.Followed.{own_order}
 use Rattle.tcc_large.specs.Decisions.{IsDecision}
@@ -64,6 +60,7 @@ use Rattle.tcc_print.specs.declared.status.Status.TheVariants as status
 use Rattle.tcc_verdict.specs.Checking.{IsOfRecords, IsOfSnapshot, IsOutcome, MayBe}
 use Rattle.tcc_large_run.specs.LargeClosing.{IsAcceptedClaim, IsAcceptedWith, IsJudgedAs}
 use Rattle.tcc_large_run.specs.LargeRuns.{IsClaimedOf, IsResolvedAs, answers_of, claim_of, finished}
+use Rattle.tcc_large_run.specs.private.Laws.{Laws}
 use Rattle.tcc_large_run.proofs.FirstLines.{claim_version, answer_version}
 use Rattle.tcc_large_run.proofs.Own.{claim_keeps, claim_said, keeps_rules}
 
@@ -199,17 +196,6 @@ module _ (kept : (h : History) (k : LargeCertificate) → AllHold (rules_of h k)
   large_others (Err NoMemory) is = absurd is
 
 -- ---- what was said
-
--- what the laws of the checks say
-pub record Laws : Type 1 where
-  pub true_small : (h : History) (k : Certificate) → Certifies h k → IsTrueClaim h k
-  pub true_large : (s : Sessions) (k : LargeCertificate) → AllHold (rules_of (history s) k) → IsTrueLargeClaim (history s) k
-  pub back : (k : LargeCertificate) → HasLargeText k → large_certificate_read (large_certificate_text k) ≡ Ok k
-  pub kept : (h : History) (k : LargeCertificate) → AllHold (rules_of h k) → (said : Verdict Rule) → IsVerdictOf (rules_of h k) said → said ≡ verdict.Accepted
-  pub cycle : (h : History) (level : Level) (s : ℕ) (links : List Link) → IsCycle (judged h level) s links
-      → AllHold (cycle_rules h (cycle_claim_of level h links))
-  pub short : (h : History) (level : Level) (s : ℕ) (links : List Link) → IsLeastCycle (judged h level) s links → cost links ≤ 4
-      → AllHold (cycle_rules h (short_claim_of level h links))
 
 module _ (laws : Laws) (options : Options) (records : List ℕ) (unfaulted : (answers_of records).fault ≡ None)
     (resolved : read_faults (finished records) ≡ []) where

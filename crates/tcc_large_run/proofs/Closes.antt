@@ -13,7 +13,8 @@ use Rattle.tcc_print.specs.declared.status.Status.TheVariants.{Device, Memory}
 use Rattle.tcc_print.proofs.LastSaid.{certified_last, device_code, last_of_all, texts_end}
 use Rattle.tcc_large_run.specs.LargeClosing.{IsAcceptedWith, PrintsDecided}
 use Rattle.tcc_large_run.specs.LargeRuns.{AllGoesOut, CertificateStops, FileFails, Files, IsLargeRun, IsSaidOfSnapshot, SliceStops, Stops, answers_of, finished}
-use Rattle.tcc_large_run.proofs.Accepted.{Laws, said_accepted, said_certified}
+use Rattle.tcc_large_run.specs.private.Laws.{Laws}
+use Rattle.tcc_large_run.proofs.Accepted.{said_accepted, said_certified}
 
 nothing : {X : Type 0} (x : X) → None ≡ Some x → ⊥
 nothing x e = cc e

@@ -9,6 +9,7 @@ ghost use Rattle.tcc_print.specs.Statuses.{code_of};
 ghost use Rattle.tcc_print.specs.declared.options.Options.{Options};
 ghost use Rattle.tcc_print.specs.declared.status.Status.TheVariants.{Device, Memory};
 ghost use Rattle.tcc_large_run.specs.LargeClosing.{IsAcceptedWith, PrintsDecided};
+ghost use Rattle.tcc_large_run.specs.private.Laws.{Laws};
 ghost use Rattle.tcc_large_run.specs.LargeRuns.{Files, IsAcceptedOf, IsLargeRun, answers_of, decision_said, finished};
 
 use tcc_cert::laws::large_text_is_read;
@@ -29,6 +30,18 @@ pub fn own_certificate(graph: &LargeGraph)
     kept();
 }
 
+/// What is claimed by a text that a check accepts is true, what keeps all rules is accepted, and a text that was written is read as it.
+fn checks()
+    ensures { Laws }
+{
+    certified();
+    accepted();
+    large_text_is_read();
+    kept();
+    own_cycle();
+    own_short();
+}
+
 /// The main theorem in bytes, with `--large`. Of records without a fault, whose reads all have sources, a run that ends neither by a
 /// device that failed nor out of memory prints last what is answered for all that they finish, and its certificate; and the check of
 /// the same records accepts that certificate: it prints `accepted: ..` and ends with 0, unless a device fails or memory is out. And
@@ -44,10 +57,5 @@ pub fn headline()
         (record { certificate = Some (Some text); slice = slice' }) code
         → text ≢ [] → code ≢ code_of Device → IsAcceptedWith options records text }
 {
-    certified();
-    accepted();
-    large_text_is_read();
-    kept();
-    own_cycle();
-    own_short();
+    checks();
 }

@@ -19,14 +19,11 @@ use tcc_txn::NoMemory;
 fn has_step_text(step: &Step) -> bool
     ensures { IsTrue result → HasStepText Large step.now }
 {
-    match step {
-        Step::Session { from, to } => *from <= V3_MAX_NUMBER && *to <= V3_MAX_NUMBER,
-        Step::Reads { from, to, key } => {
-            // A key is a name, as this call says.
-            let _name = key.bytes();
-            *from <= V3_MAX_NUMBER && *to <= V3_MAX_NUMBER
-        }
+    if let Step::Reads { key, .. } = step {
+        // A key is a name, as this call says.
+        let _name = key.bytes();
     }
+    step.from() <= V3_MAX_NUMBER && step.to() <= V3_MAX_NUMBER
 }
 
 /// Whether there is room for a walk.
@@ -42,24 +39,21 @@ fn has_walk_text(walk: &[Step]) -> bool
 fn has_link_text(link: &Link) -> bool
     ensures { IsTrue result → HasLinkText Large link.now }
 {
+    let has_ends = link.from() <= V3_MAX_NUMBER && link.to() <= V3_MAX_NUMBER;
     match link {
-        Link::Session { from, to } => *from <= V3_MAX_NUMBER && *to <= V3_MAX_NUMBER,
-        Link::Reads { from, to, key } => {
+        Link::Session { .. } => has_ends,
+        Link::Reads { key, .. } => {
             let _name = key.bytes();
-            *from <= V3_MAX_NUMBER && *to <= V3_MAX_NUMBER
+            has_ends
         }
         Link::Derived {
-            from,
-            to,
             key,
             reader,
             walk,
+            ..
         } => {
             let _name = key.bytes();
-            *from <= V3_MAX_NUMBER
-                && *to <= V3_MAX_NUMBER
-                && *reader <= V3_MAX_NUMBER
-                && has_walk_text(walk.as_slice())
+            has_ends && *reader <= V3_MAX_NUMBER && has_walk_text(walk.as_slice())
         }
     }
 }

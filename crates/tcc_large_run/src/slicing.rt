@@ -54,7 +54,8 @@ fn text_of(
     if is_whole { Ok(Some(text)) } else { Ok(None) }
 }
 
-/// The same where no graph is there.
+/// The records of the slice of a snapshot whose graph isn't there, by the links of a cycle at the level; none where it would break the
+/// small limits.
 fn text_anew(
     alloc: Global,
     snapshot: &LargeSnapshot,

@@ -4,22 +4,8 @@ use Rattle.tcc_large_run.proofs.laws.headline.Goals as goal
 
 pub returns-clause-last : goal.returns-clause-last
 returns-clause-last c = λ options records before after files files' code unfaulted resolved is fine space.
-    run.prints (record {
-      true_small = c.certified.ensures;
-      true_large = c.accepted.ensures;
-      back = c.large_text_is_read.ensures;
-      kept = c.kept.ensures;
-      cycle = c.own_cycle.ensures;
-      short = c.own_short.ensures;
-    }) options records unfaulted resolved before after files files' code fine space is
+    run.prints c.checks.ensures options records unfaulted resolved before after files files' code fine space is
 
 pub returns-clause-left : goal.returns-clause-left
 returns-clause-left c = λ options records text before after slice slice' code is some fine.
-    run.left (record {
-      true_small = c.certified.ensures;
-      true_large = c.accepted.ensures;
-      back = c.large_text_is_read.ensures;
-      kept = c.kept.ensures;
-      cycle = c.own_cycle.ensures;
-      short = c.own_short.ensures;
-    }) options records text before after slice slice' code is some fine
+    run.left c.checks.ensures options records text before after slice slice' code is some fine
