@@ -362,6 +362,12 @@ pub record AreClosed (j : Judged) (t : Tables) (workers : ℕ) (id : BoundId) (s
   pub floor : seat.known.floor ≤ word
   pub small : word < 18446744073709551616
 
+pub closed_by : {j : Judged} {t : Tables} {workers : ℕ} {id : BoundId} {seat : Seated} {es : List Searched} {word : ℕ} → IsPricesOf j t → IsSeat t id seat
+    → AreSearches t workers seat.known 0 es → length es ≡ length t.prices → IsAtMostAll word seat.known → seat.known.floor ≤ word
+    → word < 18446744073709551616 → AreClosed j t workers id seat es word
+closed_by priced at searches long most floor small =
+    record { priced = priced; at = at; searches = searches; long = long; most = most; floor = floor; small = small }
+
 module _ {j : Judged} {t : Tables} {workers : ℕ} {id : BoundId} {seat : Seated} {es : List Searched} {word : ℕ}
     (closed : AreClosed j t workers id seat es word) where
   settled : AreSettled j t workers seat.known es (cap_of word)

@@ -110,3 +110,38 @@ module _ {t : Tables} {workers : ℕ} {known : Known} (slots : List (Option Sear
       → (e.start ≡ i) × IsSearched t workers known e
   kept_at i o e inside here some =
       kept i e (slice_get_read slots (length slots) i o refl inside here ∙ ap (λ (x : Option Searched). Some x) some)
+
+-- ---- a share, search by search
+
+-- the searches that are left of a share, and the slots so far: what holds of them wherever the share may be taken in
+abbrev pub AreTaking : (Tables → ℕ → Type 0) → Known → ℕ → List Searched → List (Option Searched) → Type 0
+AreTaking May known n searches slots =
+    ((t : Tables) (workers : ℕ) → May t workers → All (IsSearched t workers known) searches × AreKept t workers known slots)
+    × (length slots ≡ n)
+    × All (λ (e : Searched). e.start < n) searches
+
+module _ {May : Tables → ℕ → Type 0} {known : Known} {n : ℕ} (searches left : List Searched) (slots : List (Option Searched)) (x : Searched)
+    (is : AreTaking May known n searches slots) (parts : searches ≡ left ++ x ∷ []) where
+  inside : All (λ (e : Searched). e.start < n) left
+  inside = (All-pop (λ (e : Searched). e.start < n) searches left (Some x) parts is.2).0
+
+  -- the search goes to its slot
+  pub search_kept : AreTaking May known n left (set slots x.start (Some x))
+  search_kept = (
+    λ t workers may.
+        (let (all, kept) = is.0 t workers may in
+        let (fewer, filled, same) = last_filled slots kept is.1 searches left x parts all in
+        (fewer, filled)),
+    length-set slots x.start (Some x) ∙ is.1,
+    inside,
+  )
+
+  -- the search is let go, since its slot is taken
+  pub search_let_go : AreTaking May known n left slots
+  search_let_go = (
+    λ t workers may.
+        (let (all, kept) = is.0 t workers may in
+        ((All-pop (IsSearched t workers known) searches left (Some x) parts all).0, kept)),
+    is.1,
+    inside,
+  )

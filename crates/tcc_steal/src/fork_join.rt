@@ -92,27 +92,32 @@ fn thieves_shares<R: Threads + Sync, G: Gate>(
     Ok(shares)
 }
 
-/// What worker 0 and these thieves bring back, one of them at least. Worker 0 pushes all starts before any thief begins.
-fn shares_of_many<R: Threads + Sync, G: Gate, C: Crew>(
+/// What so many workers bring back, worker 0 and the thieves that the crew starts; nothing where it starts none. Worker 0 pushes all
+/// starts before any thief begins.
+pub(crate) fn shares_of_crew<R: Threads + Sync, G: Gate, C: Crew>(
     rt: &R,
     alloc: Global,
     prices: &Prices,
     bound: &Bound,
     gate: &G,
     crew: &C,
-    thieves: &[u32],
+    workers: u32,
     seat: &mut Seat,
 ) -> Result<Vec<Result<Share, NoMemory>>, NoMemory>
     requires prices { HasJudged prices.now }
     requires seat { IsSeat prices.now bound.now seat.old }
+    requires workers { 0 < workers }
     ensures seat { seat.new ≡ seat.old }
-    ensures shares { (workers : ℕ) → 0 < workers → AreThieves workers thieves.now
-        → IfOk result (λ shares. AreShares prices.now bound.now workers shares.items) }
+    ensures shares { IfOk result (λ shares. AreShares prices.now bound.now workers shares.items) }
 {
+    let thieves = thieves(alloc, workers, crew)?;
+    if thieves.is_empty() {
+        return Ok(Vec::new(alloc));
+    }
     let mut owner = fill(alloc, prices.count())?;
     let stealer = owner.stealer()?;
     let thief = &stealer;
-    let jobs = jobs(alloc, bound, seat, &mut owner, thieves, crew)?;
+    let jobs = jobs(alloc, bound, seat, &mut owner, &thieves, crew)?;
     let worker = Worker {
         number: 0,
         seat: bound.split(seat),
@@ -137,28 +142,4 @@ fn shares_of_many<R: Threads + Sync, G: Gate, C: Crew>(
     let mut shares = others?;
     shares.push(own)?;
     Ok(shares)
-}
-
-/// What so many workers bring back, worker 0 and the thieves that the crew starts; nothing where it starts none.
-pub(crate) fn shares_of_crew<R: Threads + Sync, G: Gate, C: Crew>(
-    rt: &R,
-    alloc: Global,
-    prices: &Prices,
-    bound: &Bound,
-    gate: &G,
-    crew: &C,
-    workers: u32,
-    seat: &mut Seat,
-) -> Result<Vec<Result<Share, NoMemory>>, NoMemory>
-    requires prices { HasJudged prices.now }
-    requires seat { IsSeat prices.now bound.now seat.old }
-    requires workers { 0 < workers }
-    ensures seat { seat.new ≡ seat.old }
-    ensures shares { IfOk result (λ shares. AreShares prices.now bound.now workers shares.items) }
-{
-    let thieves = thieves(alloc, workers, crew)?;
-    if thieves.is_empty() {
-        return Ok(Vec::new(alloc));
-    }
-    shares_of_many(rt, alloc, prices, bound, gate, crew, &thieves, seat)
 }

@@ -7,7 +7,7 @@ use Rattle.tcc_steal.specs.Findings.{HasJudged}
 use Rattle.tcc_steal.specs.private.Floors.{least_cost}
 use Rattle.tcc_steal.proofs.Floor.{floor_small}
 use Rattle.tcc_steal.proofs.Seats.{new_seat}
-use Rattle.tcc_steal.proofs.Settling.{AreClosed, word_fits, found_at}
+use Rattle.tcc_steal.proofs.Settling.{closed_by, word_fits, found_at}
 use Rattle.tcc_steal.proofs.branch_and_bound.search_by.Goals as goal
 
 pub new-requires : goal.new-requires
@@ -44,23 +44,15 @@ pub cost_in-least-requires : goal.cost_in-least-requires
 cost_in-least-requires g c =
     let judged : HasJudged c.args.prices.now = search rules in
     let some : 0 < c.args.workers = search rules in
-    let (j, priced) = judged in
-    let n = c.args.workers in
     let ens = c.in_ok-searches.ensures in
-    let close = c.close.ensures in
-    let searches = ens.all n some (c.in_ok-slots.ensures.kept n c.in_ok-shares.ensures.shares) in
-    let closed : AreClosed j c.args.prices.now n c.in_ok-bound.bound c.search_all.new.worker.seat c.in_ok-searches.searches.items c.close.result =
-    record { priced = priced; at = ens.worker.seat; searches = searches; long = ens.long; most = close.least; floor = close.floor; small = omega arith } in
-    word_fits closed
+    let searches = ens.all c.args.workers some (c.in_ok-slots.ensures.kept c.args.workers c.in_ok-shares.ensures.shares) in
+    word_fits (closed_by judged.1 ens.worker.seat searches ens.long c.close.ensures.least c.close.ensures.floor (omega arith))
 
 pub returns : goal.returns
 returns g c = λ j priced.
     let some : 0 < c.args.workers = search rules in
-    let n = c.args.workers in
     let ens = c.in_ok-searches.ensures in
-    let close = c.close.ensures in
-    let searches = ens.all n some (c.in_ok-slots.ensures.kept n c.in_ok-shares.ensures.shares) in
-    let closed : AreClosed j c.args.prices.now n c.in_ok-bound.bound c.search_all.new.worker.seat c.in_ok-searches.searches.items c.close.result =
-    record { priced = priced; at = ens.worker.seat; searches = searches; long = ens.long; most = close.least; floor = close.floor; small = omega arith } in
     let told = c.in_ok-found.ensures in
-    found_at closed c.cost_in-least.ensures (record { least_is = told.least; first = told.first; rows = told.rows; starts = told.starts })
+    let searches = ens.all c.args.workers some (c.in_ok-slots.ensures.kept c.args.workers c.in_ok-shares.ensures.shares) in
+    found_at (closed_by priced ens.worker.seat searches ens.long c.close.ensures.least c.close.ensures.floor (omega arith)) c.cost_in-least.ensures
+    (record { least_is = told.least; first = told.first; rows = told.rows; starts = told.starts })

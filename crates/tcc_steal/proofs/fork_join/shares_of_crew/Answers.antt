@@ -6,10 +6,10 @@ use Rattle.atomic_blocks.specs.Lent.{RowsId}
 use Rattle.crossbeam_deque.specs.Handles.{stealer_deque, worker_deque, worker_view}
 use Rattle.tcc_txn.specs.declared.memory.NoMemory.{NoMemory}
 use Rattle.tcc_steal.specs.private.StartQueues.{IsTaker}
-use Rattle.tcc_steal.specs.private.Working.{IsSeat, IsShare, AreJobs, AreJobsOf}
+use Rattle.tcc_steal.specs.private.Working.{IsSeat, IsShare, AreThieves, AreJobs, AreJobsOf}
 use Rattle.tcc_steal.specs.declared.worker_loop.Share.{Share}
 use Rattle.tcc_steal.proofs.Seats.{split}
-use Rattle.tcc_steal.proofs.fork_join.shares_of_many.Goals as goal
+use Rattle.tcc_steal.proofs.fork_join.shares_of_crew.Goals as goal
 
 pub join-own-requires-after_bounds : goal.join-own-requires-after_bounds
 join-own-requires-after_bounds g c = λ κs lives.
@@ -27,9 +27,11 @@ join-own-requires-after_bounds g c = λ κs lives.
     )
 
 pub returns-clause-shares : goal.returns-clause-shares
-returns-clause-shares g c = λ workers some thieves.
+returns-clause-shares g c =
+    let workers = c.args.workers in
     let IsOne : Result Share NoMemory → Type 0 = λ s. IfOk s (IsShare c.args.prices.now c.args.bound.now workers) in
+    let thieves : AreThieves workers c.deref.result.now = rw c.deref.ensures.value c.in_ok-thieves.ensures in
     let numbers : AreJobsOf workers c.in_ok-jobs.jobs.items = c.in_ok-jobs.ensures.numbers workers thieves in
-    let own : IsOne c.join-own.result.0 = c.join-own.ensures.first workers some in
+    let own : IsOne c.join-own.result.0 = c.join-own.ensures.first workers c.requires.workers in
     let others : All IsOne c.in_ok-shares.shares.items = rw c.in_ok-shares.was at (c.join-own.ensures.second workers numbers) in
     rw c.in_ok-push.ensures.items (All-push IsOne c.in_ok-shares.shares.items c.join-own.result.0 others own)
