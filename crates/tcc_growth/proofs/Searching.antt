@@ -1,8 +1,7 @@
 -- A search for a label, one after the other.
-use Rattle.std.proofs.Common.{below_more, ℕ, zero, suc, ◌∷◌, ◌≡◌, ◌<◌, ◌≤◌, ◌+◌, ◌⊎◌, inl, inr, Bool, true, false, List, [], length, map, get_or, sym, ap, subst, ◌∙◌}
+use Rattle.std.proofs.Common.{below_more, ℕ, zero, suc, ◌∷◌, ◌≡◌, ◌<◌, ◌≤◌, ◌+◌, Bool, true, false, List, [], length, map, get_or, sym, ap, ◌∙◌}
 use Rattle.std.proofs.Common.{arith}
 use Rattle.std.specs.Str.{bytes_eq}
-use Rattle.std.proofs.lemmas.Bool.{cases_lt}
 use Rattle.std.proofs.lemmas.List.{get_or-map}
 use Rattle.std.proofs.lemmas.List.Sums.{position_or_len_is}
 use Rattle.tcc_growth.specs.Moved.{number_among}
