@@ -6,23 +6,19 @@ use Rattle.std.specs.List.{last_or}
 use Rattle.tcc_txn.specs.declared.limits.Limits.TheVariants.{Large}
 use Rattle.tcc_reads.specs.Faults.{read_faults}
 use Rattle.tcc_print.specs.Courses.{Contents, Gains, IsEnded, IsWhole, Said, texts}
-use Rattle.tcc_print.specs.Printed.{Prints, device_line, memory_line}
+use Rattle.tcc_print.specs.Printed.{device_line}
 use Rattle.tcc_print.specs.Statuses.{code_of}
 use Rattle.tcc_print.specs.declared.options.Options.{Options}
 use Rattle.tcc_print.specs.declared.status.Status.TheVariants.{Device, Memory}
 use Rattle.tcc_print.proofs.LastSaid.{certified_last, device_code, last_of_all, texts_end}
 use Rattle.tcc_large_run.specs.LargeClosing.{IsAcceptedWith, PrintsDecided}
-use Rattle.tcc_large_run.specs.LargeRuns.{AllGoesOut, CertificateStops, FileFails, Files, IsLargeRun, IsSaidOfSnapshot, SliceStops, Stops, answers_of, finished}
+use Rattle.tcc_large_run.specs.LargeRuns.{AllGoesOut, CertificateStops, Files, IsLargeRun, IsSaidOfSnapshot, Stops, answers_of, finished}
 use Rattle.tcc_large_run.specs.private.Laws.{Laws}
 use Rattle.tcc_large_run.proofs.Accepted.{said_accepted, said_certified}
+use Rattle.tcc_large_run.proofs.GoesOut.{goes_out}
 
 nothing : {X : Type 0} (x : X) → None ≡ Some x → ⊥
 nothing x e = cc e
-
--- what is printed where memory is out has its status, or that of a device
-memory_code : (before after : Option (List ℕ)) (text : List ℕ) (code : ℕ) → Prints before after text Memory code → (code ≡ code_of Memory) ⊎ (code ≡ code_of Device)
-memory_code before after text code (inl whole) = inl whole.1
-memory_code before after text code (inr part) = inr part.1
 
 module _ (laws : Laws) (options : Options) (records : List ℕ) where
   -- ---- what is left in a file
@@ -105,25 +101,5 @@ module _ (laws : Laws) (options : Options) (records : List ℕ) where
         of_resolved said last end goes
         (last_of_all Large (IsSaidOfSnapshot options) options records said last end ends unfaulted code fine space goes.3)
 
-    out_of_memory : (between : Option (List ℕ)) → Prints between after (memory_line options.json) Memory code → ⊥
-    out_of_memory between prints = elim (memory_code between after (memory_line options.json) code prints) [
-      | inl memory ↦ space memory
-      | inr device ↦ fine device
-    ]
-
-    certificate_fails : (last : Said) (between : Option (List ℕ)) → CertificateStops options last between after files.certificate files'.certificate code → ⊥
-    certificate_fails last between (inl (text, is, part, prints)) = fine (device_code between after (device_line options.json) code prints)
-    certificate_fails last between (inr (claim, is, none, prints)) = out_of_memory between prints
-
-    slice_fails : (last : Said) (between : Option (List ℕ)) → SliceStops options (finished records) last between after files.slice files'.slice code → ⊥
-    slice_fails last between (inl (slice, n, cut, gains, prints)) = fine (device_code between after (device_line options.json) code prints)
-    slice_fails last between (inr (anomalous, none, prints)) = out_of_memory between prints
-
-    file_fails : (text : List ℕ) (last : Said) → FileFails options (finished records) before after files files' text last code → ⊥
-    file_fails text last (between, out, inl stops) = certificate_fails last between stops.0
-    file_fails text last (between, out, inr stops) = slice_fails last between stops.1
-
     pub prints : IsLargeRun options records before after files files' code → Printed
-    prints (said, last, ends, end, inl goes) = of_ends said last end goes ends
-    prints (said, last, ends, end, inr (inl fails)) = absurd (fine fails.0.0.1)
-    prints (said, last, ends, end, inr (inr fails)) = absurd (file_fails (texts said) last fails)
+    prints run = let (said, last, ends, end, goes) = goes_out options records before after files files' code fine space run in of_ends said last end goes ends

@@ -1,8 +1,10 @@
 pub mod ClaimTexts
 pub mod FirstLines
+pub mod GoesOut
 pub mod Files
 pub mod Outcomes
 pub mod Own
 pub mod Accepted
 pub mod Closes
 pub mod Runs
+pub mod WithinSmall

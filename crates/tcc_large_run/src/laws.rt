@@ -1,22 +1,31 @@
-//! The laws of runs of `explain --large`: what is claimed is accepted, and the check accepts what was written, in bytes.
-ghost use Rattle.std.specs.Prelude.{◌≡◌, ◌≢◌, ℕ, List, Option, None, Some, []};
+//! The laws of runs of `explain --large`: what is claimed is accepted, and the check accepts what was written, in bytes; and what
+//! the small limits take is answered as without `--large`.
+ghost use Rattle.std.specs.Prelude.{◌≡◌, ◌≢◌, ◌↔◌, ℕ, List, Option, None, Some, []};
+ghost use Rattle.tcc_txn.specs.Finished.{KeepsLimits};
+ghost use Rattle.tcc_txn.specs.Snapshots.{Sessions};
+ghost use Rattle.tcc_txn.specs.declared.limits.Limits.TheVariants.{Small, Large};
+ghost use Rattle.tcc_rows.specs.Answers.{answers_within};
+ghost use Rattle.tcc_rows.specs.BothLimits.{KeepsSmall};
 ghost use Rattle.tcc_reads.specs.Faults.{read_faults};
 ghost use Rattle.tcc_graph.specs.Levels.{judged};
 ghost use Rattle.tcc_large.specs.Decisions.{IsDecision};
 ghost use Rattle.tcc_large.specs.declared.decision.Decision.{Decision};
-ghost use Rattle.tcc_print.specs.Courses.{Contents};
+ghost use Rattle.tcc_print.specs.Courses.{Contents, Gains, IsEnded, IsWhole, Said};
 ghost use Rattle.tcc_print.specs.Statuses.{code_of};
 ghost use Rattle.tcc_print.specs.declared.options.Options.{Options};
 ghost use Rattle.tcc_print.specs.declared.status.Status.TheVariants.{Device, Memory};
 ghost use Rattle.tcc_large_run.specs.LargeClosing.{IsAcceptedWith, PrintsDecided};
 ghost use Rattle.tcc_large_run.specs.private.Laws.{Laws};
-ghost use Rattle.tcc_large_run.specs.LargeRuns.{Files, IsAcceptedOf, IsLargeRun, answers_of, decision_said, finished};
+ghost use Rattle.tcc_large_run.specs.LargeRuns.{Files, IsAcceptedOf, IsLargeRun, IsSaidOfSnapshot, answers_of, decision_said, finished};
+ghost use Rattle.tcc_run.specs.Runs.{AskAlike, IsRun, IsSaidOfSnapshot as IsSaidSmall};
 
 use tcc_cert::laws::large_text_is_read;
 use tcc_check::laws::certified;
 use tcc_graph::LargeGraph;
 use tcc_judge::laws::{kept, own_cycle, own_order, own_short};
 use tcc_large_check::laws::accepted;
+use tcc_rows::laws::finished_is_snapshot;
+use tcc_run::laws::one_run;
 
 /// Whatever a run says of a large history by what is decided of it, its certificate is the text of a claim that keeps all rules: the
 /// verdict on it is `Accepted`, and no other.
@@ -58,4 +67,33 @@ pub fn headline()
         → text ≢ [] → code ≢ code_of Device → IsAcceptedWith options records text }
 {
     checks();
+}
+
+/// Of a snapshot that keeps the small limits the same is said with `--large` as without it. So it is of records that keep them, as
+/// each text does that has no fault within them: a run with `--large` says, be it to the end or to what ended it, what a run without it
+/// may say, and nothing else; and what is said to the end is the same in both, for every number of workers. What a run with `--large`
+/// that ends neither by a device that failed nor out of memory puts out, writes as a certificate and ends with, a run without it may
+/// too; and so may a run with `--large` whatever one without it does, where nothing goes into the file of a slice.
+pub fn within_small()
+    ensures snapshot { (options : Options) (s : Sessions) (said : Said) → KeepsLimits s
+        → IsSaidOfSnapshot options s said ↔ IsSaidSmall options s said }
+    ensures whole { (options : Options) (records : List ℕ) → KeepsSmall records → (said : List Said)
+        → IsWhole (IsSaidOfSnapshot options) (answers_of records) said ↔ IsWhole (IsSaidSmall options) (answers_within Small records) said }
+    ensures alike { (options others : Options) (records : List ℕ) → KeepsSmall records → (said again : List Said)
+        → AskAlike options others → IsWhole (IsSaidOfSnapshot options) (answers_of records) said
+        → IsWhole (IsSaidSmall others) (answers_within Small records) again → said ≡ again }
+    ensures ended { (options : Options) (records : List ℕ) → KeepsSmall records → (said : List Said)
+        → IsEnded Large (IsSaidOfSnapshot options) options records said ↔ IsEnded Small (IsSaidSmall options) options records said }
+    ensures without_large { (options : Options) (records : List ℕ) → KeepsSmall records
+        → (before after : Option (List ℕ)) (files files' : Files) (code : ℕ)
+        → IsLargeRun options records before after files files' code → code ≢ code_of Device → code ≢ code_of Memory
+        → IsRun options records before after files.certificate files'.certificate code }
+    ensures with_large { (options : Options) (records : List ℕ) → KeepsSmall records
+        → (before after : Option (List ℕ)) (file file' slice slice' : Contents) (code : ℕ)
+        → IsRun options records before after file file' code → Gains slice slice' []
+        → IsLargeRun options records before after (record { certificate = file; slice = slice })
+        (record { certificate = file'; slice = slice' }) code }
+{
+    finished_is_snapshot();
+    one_run();
 }

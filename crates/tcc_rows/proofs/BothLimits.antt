@@ -1,6 +1,7 @@
 -- What the small limits take, the large ones take too, and answer alike.
-use Rattle.std.proofs.Common.{◌≡◌, ℕ, ◌<◌, ◌≤◌, Bool, true, false, not, cond, List, [], ◌∷◌, length, refl, sym, ap, ◌∙◌, arith}
+use Rattle.std.proofs.Common.{◌≡◌, ℕ, zero, suc, ◌-◌, ◌<◌, ◌≤◌, Bool, true, false, not, cond, List, [], ◌∷◌, length, take, refl, sym, ap, subst, ◌∙◌, arith}
 use Rattle.std.proofs.Common.{Option, None, Some, Result, Ok, Err, nat_lt, ◌⊎◌, inl, inr}
+use Rattle.std.specs.Prelude.{option_map}
 use Rattle.std.specs.Option.{option_map_or}
 use Rattle.std.proofs.lemmas.Bool.{cases_lt}
 use Rattle.std.proofs.lemmas.Bool.Decides.{nat_tests}
@@ -9,17 +10,18 @@ use Rattle.tcc_txn.specs.Limits.{most_bytes, most_keys, most_sessions, most_tran
 use Rattle.tcc_txn.specs.declared.limits.Limits.TheVariants.{Small, Large}
 use Rattle.tcc_txn.specs.declared.limits.TheConstants.{MAX_INPUT_BYTES, MAX_OPERATIONS, LARGE_INPUT_BYTES}
 use Rattle.tcc_rows.specs.Answers.{Answers, after_item, answers_after_within, answers_of, answers_within, go_on, judged_within, records_of, records_within}
-use Rattle.tcc_rows.specs.BothLimits.{ends_beyond_small, is_beyond_small}
+use Rattle.tcc_rows.specs.BothLimits.{KeepsSmall, ends_beyond_small, is_beyond_small}
 use Rattle.tcc_rows.specs.ByteLimit.{marked}
+use Rattle.tcc_rows.specs.Failing.{AreLawfulWithin, FailsAtWithin, items_before_within, records_before}
 use Rattle.tcc_rows.specs.Lines.{Record, is_cut, line_of}
-use Rattle.tcc_rows.specs.Past.{begin_count, fault_within, is_begun, item_of, keys, ops_since, sessions}
-use Rattle.tcc_rows.specs.declared.rows.Item.{Item}
+use Rattle.tcc_rows.specs.Past.{begin_count, fault_within, is_begun, item_of, keys, least, open_sessions, ops_since, sessions}
+use Rattle.tcc_rows.specs.declared.fault.RowFault.{RowFault}
 use Rattle.tcc_rows.specs.declared.fault.RowFaultKind.{RowFaultKind}
 use Rattle.tcc_rows.specs.declared.fault.RowFaultKind.TheVariants as kind
 use Rattle.tcc_rows.specs.Line.{Line}
 use Rattle.tcc_rows.specs.Line as line
 use Rattle.tcc_rows.proofs.LimitFacts.{marked-within}
-use Rattle.tcc_rows.proofs.PastLimit.{faulty}
+use Rattle.tcc_rows.proofs.PastLimit.{faulty, kept-fault}
 
 -- ---- one line
 
@@ -85,10 +87,6 @@ same-judged past fields e = by (is_cut fields) (line_of fields) refl refl e
 
 -- ---- a text
 
-kept-fault : (o : Option Item) (ahead : Answers) → (after_item o ahead).fault ≡ ahead.fault
-kept-fault None ahead = refl
-kept-fault (Some first) ahead = refl
-
 same-after : (left : List Record) (past : List Line) → ends_beyond_small (answers_after_within Small past left).fault ≡ false
     → answers_after_within Large past left ≡ answers_after_within Small past left
 same-after [] past e = refl
@@ -113,13 +111,66 @@ same-records text short =
     let large : marked (most_bytes Large) text ≡ text = marked-within LARGE_INPUT_BYTES text (omega arith) in
     ap (λ bytes. records default_config (strip_bom bytes)) (large ∙ sym small)
 
-pub same-within : (text : List ℕ) → length text ≤ MAX_INPUT_BYTES → ends_beyond_small (answers_of text).fault ≡ false
-    → answers_within Large text ≡ answers_of text
-same-within text short e = ap (answers_after_within Large []) (same-records text short) ∙ same-after (records_of text) [] e
+pub same-kept : (text : List ℕ) → KeepsSmall text → answers_within Large text ≡ answers_of text
+same-kept text keeps = ap (answers_after_within Large []) (same-records text keeps.0) ∙ same-after (records_of text) [] keeps.1
 
-pub same-lawful : (text : List ℕ) → (answers_of text).fault ≡ None → answers_within Large text ≡ answers_of text
-same-lawful text none = by (cases_lt MAX_INPUT_BYTES (length text))
+-- where there is no fault there are not too many bytes
+pub lawful-kept : (text : List ℕ) → (answers_of text).fault ≡ None → KeepsSmall text
+lawful-kept text none = by (cases_lt MAX_INPUT_BYTES (length text))
   where
-    by : (MAX_INPUT_BYTES < length text) ⊎ (length text ≤ MAX_INPUT_BYTES) → answers_within Large text ≡ answers_of text
+    by : (MAX_INPUT_BYTES < length text) ⊎ (length text ≤ MAX_INPUT_BYTES) → KeepsSmall text
     by (inl long) = absurd (faulty text long none)
-    by (inr short) = same-within text short (ap ends_beyond_small none)
+    by (inr short) = (short, ap ends_beyond_small none)
+
+-- ---- the records before a row
+
+lawful-large : (left : List Record) (past : List Line) → AreLawfulWithin Small past left → AreLawfulWithin Large past left
+lawful-large [] past lawful = tt
+lawful-large (fields ∷ rest) past (last, is, lawful) =
+    (last, same-judged past fields (ap refused is) ∙ is, lawful-large rest (last ∷ past) lawful)
+
+lawful-small : (n : ℕ) (left : List Record) (past : List Line) → ends_beyond_small (answers_after_within Small past left).fault ≡ false
+    → AreLawfulWithin Large past (take n left) → AreLawfulWithin Small past (take n left)
+lawful-small zero left past e lawful = tt
+lawful-small (suc n) [] past e lawful = tt
+lawful-small (suc n) (fields ∷ rest) past e (last, is, lawful) =
+    by (judged_within Small past fields) refl e (λ e. lawful-small n rest (last ∷ past) e lawful)
+  where
+    by : (r : Result Line RowFaultKind) → judged_within Small past fields ≡ r
+        → ends_beyond_small (go_on past (λ lines. answers_after_within Small lines rest) r).fault ≡ false
+        → (ends_beyond_small (answers_after_within Small (last ∷ past) rest).fault ≡ false → AreLawfulWithin Small (last ∷ past) (take n rest))
+        → AreLawfulWithin Small past (fields ∷ take n rest)
+    by (Err k) found e more = (let both : Ok last ≡ Err k = sym is ∙ same-judged past fields (ap refused found ∙ e) ∙ found in cc both)
+    by (Ok l) found e more =
+        let both : ◌≡◌ {A = Result Line RowFaultKind} (Ok l) (Ok last) = sym found ∙ sym (same-judged past fields (ap refused found)) ∙ is in
+        let one : l ≡ last = cc both in
+        let none : ends_beyond_small (after_item (item_of past last) (answers_after_within Small (last ∷ past) rest)).fault ≡ false
+        = subst (λ (x : Line). ends_beyond_small (after_item (item_of past x) (answers_after_within Small (x ∷ past) rest)).fault ≡ false) one e in
+        (last, found ∙ both, more (ap ends_beyond_small (sym (kept-fault (item_of past last) (answers_after_within Small (last ∷ past) rest))) ∙ none))
+
+-- lawful records end with an unfinished transaction at most
+lawful-end : (left : List Record) (past : List Line) → AreLawfulWithin Small past left → ends_beyond_small (answers_after_within Small past left).fault ≡ false
+lawful-end [] past lawful = by (least (open_sessions past))
+  where
+    by : (o : Option (List ℕ)) → ends_beyond_small (option_map {U = RowFault} (λ session. record { row = length past; kind = kind.Unfinished session }) o) ≡ false
+    by None = refl
+    by (Some session) = refl
+lawful-end (fields ∷ rest) past (last, is, lawful) =
+    rw is (ap ends_beyond_small (kept-fault (item_of past last) (answers_after_within Small (last ∷ past) rest)) ∙ lawful-end rest (last ∷ past) lawful)
+
+-- the reading of such a text fails at the same rows within both, after the same items
+module _ (text : List ℕ) (keeps : KeepsSmall text) where
+  pub fails-small : (row : ℕ) → FailsAtWithin Large row (records_within Large text) → FailsAtWithin Small row (records_of text)
+  fails-small row fails =
+      let here : FailsAtWithin Large row (records_of text) = subst (FailsAtWithin Large row) (same-records text keeps.0) fails in
+      (here.0, lawful-small (row - 1) (records_of text) [] keeps.1 here.1)
+
+  pub fails-large : (row : ℕ) → FailsAtWithin Small row (records_of text) → FailsAtWithin Large row (records_within Large text)
+  fails-large row fails =
+      subst (FailsAtWithin Large row) (sym (same-records text keeps.0)) (fails.0, lawful-large (records_before row (records_of text)) [] fails.1)
+
+  pub same-before : (row : ℕ) → FailsAtWithin Small row (records_of text)
+      → items_before_within Large row (records_within Large text) ≡ items_before_within Small row (records_of text)
+  same-before row fails =
+      ap (items_before_within Large row) (same-records text keeps.0)
+      ∙ ap (λ (a : Answers). a.items) (same-after (records_before row (records_of text)) [] (lawful-end (records_before row (records_of text)) [] fails.1))

@@ -1,5 +1,4 @@
 mod AheadFacts
-mod BothLimits
 mod Continuing
 mod FieldBytes
 mod FinishedFacts
@@ -15,4 +14,5 @@ mod RecordingSteps
 mod SealedAlike
 mod StandingFacts
 mod WorkedTexts
+pub mod BothLimits
 pub mod FailingFacts

@@ -184,7 +184,7 @@ last-cut text long =
 
 -- ---- so the text has a fault
 
-kept-fault : (o : Option Item) (ahead : Answers) → (after_item o ahead).fault ≡ ahead.fault
+pub kept-fault : (o : Option Item) (ahead : Answers) → (after_item o ahead).fault ≡ ahead.fault
 kept-fault None ahead = refl
 kept-fault (Some first) ahead = refl
 

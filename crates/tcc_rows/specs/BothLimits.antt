@@ -1,5 +1,7 @@
 -- The faults that records have within the small limits alone, where the large ones may have room.
-use Rattle.std.specs.Prelude.{Bool, true, false, Option, None, Some}
+use Rattle.std.specs.Prelude.{ℕ, ◌≡◌, ◌≤◌, Bool, true, false, List, length, Option, None, Some}
+use Rattle.tcc_txn.specs.declared.limits.TheConstants.{MAX_INPUT_BYTES}
+use Rattle.tcc_rows.specs.Answers.{answers_of}
 use Rattle.tcc_rows.specs.declared.fault.RowFault.{RowFault}
 use Rattle.tcc_rows.specs.declared.fault.RowFaultKind.{RowFaultKind}
 use Rattle.tcc_rows.specs.declared.fault.RowFaultKind.TheVariants as kind
@@ -15,3 +17,7 @@ is_beyond_small _ = false
 abbrev pub ends_beyond_small : Option RowFault → Bool
 ends_beyond_small None = false
 ends_beyond_small (Some fault) = is_beyond_small fault.kind
+
+-- the text has not more bytes than the small limit, and its answers end with no such fault
+abbrev pub KeepsSmall : List ℕ → Type 0
+KeepsSmall text = (length text ≤ MAX_INPUT_BYTES) × (ends_beyond_small (answers_of text).fault ≡ false)

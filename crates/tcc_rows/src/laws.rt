@@ -1,9 +1,9 @@
 //! The laws of records: what they finish keeps the limits of a snapshot, and depends on the records of each session alone;
 //! where the bytes are too many, the last record is the fault; and what the small limits take, the large ones answer alike.
-ghost use Rattle.std.specs.Prelude.{◌≡◌, ◌≢◌, ◌<◌, ◌≤◌, ◌++◌, ℕ, List, [], None, Some, false, length, take};
+ghost use Rattle.std.specs.Prelude.{◌≡◌, ◌≢◌, ◌<◌, ◌++◌, ℕ, List, [], None, Some, false, length, take};
 ghost use Rattle.std.specs.FinMap as sessions;
 ghost use Rattle.tcc_rows.specs.Answers.{answers_of, answers_within, records_of};
-ghost use Rattle.tcc_rows.specs.BothLimits.{ends_beyond_small};
+ghost use Rattle.tcc_rows.specs.BothLimits.{KeepsSmall};
 ghost use Rattle.tcc_rows.specs.Failing.{AreLawful, records_before};
 ghost use Rattle.tcc_txn.specs.Finished.{KeepsLimits};
 ghost use Rattle.tcc_rows.specs.Items.{finished_in};
@@ -55,12 +55,13 @@ pub fn past_the_limit()
         → (answers_of text).fault ≡ Some (record { row = length (records_of text); kind = Read }) }
 {}
 
-/// A text that the small limits take is answered within the large ones as within the small ones: the same items, and no fault.
-/// So is one of not more bytes than the small limit that has another fault than too many sessions, transactions or keys.
+/// A text without a fault within the small limits is answered within the large ones as within the small ones: the same items, and
+/// no fault. So is each text of not more bytes than the small limit whose fault is another than too many sessions, transactions or
+/// keys.
 pub fn within_large()
     ensures lawful { (text : List ℕ) → (answers_of text).fault ≡ None → answers_within Large text ≡ answers_of text }
-    ensures faulty { (text : List ℕ) → length text ≤ MAX_INPUT_BYTES → ends_beyond_small (answers_of text).fault ≡ false
-        → answers_within Large text ≡ answers_of text }
+    ensures kept { (text : List ℕ) → (answers_of text).fault ≡ None → KeepsSmall text }
+    ensures same { (text : List ℕ) → KeepsSmall text → answers_within Large text ≡ answers_of text }
 {}
 
 /// What some items finish is continued by what they finish together with more.
