@@ -28,7 +28,7 @@ nothing is proved; make build proves and builds the program
 .PHONY: run build checker install dist pack demo demo-postgres demo-galera test
 
 # Whether the program is built, and no older than a source.
-IS_BUILT = test -x out/tcc && test -z "$$(find ../../crates.txt ../*/src ../*/specs ../*/proofs -newer out/tcc -print -quit)"
+IS_BUILT = { test -x out/tcc && test -z "$$(find ../../crates.txt ../*/src ../*/specs ../*/proofs -newer out/tcc -print -quit)"; }
 
 run:
 	@cd crates/tcc && \
