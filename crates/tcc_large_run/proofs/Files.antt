@@ -1,38 +1,57 @@
 -- What goes into the files behind the last answer.
-use Rattle.std.proofs.Common.{◌≡◌, ℕ, List, Option, None, Some, Result, Ok, Err, refl, sym, subst, ◌∙◌, inl, inr}
-use Rattle.std.specs.Prelude.{IsErrAnd}
+use Rattle.std.proofs.Common.{◌≡◌, ℕ, List, Option, None, Some, Result, Ok, Err, MatchResult, refl, sym, subst, take, ◌∙◌, inl, inr}
+use Rattle.std.specs.Prelude.{IsErrAnd, OnErr, OnOk}
+use Rattle.std.specs.Io.KnownBytes.{Appends}
 use Rattle.tcc_txn.specs.Snapshots.{Sessions}
 use Rattle.tcc_reads.specs.Sources.{history}
 use Rattle.tcc_graph.specs.declared.link.Link.{Link}
 use Rattle.tcc_cert.specs.LargeTexts.{large_certificate_text}
 use Rattle.tcc_cert.specs.declared.large.LargeCertificate.{LargeCertificate}
+use Rattle.tcc_answer.specs.declared.fault.WriteFault.{WriteFault}
+use Rattle.tcc_answer.specs.declared.fault.WriteFault.TheVariants as write
 use Rattle.tcc_print.specs.Courses.{Contents, Said}
+use Rattle.tcc_print.specs.Printed.{Prints, device_line, memory_line}
 use Rattle.tcc_print.specs.declared.options.Options.{Options}
+use Rattle.tcc_print.specs.declared.status.Status.TheVariants.{Device, Memory}
 use Rattle.tcc_print.proofs.Courses.{Gains-none}
-use Rattle.tcc_large_run.specs.LargeRuns.{Files, SliceStops, Stops}
-use Rattle.tcc_large_run.specs.private.Stages.{IsOutcome, SendsCertificate, SendsClaim, SendsSlice, WritesCertificate, WritesFiles, WritesSlice, outcome_links, outcome_said}
+use Rattle.tcc_large_run.specs.LargeRuns.{CertificateStops, Files, SliceStops, Stops}
+use Rattle.tcc_large_run.specs.private.Stages.{IsOutcome, SendsCertificate, SendsSlice, WritesCertificate, WritesFiles, WritesSlice, outcome_links, outcome_said}
 use Rattle.tcc_large_run.specs.declared.outcome.Outcome.{Outcome}
 use Rattle.tcc_large_run.proofs.Outcomes.{has_said, said_anomalous}
 
 nothing : {A : Type 0} (x : A) → Some x ≡ None → ⊥
 nothing x e = cc
 
--- a claim that was made is the certificate of what was said
-pub claim_sent : {A : Type 0} (options : Options) (last : Said) (claim : LargeCertificate) (r : Result A ℕ) (before after file file' : Option (List ℕ))
-    → last.certificate ≡ Some (large_certificate_text claim) → SendsClaim options.json claim r before after file file'
-    → SendsCertificate options last r before after file file'
-claim_sent options last claim (Ok done) before after file file' is (quiet, out) = (quiet, rw is out)
-claim_sent options last claim (Err code) before after file file' is (inl (part, prints)) = inl (large_certificate_text claim, is, part, prints)
-claim_sent options last claim (Err code) before after file file' is (inr (none, prints)) = inr (claim, is, none, prints)
+-- the text of a certificate was written, or a device failed
+pub sent : {A E : Type 0} (certificate : Option (List ℕ)) (text : List ℕ) (written : Result A E) (r : Result A WriteFault) (file file' : Option (List ℕ))
+    → certificate ≡ Some text → OnOk written (Appends file file' text) → OnErr written ((n : ℕ) × Appends file file' (take n text))
+    → MatchResult written (λ done. r ≡ Ok done) (λ _. r ≡ Err write.Device) → SendsCertificate certificate r file file'
+sent certificate text (Ok done) r file file' is whole part same = subst (λ r. SendsCertificate certificate r file file') (sym same) (rw is whole)
+sent certificate text (Err e) r file file' is whole part same = subst (λ r. SendsCertificate certificate r file file') (sym same) (text, is, part)
 
--- into a file that is given
-pub certificate_given : {A : Type 0} (options : Options) (last : Said) (r : Result A ℕ) (before after file file' : Option (List ℕ))
-    → SendsCertificate options last r before after file file' → WritesCertificate options last r before after (Some file) (Some file')
-certificate_given options last (Ok done) before after file file' sent = sent
-certificate_given options last (Err code) before after file file' (inl (text, is, part, prints)) =
-    inl (text, is, (part.0, part.1, nothing file), prints)
-certificate_given options last (Err code) before after file file' (inr (claim, is, none, prints)) =
-    inr (claim, is, (none, nothing file), prints)
+-- memory was out before a claim was made
+pub unmade : {A : Type 0} (certificate : Option (List ℕ)) (claim : LargeCertificate) (r : Result A WriteFault) (file : Option (List ℕ))
+    → certificate ≡ Some (large_certificate_text claim) → IsErrAnd r (λ why. why ≡ write.NoMemory) → SendsCertificate certificate r file file
+unmade certificate claim (Ok done) file is out = absurd out
+unmade {A = A} certificate claim (Err why) file is out =
+    subst (λ (w : WriteFault). SendsCertificate {A = A} certificate (Err w) file file) (sym out) (claim, is, Gains-none (Some file))
+
+-- the run stops at a file that is given
+pub device_stops : (options : Options) (last : Said) (before after file file' : Option (List ℕ)) (why : WriteFault) (code : ℕ)
+    → why ≡ write.Device → SendsCertificate {A = Unit {0}} last.certificate (Err why) file file' → Prints before after (device_line options.json) Device code
+    → CertificateStops options last before after (Some file) (Some file') code
+device_stops options last before after file file' why code device went prints =
+    let certificate : SendsCertificate {A = Unit {0}} last.certificate (Err write.Device) file file' =
+    subst (λ (why : WriteFault). SendsCertificate {A = Unit {0}} last.certificate (Err why) file file') device went in
+    inl (certificate.0, certificate.1, (certificate.2.0, certificate.2.1, nothing file), prints)
+
+pub memory_stops : (options : Options) (last : Said) (before after file file' : Option (List ℕ)) (why : WriteFault) (code : ℕ)
+    → why ≡ write.NoMemory → SendsCertificate {A = Unit {0}} last.certificate (Err why) file file' → Prints before after (memory_line options.json) Memory code
+    → CertificateStops options last before after (Some file) (Some file') code
+memory_stops options last before after file file' why code memory went prints =
+    let certificate : SendsCertificate {A = Unit {0}} last.certificate (Err write.NoMemory) file file' =
+    subst (λ (why : WriteFault). SendsCertificate {A = Unit {0}} last.certificate (Err why) file file') memory went in
+    inr (certificate.0, certificate.1, (certificate.2, nothing file), prints)
 
 -- the slice of what was said
 pub slice_given : {A : Type 0} (options : Options) (whole : Sessions) (o : Outcome) (links : List Link) (r : Result A ℕ) (before after file file' : Option (List ℕ))

@@ -1,12 +1,13 @@
 -- What a run does with its bytes, from what its stages say.
-use Rattle.std.proofs.Common.{◌≡◌, ℕ, List, [], Option, Result, Ok, Err, sym, subst, inl, inr}
-use Rattle.std.specs.Prelude.{OnOk, unwrap_or}
+use Rattle.std.proofs.Common.{◌≡◌, ℕ, List, [], Option, sym, subst, inl, inr}
+use Rattle.std.specs.Prelude.{unwrap_or}
 use Rattle.std.specs.Io.KnownBytes.{Appends}
 use Rattle.tcc_txn.specs.Snapshots.{Sessions}
 use Rattle.tcc_print.specs.Courses.{Gains, texts}
 use Rattle.tcc_print.specs.declared.last.Last.{Last}
 use Rattle.tcc_print.specs.declared.options.Options.{Options}
-use Rattle.tcc_print.specs.private.Courses.{AllAnswered, EndsEarly, IsTold}
+use Rattle.tcc_print.specs.Saying.{IsTold}
+use Rattle.tcc_print.specs.private.Courses.{AllAnswered, EndsEarly}
 use Rattle.tcc_print.proofs.Courses.{Gains-none}
 use Rattle.tcc_large_run.specs.LargeRuns.{Files, IsLargeRun, finished}
 use Rattle.tcc_large_run.specs.declared.outcome.Outcome.{Outcome}
@@ -16,11 +17,6 @@ use Rattle.tcc_large_run.proofs.Outcomes.{said_of}
 -- what is to be said of a snapshot is told of it
 pub told : (options : Options) (s : Sessions) (o : Outcome) → IsOutcome options.level s o → IsTold (course options) s o
 told options s o is = (said_of options s o is, is)
-
--- what holds anyhow
-pub on_ok : {A E P : Type 0} (r : Result A E) → P → OnOk r P
-on_ok (Ok a) holds = holds
-on_ok (Err e) holds = tt
 
 -- a run that ends early has nothing for the files
 pub early : (options : Options) (text : List ℕ) (before after : Option (List ℕ)) (files : Files) (code : ℕ)

@@ -190,7 +190,7 @@ CertificateStops options last before after file file' code =
     ⊎ ((claim : LargeCertificate) × (last.certificate ≡ Some (large_certificate_text claim)) × (Gains file file' [] × (file ≢ None))
     × Prints before after (memory_line options.json) Memory code)
 
--- so with the slice
+-- behind what was written a write of the slice failed, of which a part, from its front, went out; or memory was out before it
 abbrev pub SliceStops : Options → Sessions → Said → Option (List ℕ) → Option (List ℕ) → Contents → Contents → ℕ → Type 0
 SliceStops options whole last before after file file' code =
     ((slice : List ℕ) × (n : ℕ) × IsSliceOfLast options whole last slice × Gains file file' (take n slice)

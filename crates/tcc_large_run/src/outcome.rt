@@ -1,16 +1,16 @@
 //! What is said of a snapshot: what is known of its history, or all its read faults.
-ghost use Rattle.std.specs.Prelude.{◌≡◌, IfErr, IfOk, IfSome, OnOk, Some};
-ghost use Rattle.std.specs.Io.KnownBytes.{Appends};
+ghost use Rattle.std.specs.Prelude.{◌≡◌, IfOk, IfSome, Some};
 ghost use Rattle.tcc_txn.specs.Finished.{KeepsLimits};
+ghost use Rattle.tcc_reads.specs.History.{History};
 ghost use Rattle.tcc_graph.specs.Levels.{judged};
 ghost use Rattle.tcc_cert.specs.LargeTexts.{HasLargeText};
+ghost use Rattle.tcc_answer.specs.Labels.{labels_of};
 ghost use Rattle.tcc_answer.specs.declared.answer.Answer.TheVariants as answer;
 ghost use Rattle.tcc_large.specs.Decisions.{IsDecision};
 ghost use Rattle.tcc_large.specs.declared.decision.Decision.TheVariants as decision;
-ghost use Rattle.tcc_print.specs.Printed.{EndsIn};
-ghost use Rattle.tcc_print.specs.private.Courses.{IsTold};
+ghost use Rattle.tcc_print.specs.Saying.{IsTold};
 ghost use Rattle.tcc_large_run.specs.LargeRuns.{bare_cycle, bare_order, claim_of};
-ghost use Rattle.tcc_large_run.specs.private.Stages.{IsFoundOf, IsOutcome, course, outcome_links, outcome_status, outcome_text};
+ghost use Rattle.tcc_large_run.specs.private.Stages.{IsFoundOf, IsOutcome, course, outcome_links, outcome_status};
 
 use crate::room::check_room;
 use std::alloc::Global;
@@ -23,10 +23,9 @@ use tcc_graph::{LargeGraph, Level, Link};
 use tcc_judge::laws::is_least;
 use tcc_large::{Decision, LargeAnswer, explain_large_with_order};
 use tcc_print::large::send_unproved;
-use tcc_print::notes::note_reads;
 use tcc_print::printing::{send_answer, send_unresolved};
 use tcc_print::status::answer_status;
-use tcc_print::{Run, Status};
+use tcc_print::{Options, Run, Statement, Status};
 use tcc_proving::{proved_claim, steps_of};
 use tcc_reads::{ReadFault, ResolveFault};
 use tcc_txn::{LargeSnapshot, NoMemory, Snapshot};
@@ -64,25 +63,24 @@ fn order_answer(
     graph: &LargeGraph,
     level: Level,
     order: Vec<u32>,
-) -> Result<Answer, NoMemory>
-    ensures { IfOk result (λ a. a ≡ answer.Commit (bare_order level graph.now order.items)) }
+    labels: Labels,
+) -> Answer
+    ensures { labels ≡ labels_of graph.now → result ≡ answer.Commit (bare_order level graph.now order.items) }
 {
-    let labels = Labels::of_large(alloc, graph)?;
     let sessions = graph.sessions().len() as u32;
     let clocks = Table::new(Vec::new(alloc));
-    Ok(Answer::Commit(Commit::new(level, Numbers::new(order), sessions, clocks, labels)))
+    Answer::Commit(Commit::new(level, Numbers::new(order), sessions, clocks, labels))
 }
 
 /// A least cycle of a large history as an answer without distances.
 fn cycle_answer(
     alloc: Global,
-    graph: &LargeGraph,
     level: Level,
     links: Vec<Link>,
+    labels: Labels,
 ) -> Result<Answer, NoMemory>
-    ensures { IfOk result (λ a. a ≡ answer.Anomaly (bare_cycle level graph.now links.items)) }
+    ensures { (h : History) → labels ≡ labels_of h → IfOk result (λ a. a ≡ answer.Anomaly (bare_cycle level h links.items)) }
 {
-    let labels = Labels::of_large(alloc, graph)?;
     let steps = steps_of(&links)?;
     Ok(Answer::Anomaly(Anomaly::new(
         level,
@@ -124,16 +122,18 @@ impl Outcome {
         alloc: Global,
         level: Level,
         graph: LargeGraph,
+        labels: Labels,
         links: Vec<Link>,
         order: Option<Vec<u32>>,
     ) -> Result<Outcome, NoMemory>
-        ensures { HasLargeText (claim_of level graph (decision.Cycle links)) → IfOk result (IsFoundOf level graph (decision.Cycle links)) }
+        ensures { labels ≡ labels_of graph → HasLargeText (claim_of level graph (decision.Cycle links))
+            → IfOk result (IsFoundOf level graph (decision.Cycle links)) }
     {
         // What the judge accepts is a least cycle, as this law says.
         is_least();
         if let Some(order) = order {
             if let Some(claim) = proved_claim(alloc, &graph, level, &links, &order)? {
-                let answer = cycle_answer(alloc, &graph, level, links)?;
+                let answer = cycle_answer(alloc, level, links, labels)?;
                 return Ok(Outcome::Proved {
                     graph,
                     answer,
@@ -141,7 +141,6 @@ impl Outcome {
                 });
             }
         }
-        let labels = Labels::of_large(alloc, &graph)?;
         Ok(Outcome::Cycle {
             graph,
             labels,
@@ -160,35 +159,28 @@ impl Outcome {
     {
         let LargeAnswer { graph, decision } = answer;
         check_room(&graph, &decision)?;
+        let labels = Labels::of_large(alloc, &graph)?;
         match decision {
             Decision::Order(order) => {
-                let answer = order_answer(alloc, &graph, level, order)?;
+                let answer = order_answer(alloc, &graph, level, order, labels);
                 Ok(Outcome::Large { graph, answer })
             }
             Decision::Least(links) => {
-                let answer = cycle_answer(alloc, &graph, level, links)?;
+                let answer = cycle_answer(alloc, level, links, labels)?;
                 Ok(Outcome::Large { graph, answer })
             }
-            Decision::Cycle(links) => Outcome::of_cycle(alloc, level, graph, links, order),
+            Decision::Cycle(links) => {
+                Outcome::of_cycle(alloc, level, graph, labels, links, order)
+            }
         }
     }
 
-    /// What is to be said of a snapshot.
+    /// What is to be said of a snapshot; a small one is searched by so many workers.
     pub(crate) fn of<T: Threads + Sync, G: Gate>(
         run: &Run<T, G>,
         snapshot: &LargeSnapshot,
     ) -> Result<Outcome, NoMemory>
         ensures { IfOk result (IsTold (course run.now.options.now) snapshot.now) }
-    {
-        Outcome::of_snapshot(run, snapshot)
-    }
-
-    /// What is to be said of a snapshot at the level; a small one is searched by so many workers.
-    fn of_snapshot<T: Threads + Sync, G: Gate>(
-        run: &Run<T, G>,
-        snapshot: &LargeSnapshot,
-    ) -> Result<Outcome, NoMemory>
-        ensures { IfOk result (IsOutcome run.now.options.now.level snapshot.now) }
     {
         if let Some(small) = snapshot.small_copy(run.alloc)? {
             return Outcome::of_small(run, &small);
@@ -198,28 +190,6 @@ impl Outcome {
             Ok((answer, order)) => Outcome::of_decision(run.alloc, level, answer, order),
             Err(ResolveFault::Reads(faults)) => Ok(Outcome::Unresolved(faults)),
             Err(ResolveFault::NoMemory) => Err(NoMemory),
-        }
-    }
-
-    /// Writes it as text or as a line of JSON; else the run ends with this number.
-    pub(crate) fn send<W: Write>(&self, alloc: Global, json: bool, out: &mut W) -> Result<(), u8>
-        ensures whole { OnOk result (Appends (W.contents out.old) (W.contents out.new) (outcome_text json self.now)) }
-        ensures ended { IfErr result (EndsIn json (W.contents out.old) (W.contents out.new) (outcome_text json self.now)) }
-    {
-        match self {
-            Outcome::Unresolved(faults) => send_unresolved(alloc, faults, json, out),
-            Outcome::Small(answer) => send_answer(alloc, answer, json, out),
-            Outcome::Large { answer, .. } | Outcome::Proved { answer, .. } => {
-                send_answer(alloc, answer, json, out)
-            }
-            Outcome::Cycle { labels, links, .. } => send_unproved(alloc, labels, links, json, out),
-        }
-    }
-
-    /// Notes of the first read faults which write each of them is about.
-    pub(crate) fn note<N: Write>(&self, alloc: Global, snapshot: &LargeSnapshot, notes: &mut N) {
-        if let Outcome::Unresolved(faults) = self {
-            note_reads(alloc, snapshot, faults, notes);
         }
     }
 
@@ -268,4 +238,32 @@ impl Outcome {
             _ => None,
         }
     }
+}
+
+impl Statement for Outcome {
+    ghost use Rattle.std.specs.Prelude.{refl};
+    ghost use Rattle.tcc_large_run.specs.private.Stages.{course};
+
+    ghost course = { course };
+
+    fn send<W: Write>(&self, alloc: Global, options: &Options, out: &mut W) -> Result<(), u8> {
+        let json = options.json;
+        match self {
+            Outcome::Unresolved(faults) => send_unresolved(alloc, faults, json, out),
+            Outcome::Small(answer) => send_answer(alloc, answer, json, out),
+            Outcome::Large { answer, .. } | Outcome::Proved { answer, .. } => {
+                send_answer(alloc, answer, json, out)
+            }
+            Outcome::Cycle { labels, links, .. } => send_unproved(alloc, labels, links, json, out),
+        }
+    }
+
+    fn read_faults(&self) -> &[ReadFault] {
+        match self {
+            Outcome::Unresolved(faults) => faults,
+            _ => &[],
+        }
+    }
+
+    ghost asked = { λ options. refl };
 }

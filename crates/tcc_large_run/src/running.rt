@@ -1,15 +1,15 @@
 //! From the bytes of records to their answers: at each seal, and at the end.
-ghost use Rattle.std.specs.Prelude.{◌≡◌, ◌≢◌, ℕ, List, [], true, false, None, Ok, IfErr, IfSome, MatchResult, OnOk, option_map};
+ghost use Rattle.std.specs.Prelude.{◌≡◌, ℕ, List, [], None, IfErr, IfOk, IfSome, MatchResult, OnOk, option_map};
 ghost use Rattle.tcc_rows.specs.Ahead.{fault_met};
 ghost use Rattle.tcc_rows.specs.Answers.{Answers, answers_after_within};
-ghost use Rattle.tcc_txn.specs.Finished.{transaction_count};
 ghost use Rattle.tcc_rows.specs.Lines.{Record};
 ghost use Rattle.tcc_rows.specs.Reached.{IsWithin};
 ghost use Rattle.tcc_rows.specs.Recordings.{FailsBehind, IsRecording, TakesMoment, after_items};
 ghost use Rattle.tcc_rows.specs.declared.rows.Item.{Item};
 ghost use Rattle.tcc_txn.specs.declared.limits.Limits.TheVariants.{Large};
 ghost use Rattle.tcc_large_run.specs.LargeRuns.{IsLargeRun, answers_of, finished, records_of};
-ghost use Rattle.tcc_print.specs.private.Courses.{AllAnswered, EndsAgain, EndsAnswering, EndsEarly, IsStill, SaysAgain, SaysLast};
+ghost use Rattle.tcc_print.specs.Saying.{IsTold, SaysAt};
+ghost use Rattle.tcc_print.specs.private.Courses.{AllAnswered, EndsEarly};
 ghost use Rattle.tcc_large_run.specs.private.Stages.{Concludes, IsOutcome, SendsSlice, WritesFiles, WritesSlice, course, outcome_said};
 
 use crate::certifying::write_certificate;
@@ -22,84 +22,43 @@ use std::thread::Threads;
 use tcc_graph::Link;
 use tcc_print::notes::{note_last, note_no_slice};
 use tcc_print::printing::{print_device, print_memory};
-use tcc_print::{Last, Options, Run, again};
+use tcc_print::{Last, Options, Run, again, say_again, say_anew};
 use tcc_rows::{LargeRecording, Moment, RowFault, RowFaultKind};
 use tcc_sending::send;
 use tcc_txn::{LargeSnapshot, NoMemory};
 use tcc_verdict::stop;
 
-/// Says what is to be said of the snapshot, as text or as a line of JSON, and keeps it; else the run ends with this number.
-fn say<T: Threads + Sync, W: Write, N: Write, G: Watcher>(
+/// What is to be said of the snapshot; the watcher is told of it while it is decided.
+fn decide<T: Threads + Sync, G: Watcher>(
     run: &Run<T, G>,
     snapshot: &LargeSnapshot,
-    out: &mut W,
-    notes: &mut N,
-) -> Result<Last<Outcome>, u8>
-    ensures { MatchResult result (SaysLast (course run.now.options.now) snapshot.now (W.contents out.old) (W.contents out.new))
-        (EndsAnswering (course run.now.options.now) snapshot.now (W.contents out.old) (W.contents out.new)) }
+) -> Result<Outcome, NoMemory>
+    ensures { IfOk result (IsTold (course run.now.options.now) snapshot.now) }
 {
     run.gate.begin(Stage::Deciding);
     let decided = Outcome::of(run, snapshot);
     run.gate.end();
-    let outcome = match decided {
-        Ok(outcome) => outcome,
-        Err(NoMemory) => return Err(print_memory(out, run.options.json)),
-    };
-    outcome.send(run.alloc, run.options.json, out)?;
-    outcome.note(run.alloc, snapshot, notes);
-    Ok(Last {
-        outcome,
-        transactions: snapshot.transactions(),
-    })
+    decided
 }
 
-/// Says at a seal what is to be said of the snapshot, and keeps it: what was said last, if nothing was finished since. Else the run
-/// ends with this number.
-fn say_again<T: Threads + Sync, W: Write, N: Write, G: Watcher>(
+/// Says at a moment of the recording what is to be said of the snapshot, and keeps it: what was said last, if nothing was finished
+/// since. Else the run ends with this number.
+fn say<T: Threads + Sync, W: Write, N: Write, G: Watcher>(
     run: &Run<T, G>,
+    moment: Moment,
     snapshot: &LargeSnapshot,
     last: Option<Last<Outcome>>,
     out: &mut W,
     notes: &mut N,
 ) -> Result<Last<Outcome>, u8>
-    ensures { IsStill (course run.now.options.now) snapshot.now last
-        → MatchResult result (SaysAgain (course run.now.options.now) snapshot.now last (W.contents out.old) (W.contents out.new))
-        (EndsAgain (course run.now.options.now) snapshot.now last (W.contents out.old) (W.contents out.new)) }
+    ensures { SaysAt (course run.now.options.now) moment snapshot.now last (W.contents out.old) (W.contents out.new) result }
 {
     match again(last, snapshot.transactions()) {
-        Ok(last) => {
-            last.outcome.send(run.alloc, run.options.json, out)?;
-            last.outcome.note(run.alloc, snapshot, notes);
-            Ok(last)
-        }
+        Ok(last) => say_again(run, moment, snapshot, last, out, notes),
         Err(earlier) => {
             // One answer is held at a time.
             drop(earlier);
-            say(run, snapshot, out, notes)
-        }
-    }
-}
-
-/// Says at the end what is to be said of the snapshot, unless it was said last, and keeps it; else the run ends with this
-/// number.
-fn say_last<T: Threads + Sync, W: Write, N: Write, G: Watcher>(
-    run: &Run<T, G>,
-    snapshot: &LargeSnapshot,
-    last: Option<Last<Outcome>>,
-    out: &mut W,
-    notes: &mut N,
-) -> Result<Last<Outcome>, u8>
-    ensures said { IfSome last (λ last. last.transactions ≡ transaction_count snapshot.now → (W.contents out.new ≡ W.contents out.old)
-        × (result ≡ Ok last)) }
-    ensures due { IfSome last (λ last. last.transactions ≢ transaction_count snapshot.now)
-        → MatchResult result (SaysLast (course run.now.options.now) snapshot.now (W.contents out.old) (W.contents out.new))
-        (EndsAnswering (course run.now.options.now) snapshot.now (W.contents out.old) (W.contents out.new)) }
-{
-    match again(last, snapshot.transactions()) {
-        Ok(last) => Ok(last),
-        Err(earlier) => {
-            drop(earlier);
-            say(run, snapshot, out, notes)
+            say_anew(run, snapshot, decide(run, snapshot), out, notes)
         }
     }
 }
@@ -143,13 +102,12 @@ fn answer_all<R: Read + Drop, T: Threads + Sync, W: Write, N: Write, G: Watcher>
     let mut last: Option<Last<Outcome>> = None;
     'moments: for _turn in 0..u64::MAX {
         match read_on(run.alloc, recording, run.gate) {
-            Ok(Moment::Seal) => {
-                let snapshot = recording.snapshot();
-                let said = say_again(run, snapshot, last, out, notes)?;
-                last = Some(said);
-            }
-            Ok(Moment::End) => {
-                return say_last(run, recording.snapshot(), last, out, notes);
+            Ok(moment) => {
+                let said = say(run, moment, recording.snapshot(), last, out, notes)?;
+                match moment {
+                    Moment::Seal => last = Some(said),
+                    Moment::End => return Ok(said),
+                }
             }
             Err(fault) => {
                 return Err(stop(run.alloc, recording, fault, run.options.json, out, notes));

@@ -34,8 +34,9 @@ use Rattle.tcc_print.specs.declared.halt.Halt.{Halt}
 use Rattle.tcc_print.specs.declared.halt.Halt.TheVariants as halt
 use Rattle.tcc_print.specs.declared.last.Last.{Last}
 use Rattle.tcc_print.specs.declared.status.Status.TheVariants.{Memory}
-use Rattle.tcc_print.specs.private.Courses.{AllAnswered, Course, EndsAgain, EndsAnswering, EndsEarly, EndsSaying, IsFor, IsStill, IsTold}
-use Rattle.tcc_print.specs.private.Courses.{Repeats, SaysAgain, SaysLast}
+use Rattle.tcc_print.specs.Saying.{Course, EndsAgain, EndsAnswering, EndsSaying, IsFor, IsStill, IsTold}
+use Rattle.tcc_print.specs.private.Courses.{AllAnswered, EndsEarly}
+use Rattle.tcc_print.specs.Saying.{Repeats, SaysAgain, SaysLast}
 use Rattle.tcc_print.proofs.LastSaid.{last_snapshot}
 use Rattle.tcc_print.proofs.Moments.{AreSaid-push, all-fault, all-items, at_end-due, at_end-none, due-passed, due-seal}
 use Rattle.tcc_print.proofs.Moments.{finished-seal, first-taken, last-push, part-of, same-passed, sealed-passed, sealed-seal, still_due}

@@ -6,4 +6,5 @@ pub mod Moments
 pub mod Courses
 pub mod LastSaid
 pub mod Saying
+pub mod AtMoments
 pub mod Noted

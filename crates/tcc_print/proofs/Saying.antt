@@ -1,11 +1,13 @@
 -- What is said of one snapshot, where a write fails, or where it was said before.
 use Rattle.std.proofs.Common.{ℕ, ◌≡◌, ◌≢◌, inl, inr, refl, subst, sym, List, Option, None, Some, Result, Ok, Err, MatchResult}
 use Rattle.std.specs.Prelude.{IfSome}
+use Rattle.tcc_rows.specs.declared.recording.Moment.{Moment}
+use Rattle.tcc_rows.specs.declared.recording.Moment.TheVariants as moment
 use Rattle.tcc_txn.specs.Finished.{transaction_count}
 use Rattle.tcc_txn.specs.Snapshots.{Sessions}
 use Rattle.tcc_print.specs.Courses.{Said}
 use Rattle.tcc_print.specs.Printed.{EndsIn}
-use Rattle.tcc_print.specs.private.Courses.{Course, EndsAgain, EndsAnswering, EndsSaying, IsStill, IsTold, Repeats, SaysAgain, SaysLast}
+use Rattle.tcc_print.specs.Saying.{Course, EndsAgain, EndsAnswering, EndsSaying, IsStill, IsTold, Repeats, SaysAgain, SaysAt, SaysLast}
 use Rattle.tcc_print.specs.declared.last.Last.{Last}
 
 -- where writing what is said of the snapshot fails, the run ends in it
@@ -37,3 +39,18 @@ pub says_anew : {O : Type 0} (course : Course O) (s : Sessions) (last : Option (
 says_anew course s last before after (Ok now) apart says = (says, repeats_nothing course s last (course.say now.outcome) apart)
 says_anew course s last before after (Err code) apart (inl (said, is, holds, cut)) = inl (said, is, repeats_nothing course s last said apart, cut)
 says_anew course s last before after (Err code) apart (inr memory) = inr memory
+
+-- ---- at a moment of the recording
+
+-- behind which nothing was finished
+pub says_still : {O : Type 0} (course : Course O) (m : Moment) (s : Sessions) (last : Option (Last O)) (same : Last O) (before after : Option (List ℕ))
+    (r : Result (Last O) ℕ) → last ≡ Some same → SaysAt course m s (Some same) before after r → SaysAt course m s last before after r
+says_still course m s last same before after r is says = subst (λ l. SaysAt course m s l before after r) (sym is) says
+
+-- before which something was
+pub says_at : {O : Type 0} (course : Course O) (m : Moment) (s : Sessions) (last : Option (Last O)) (before after : Option (List ℕ)) (r : Result (Last O) ℕ)
+    → IfSome last (λ last. last.transactions ≢ transaction_count s)
+    → MatchResult r (SaysLast course s before after) (EndsAnswering course s before after) → SaysAt course m s last before after r
+says_at course moment.Seal s last before after r apart says = λ still. says_anew course s last before after r apart says
+says_at course moment.End s None before after r apart says = (tt, λ _. says)
+says_at course moment.End s (Some last) before after r apart says = ((λ same. absurd (apart same)), λ _. says)

@@ -4,6 +4,7 @@ pub mod Texts
 pub mod Json
 pub mod Moments
 pub mod Courses
+pub mod Saying
 pub mod Halts
 pub mod Printed
 pub mod Large

@@ -10,6 +10,7 @@ pub mod notes;
 mod options;
 pub mod printing;
 pub mod status;
+mod telling;
 pub mod texts;
 mod verdicts;
 
@@ -17,4 +18,5 @@ pub use halt::Halt;
 pub use last::{Last, again};
 pub use options::{Options, Run};
 pub use status::Status;
+pub use telling::{Statement, say_again, say_anew};
 pub use verdicts::{accepted_text, rejected_text, verdict_text};

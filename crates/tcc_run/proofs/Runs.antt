@@ -7,7 +7,8 @@ use Rattle.tcc_answer.specs.declared.answer.Answer.{Answer}
 use Rattle.tcc_print.specs.Courses.{Contents, Gains, faults_said, texts}
 use Rattle.tcc_print.specs.declared.last.Last.{Last}
 use Rattle.tcc_print.specs.declared.options.Options.{Options}
-use Rattle.tcc_print.specs.private.Courses.{AllAnswered, EndsEarly, IsTold}
+use Rattle.tcc_print.specs.Saying.{IsTold}
+use Rattle.tcc_print.specs.private.Courses.{AllAnswered, EndsEarly}
 use Rattle.tcc_print.proofs.Courses.{Gains-none}
 use Rattle.tcc_run.specs.Runs.{IsRun, IsSaidOfSnapshot}
 use Rattle.tcc_run.specs.declared.outcome.Outcome.{Outcome}

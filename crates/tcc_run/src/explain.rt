@@ -1,20 +1,19 @@
 //! From the bytes of records to their answers: at each seal, and at the end.
-ghost use Rattle.std.specs.Prelude.{◌≡◌, ◌≢◌, ◌<◌, ◌≤◌, ℕ, List, [], true, false, None, Some, Ok, IfOk, IfSome, MatchResult, OnErr, OnOk, option_map};
+ghost use Rattle.std.specs.Prelude.{◌≡◌, ℕ, List, [], None, IfOk, IfSome, MatchResult, OnErr, OnOk, option_map};
 ghost use Rattle.tcc_rows.specs.Ahead.{fault_met};
 ghost use Rattle.tcc_rows.specs.Answers.{answers_of, records_of};
-ghost use Rattle.tcc_txn.specs.Finished.{transaction_count};
 ghost use Rattle.tcc_rows.specs.Reached.{IsWithin};
 ghost use Rattle.tcc_rows.specs.Recordings.{IsRecording};
 ghost use Rattle.tcc_txn.specs.declared.limits.Limits.TheVariants.{Small};
 ghost use Rattle.tcc_cert.specs.Texts.{certificate_text};
 ghost use Rattle.tcc_answer.specs.Claims.{certificate_of};
-ghost use Rattle.tcc_print.specs.Printed.{Prints, memory_line};
 ghost use Rattle.tcc_print.specs.Courses.{Gains};
-ghost use Rattle.tcc_print.specs.private.Courses.{AllAnswered, EndsAgain, EndsAnswering, EndsEarly, IsStill, SaysAgain, SaysLast};
+ghost use Rattle.tcc_print.specs.Saying.{SaysAt};
+ghost use Rattle.tcc_print.specs.private.Courses.{AllAnswered, EndsEarly};
 ghost use Rattle.tcc_run.specs.Runs.{GainsPart, IsRun};
 ghost use Rattle.tcc_run.specs.private.Stages.{Concludes, Follows, course};
 
-use crate::outcome::Outcome;
+use crate::outcome::{Outcome, anomaly_of};
 use std::alloc::Global;
 use std::io::{Read, Write};
 use std::thread::Threads;
@@ -23,15 +22,16 @@ use tcc_explain::{Answer, Gate};
 use tcc_print::notes::note_last;
 use tcc_print::printing::{print_device, print_memory};
 use tcc_print::status::last_status;
-use tcc_print::{Last, Options, Run, again};
+use tcc_print::{Last, Options, Run, again, say_again, say_anew};
 use tcc_rows::{Moment, Recording};
 use tcc_txn::{NoMemory, Snapshot};
 use tcc_verdict::stop;
 
-/// Says what is to be said of the snapshot, as text or as a line of JSON, and keeps it; after an anomaly that was said last the search
-/// begins with what it costs now. Else the run ends with this number.
+/// Says at a moment of the recording what is to be said of the snapshot, and keeps it: what was said last, if nothing was finished
+/// since. Else the run ends with this number.
 fn say<T: Threads + Sync, W: Write, N: Write, G: Gate>(
     run: &Run<T, G>,
+    moment: Moment,
     snapshot: &Snapshot,
     last: Option<Last<Outcome>>,
     out: &mut W,
@@ -39,70 +39,16 @@ fn say<T: Threads + Sync, W: Write, N: Write, G: Gate>(
 ) -> Result<Last<Outcome>, u8>
     requires earlier { IfSome last (Follows run.now.options.now.level snapshot.now) }
     ensures earlier { IfOk result (Follows run.now.options.now.level snapshot.now) }
-    ensures said { MatchResult result (SaysLast (course run.now.options.now) snapshot.now (W.contents out.old) (W.contents out.new))
-        (EndsAnswering (course run.now.options.now) snapshot.now (W.contents out.old) (W.contents out.new)) }
-{
-    let mut earlier = None;
-    if let Some(last) = last {
-        // One answer is held at a time: the tables of a large history fill much memory.
-        earlier = last.outcome.into_anomaly(run.alloc);
-    }
-    let outcome = match Outcome::of(run, snapshot, earlier) {
-        Ok(outcome) => outcome,
-        Err(NoMemory) => return Err(print_memory(out, run.options.json)),
-    };
-    outcome.send(run.alloc, run.options.json, out)?;
-    outcome.note(run.alloc, snapshot, notes);
-    Ok(Last {
-        outcome,
-        transactions: snapshot.transactions(),
-    })
-}
-
-/// Says at a seal what is to be said of the snapshot, and keeps it: what was said last, if nothing was finished since. Else the run
-/// ends with this number.
-fn say_again<T: Threads + Sync, W: Write, N: Write, G: Gate>(
-    run: &Run<T, G>,
-    snapshot: &Snapshot,
-    last: Option<Last<Outcome>>,
-    out: &mut W,
-    notes: &mut N,
-) -> Result<Last<Outcome>, u8>
-    requires earlier { IfSome last (Follows run.now.options.now.level snapshot.now) }
-    ensures earlier { IfOk result (Follows run.now.options.now.level snapshot.now) }
-    ensures said { IsStill (course run.now.options.now) snapshot.now last
-        → MatchResult result (SaysAgain (course run.now.options.now) snapshot.now last (W.contents out.old) (W.contents out.new))
-        (EndsAgain (course run.now.options.now) snapshot.now last (W.contents out.old) (W.contents out.new)) }
+    ensures said { SaysAt (course run.now.options.now) moment snapshot.now last (W.contents out.old) (W.contents out.new) result }
 {
     match again(last, snapshot.transactions()) {
-        Ok(last) => {
-            last.outcome.send(run.alloc, run.options.json, out)?;
-            last.outcome.note(run.alloc, snapshot, notes);
-            Ok(last)
+        Ok(last) => say_again(run, moment, snapshot, last, out, notes),
+        Err(last) => {
+            // One answer is held at a time: the tables of a large history fill much memory.
+            let earlier = anomaly_of(run.alloc, last);
+            let found = Outcome::of(run, snapshot, earlier);
+            say_anew(run, snapshot, found, out, notes)
         }
-        Err(last) => say(run, snapshot, last, out, notes),
-    }
-}
-
-/// Says at the end what is to be said of the snapshot, unless it was said last, and keeps it; else the run ends with this
-/// number.
-fn say_last<T: Threads + Sync, W: Write, N: Write, G: Gate>(
-    run: &Run<T, G>,
-    snapshot: &Snapshot,
-    last: Option<Last<Outcome>>,
-    out: &mut W,
-    notes: &mut N,
-) -> Result<Last<Outcome>, u8>
-    requires earlier { IfSome last (Follows run.now.options.now.level snapshot.now) }
-    ensures said { IfSome last (λ last. last.transactions ≡ transaction_count snapshot.now → (W.contents out.new ≡ W.contents out.old)
-        × (result ≡ Ok last)) }
-    ensures due { IfSome last (λ last. last.transactions ≢ transaction_count snapshot.now)
-        → MatchResult result (SaysLast (course run.now.options.now) snapshot.now (W.contents out.old) (W.contents out.new))
-        (EndsAnswering (course run.now.options.now) snapshot.now (W.contents out.old) (W.contents out.new)) }
-{
-    match again(last, snapshot.transactions()) {
-        Ok(last) => Ok(last),
-        Err(last) => say(run, snapshot, last, out, notes),
     }
 }
 
@@ -122,13 +68,12 @@ fn answer_all<R: Read + Drop, T: Threads + Sync, W: Write, N: Write, G: Gate>(
     let mut last: Option<Last<Outcome>> = None;
     'moments: for _turn in 0..u64::MAX {
         match recording.advance(run.alloc) {
-            Ok(Moment::Seal) => {
-                let snapshot = recording.snapshot();
-                let said = say_again(run, snapshot, last, out, notes)?;
-                last = Some(said);
-            }
-            Ok(Moment::End) => {
-                return say_last(run, recording.snapshot(), last, out, notes);
+            Ok(moment) => {
+                let said = say(run, moment, recording.snapshot(), last, out, notes)?;
+                match moment {
+                    Moment::Seal => last = Some(said),
+                    Moment::End => return Ok(said),
+                }
             }
             Err(fault) => {
                 return Err(stop(run.alloc, recording, fault, run.options.json, out, notes));

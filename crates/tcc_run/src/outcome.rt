@@ -1,13 +1,10 @@
 //! What is said of a snapshot: its answer, or all its read faults.
-ghost use Rattle.std.specs.Prelude.{◌≡◌, IfErr, IfOk, IfSome, MatchResult, OnOk};
-ghost use Rattle.std.specs.Io.KnownBytes.{Appends};
-ghost use Rattle.tcc_txn.specs.Finished.{KeepsLimits};
+ghost use Rattle.std.specs.Prelude.{◌≡◌, IfOk, IfSome, MatchResult};
 ghost use Rattle.tcc_txn.specs.Snapshots.{Sessions};
 ghost use Rattle.tcc_graph.specs.declared.level.Level.{Level};
 ghost use Rattle.tcc_explain.specs.Explained.{IsAnswerOfSnapshot, IsRefusal};
-ghost use Rattle.tcc_print.specs.Printed.{EndsIn};
-ghost use Rattle.tcc_print.specs.private.Courses.{IsTold};
-ghost use Rattle.tcc_run.specs.private.Stages.{HasEarlier, IsEarlier, IsOutcome, answer_in, course, outcome_text};
+ghost use Rattle.tcc_print.specs.Saying.{IsTold};
+ghost use Rattle.tcc_run.specs.private.Stages.{Follows, HasEarlier, IsEarlier, answer_in, course};
 
 use crate::headline::{explain_snapshot, explain_snapshot_next};
 use std::alloc::Global;
@@ -15,9 +12,8 @@ use std::io::Write;
 use std::thread::Threads;
 use tcc_explain::laws::grown;
 use tcc_explain::{Anomaly, Answer, ExplainFault, Gate, NextFault};
-use tcc_print::Run;
-use tcc_print::notes::note_reads;
 use tcc_print::printing::{send_answer, send_unresolved};
+use tcc_print::{Last, Options, Run, Statement};
 use tcc_reads::ReadFault;
 use tcc_txn::{NoMemory, Snapshot};
 
@@ -30,13 +26,6 @@ pub(crate) enum Outcome {
         /// The anomaly that was answered last, if there was one; it is still one once these reads are resolved.
         earlier: Option<Anomaly>,
     },
-}
-
-/// Snapshots keep the limits.
-fn keeps_limits(snapshot: &Snapshot)
-    ensures { KeepsLimits snapshot.now }
-{
-    let _sessions = snapshot.sessions();
 }
 
 /// The answer for a snapshot at the level; after an anomaly the search begins with what that one costs now.
@@ -60,7 +49,7 @@ fn work_out<T: Threads + Sync, G: Gate>(
         );
     };
     grown();
-    keeps_limits(snapshot);
+    snapshot.keeps_limits();
     match explain_snapshot_next(
         run.rt,
         run.alloc,
@@ -87,41 +76,10 @@ impl Outcome {
         ensures told { IfOk result (IsTold (course run.now.options.now) snapshot.now) }
         ensures earlier { IfOk result (HasEarlier run.now.options.now.level snapshot.now) }
     {
-        Outcome::of_snapshot(run, snapshot, earlier)
-    }
-
-    /// What is to be said of the snapshot at the level, worked out by so many workers.
-    fn of_snapshot<T: Threads + Sync, G: Gate>(
-        run: &Run<T, G>,
-        snapshot: &Snapshot,
-        earlier: Option<Anomaly>,
-    ) -> Result<Outcome, NoMemory>
-        requires earlier { IfSome earlier (IsEarlier run.now.options.now.level snapshot.now) }
-        ensures outcome { IfOk result (IsOutcome run.now.options.now.level snapshot.now) }
-        ensures earlier { IfOk result (HasEarlier run.now.options.now.level snapshot.now) }
-    {
         match work_out(run, snapshot, &earlier) {
             Ok(answer) => Ok(Outcome::Answered(answer)),
             Err(ExplainFault::Reads(faults)) => Ok(Outcome::Unresolved { faults, earlier }),
             Err(ExplainFault::NoMemory) => Err(NoMemory),
-        }
-    }
-
-    /// Writes it as text or as a line of JSON; else the run ends with this number.
-    pub(crate) fn send<W: Write>(&self, alloc: Global, json: bool, out: &mut W) -> Result<(), u8>
-        ensures whole { OnOk result (Appends (W.contents out.old) (W.contents out.new) (outcome_text json self.now)) }
-        ensures ended { IfErr result (EndsIn json (W.contents out.old) (W.contents out.new) (outcome_text json self.now)) }
-    {
-        match self {
-            Outcome::Answered(answer) => send_answer(alloc, answer, json, out),
-            Outcome::Unresolved { faults, .. } => send_unresolved(alloc, faults, json, out),
-        }
-    }
-
-    /// Notes of the first read faults which write each of them is about.
-    pub(crate) fn note<N: Write>(&self, alloc: Global, snapshot: &Snapshot, notes: &mut N) {
-        if let Outcome::Unresolved { faults, .. } = self {
-            note_reads(alloc, snapshot, faults, notes);
         }
     }
 
@@ -144,5 +102,38 @@ impl Outcome {
             Outcome::Answered(Answer::Anomaly(anomaly)) => Some(anomaly.without_tables(alloc)),
             Outcome::Unresolved { earlier, .. } => earlier,
         }
+    }
+}
+
+impl Statement for Outcome {
+    ghost use Rattle.std.specs.Prelude.{refl};
+    ghost use Rattle.tcc_run.specs.private.Stages.{course};
+
+    ghost course = { course };
+
+    fn send<W: Write>(&self, alloc: Global, options: &Options, out: &mut W) -> Result<(), u8> {
+        match self {
+            Outcome::Answered(answer) => send_answer(alloc, answer, options.json, out),
+            Outcome::Unresolved { faults, .. } => send_unresolved(alloc, faults, options.json, out),
+        }
+    }
+
+    fn read_faults(&self) -> &[ReadFault] {
+        match self {
+            Outcome::Answered(_) => &[],
+            Outcome::Unresolved { faults, .. } => faults,
+        }
+    }
+
+    ghost asked = { λ options. refl };
+}
+
+/// The anomaly that was said last, or before read faults that were; none where there was none.
+pub(crate) fn anomaly_of(alloc: Global, last: Option<Last<Outcome>>) -> Option<Anomaly>
+    ensures { (level : Level) (s : Sessions) → IfSome last (Follows level s) → IfSome result (IsEarlier level s) }
+{
+    match last {
+        Some(last) => last.outcome.into_anomaly(alloc),
+        None => None,
     }
 }

@@ -20,6 +20,8 @@ use Rattle.tcc_answer.specs.Claims.{certificate_of}
 use Rattle.tcc_answer.specs.Labels.{labels_of}
 use Rattle.tcc_answer.specs.declared.answer.Answer.{Answer}
 use Rattle.tcc_answer.specs.declared.answer.Answer.TheVariants as answer
+use Rattle.tcc_answer.specs.declared.fault.WriteFault.{WriteFault}
+use Rattle.tcc_answer.specs.declared.fault.WriteFault.TheVariants as write
 use Rattle.tcc_explain.specs.Explained.{IsAnswerOfHistory}
 use Rattle.tcc_graph.specs.Levels.{judged}
 use Rattle.tcc_judge.specs.Claims.{links_claim_of}
@@ -33,7 +35,7 @@ use Rattle.tcc_print.specs.Statuses.{answer_status, code_of}
 use Rattle.tcc_print.specs.declared.options.Options.{Options}
 use Rattle.tcc_print.specs.declared.status.Status.{Status}
 use Rattle.tcc_print.specs.declared.status.Status.TheVariants.{Anomaly, Device, Memory, ReadFaults}
-use Rattle.tcc_print.specs.private.Courses.{Course}
+use Rattle.tcc_print.specs.Saying.{Course}
 use Rattle.tcc_large_run.specs.LargeRuns.{CertificateStops, Files, IsCertified, IsProvedLeast, IsSaidOfSnapshot, IsSliceText, IsSliced, SliceStops, Stops, bare_cycle, bare_order, claim_of, proved_claim, short_runs}
 use Rattle.tcc_large_run.specs.declared.outcome.Outcome.{Outcome}
 use Rattle.tcc_large_run.specs.declared.outcome.Outcome.TheVariants as outcome
@@ -142,23 +144,16 @@ course options = record {
 
 -- ---- the certificate
 
--- a certificate of version 3 went into the file; or a write of it failed, or memory was out, which is said
-abbrev pub SendsClaim : {A : Type 0} → Bool → LargeCertificate → Result A ℕ → Option (List ℕ) → Option (List ℕ) → Option (List ℕ) → Option (List ℕ) → Type 0
-SendsClaim json claim (Ok done) before after file file' = (after ≡ before) × Appends file file' (large_certificate_text claim)
-SendsClaim json claim (Err code) before after file file' =
-    (((n : ℕ) × Appends file file' (take n (large_certificate_text claim))) × Prints before after (device_line json) Device code)
-    ⊎ (Appends file file' [] × Prints before after (memory_line json) Memory code)
+-- the certificate, if there is one, went into the file; or a device failed, and a part of it did, from its front; or, of a version 3,
+-- memory was out
+abbrev pub SendsCertificate : {A : Type 0} → Option (List ℕ) → Result A WriteFault → Option (List ℕ) → Option (List ℕ) → Type 0
+SendsCertificate certificate (Ok done) file file' = Appends file file' (unwrap_or certificate [])
+SendsCertificate certificate (Err write.Device) file file' =
+    (text : List ℕ) × (certificate ≡ Some text) × ((n : ℕ) × Appends file file' (take n text))
+SendsCertificate certificate (Err write.NoMemory) file file' =
+    (claim : LargeCertificate) × (certificate ≡ Some (large_certificate_text claim)) × Appends file file' []
 
--- so with the certificate of what was said
-abbrev pub SendsCertificate : {A : Type 0} → Options → Said → Result A ℕ → Option (List ℕ) → Option (List ℕ) → Option (List ℕ) → Option (List ℕ) → Type 0
-SendsCertificate options last (Ok done) before after file file' = (after ≡ before) × Appends file file' (unwrap_or last.certificate [])
-SendsCertificate options last (Err code) before after file file' =
-    ((text : List ℕ) × (last.certificate ≡ Some text) × ((n : ℕ) × Appends file file' (take n text))
-    × Prints before after (device_line options.json) Device code)
-    ⊎ ((claim : LargeCertificate) × (last.certificate ≡ Some (large_certificate_text claim)) × Appends file file' []
-    × Prints before after (memory_line options.json) Memory code)
-
--- and in a file that may be given
+-- the certificate of what was said went into the file that may be given for it; or the run stopped there, which is said
 abbrev pub WritesCertificate : {A : Type 0} → Options → Said → Result A ℕ → Option (List ℕ) → Option (List ℕ) → Contents → Contents → Type 0
 WritesCertificate options last (Ok done) before after file file' = (after ≡ before) × Gains file file' (unwrap_or last.certificate [])
 WritesCertificate options last (Err code) before after file file' = CertificateStops options last before after file file' code
@@ -174,7 +169,7 @@ SendsSlice options whole links (Err code) before after file file' =
     × Prints before after (device_line options.json) Device code)
     ⊎ (Appends file file' [] × Prints before after (memory_line options.json) Memory code)
 
--- the same of a file that may be given, where it is the slice of what was said
+-- the slice of what was said went into the file that may be given for it; or the run stopped there, which is said
 abbrev pub WritesSlice : {A : Type 0} → Options → Sessions → Said → Result A ℕ → Option (List ℕ) → Option (List ℕ) → Contents → Contents → Type 0
 WritesSlice options whole last (Ok done) before after file file' = (after ≡ before) × IsSliced options whole last file file'
 WritesSlice options whole last (Err code) before after file file' = SliceStops options whole last before after file file' code
@@ -185,7 +180,7 @@ WritesFiles options whole last (Ok done) before after files files' =
     (after ≡ before) × IsCertified last files files' × IsSliced options whole last files.slice files'.slice
 WritesFiles options whole last (Err code) before after files files' = Stops options whole last before after files files' code
 
--- so at the end of a run
+-- at the end of a run nothing more is said, and the files get the certificate and the slice of what was said last; or one of them stops
 abbrev pub Concludes : Options → Sessions → Said → Option (List ℕ) → Option (List ℕ) → Files → Files → ℕ → Type 0
 Concludes options whole last before after files files' code =
     ((after ≡ before) × IsCertified last files files' × IsSliced options whole last files.slice files'.slice × (code ≡ code_of last.status))

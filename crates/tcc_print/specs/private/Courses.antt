@@ -1,66 +1,14 @@
--- How the stages of a run follow one another, whatever its outcomes are.
-use Rattle.std.specs.Prelude.{ℕ, ◌≡◌, ◌⊎◌, List, Option, None, Some, IfSome}
+-- How a run goes on or ends, whatever its outcomes are.
+use Rattle.std.specs.Prelude.{ℕ, ◌≡◌, ◌⊎◌, List, Option, None, Some}
 use Rattle.std.specs.Io.KnownBytes.{Appends}
 use Rattle.std.specs.List.{last_or}
 use Rattle.tcc_rows.specs.Answers.{answers_within}
 use Rattle.tcc_rows.specs.Items.{finished_in}
-use Rattle.tcc_txn.specs.Finished.{transaction_count}
-use Rattle.tcc_txn.specs.Snapshots.{Sessions}
-use Rattle.tcc_txn.specs.declared.limits.Limits.{Limits}
 use Rattle.tcc_print.specs.Courses.{IsCourse, IsWhole, Said, texts}
-use Rattle.tcc_print.specs.Printed.{CutsOff, Prints, memory_line}
+use Rattle.tcc_print.specs.Printed.{CutsOff}
+use Rattle.tcc_print.specs.Saying.{Course}
 use Rattle.tcc_print.specs.Statuses.{code_of}
 use Rattle.tcc_print.specs.declared.last.Last.{Last}
-use Rattle.tcc_print.specs.declared.options.Options.{Options}
-use Rattle.tcc_print.specs.declared.status.Status.TheVariants.{Memory}
-
--- a run within limits: what may be said of a snapshot, what is known of an outcome of it, and what is said by each
-pub record Course (O : Type 0) : Type 1 where
-  pub limits : Limits
-  pub options : Options
-  pub is_said : Sessions → Said → Type 0
-  pub is_outcome : Sessions → O → Type 0
-  pub say : O → Said
-
--- ---- one answer
-
--- the outcome is one of this snapshot, of which it is said
-abbrev pub IsTold : {O : Type 0} → Course O → Sessions → O → Type 0
-IsTold course s o = course.is_said s (course.say o) × course.is_outcome s o
-
--- what was said last was said of this snapshot
-abbrev pub IsFor : {O : Type 0} → Course O → Sessions → Last O → Type 0
-IsFor course s last = (last.transactions ≡ transaction_count s) × IsTold course s last.outcome
-
--- what was said last, if anything was, is to be said of this snapshot too, if it was said for as many transactions
-abbrev pub IsStill : {O : Type 0} → Course O → Sessions → Option (Last O) → Type 0
-IsStill course s last = IfSome last (λ last. last.transactions ≡ transaction_count s → IsTold course s last.outcome)
-
--- this is what was said last, if anything was, if that was for as many transactions as the snapshot has
-abbrev pub Repeats : {O : Type 0} → Course O → Sessions → Option (Last O) → Said → Type 0
-Repeats course s last said = IfSome last (λ last. last.transactions ≡ transaction_count s → said ≡ course.say last.outcome)
-
--- what is to be said of the snapshot was said, and is what was said last from then on
-abbrev pub SaysLast : {O : Type 0} → Course O → Sessions → Option (List ℕ) → Option (List ℕ) → Last O → Type 0
-SaysLast course s before after last = IsFor course s last × Appends before after (course.say last.outcome).text
-
--- the run ended in what is said of a snapshot, of which this holds
-abbrev pub EndsSaying : {O : Type 0} → Course O → Sessions → (Said → Type 0) → Option (List ℕ) → Option (List ℕ) → ℕ → Type 0
-EndsSaying course s holds before after code =
-    ((said : Said) × course.is_said s said × holds said × CutsOff before after said.text code)
-    ⊎ Prints before after (memory_line course.options.json) Memory code
-
-abbrev pub EndsAnswering : {O : Type 0} → Course O → Sessions → Option (List ℕ) → Option (List ℕ) → ℕ → Type 0
-EndsAnswering course s before after code = EndsSaying course s (λ said. Unit {0}) before after code
-
--- the same after what was said last: where nothing was finished since, that was said again
-abbrev pub SaysAgain : {O : Type 0} → Course O → Sessions → Option (Last O) → Option (List ℕ) → Option (List ℕ) → Last O → Type 0
-SaysAgain course s last before after now = SaysLast course s before after now × Repeats course s last (course.say now.outcome)
-
-abbrev pub EndsAgain : {O : Type 0} → Course O → Sessions → Option (Last O) → Option (List ℕ) → Option (List ℕ) → ℕ → Type 0
-EndsAgain course s last before after code = EndsSaying course s (Repeats course s last) before after code
-
--- ---- a run
 
 -- all is answered, and this is what was said last, of all that was finished
 abbrev pub AllAnswered : {O : Type 0} → Course O → List ℕ → Option (List ℕ) → Option (List ℕ) → Last O → Type 0

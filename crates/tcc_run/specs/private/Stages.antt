@@ -14,7 +14,7 @@ use Rattle.tcc_explain.specs.Explained.{IsAnswerOfSnapshot}
 use Rattle.tcc_explain.specs.Next.{IsAnomalyOf}
 use Rattle.tcc_graph.specs.Levels.{judged}
 use Rattle.tcc_print.specs.Courses.{Contents, Gains, Said}
-use Rattle.tcc_print.specs.private.Courses.{Course}
+use Rattle.tcc_print.specs.Saying.{Course}
 use Rattle.tcc_print.specs.declared.last.Last.{Last}
 use Rattle.tcc_print.specs.declared.status.Status.TheVariants.{Device}
 use Rattle.tcc_print.specs.declared.options.Options.{Options}

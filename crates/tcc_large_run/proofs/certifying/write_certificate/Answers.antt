@@ -1,8 +1,15 @@
 use Rattle.tcc_large_run.specs.private.Stages.{outcome_said}
-use Rattle.tcc_large_run.proofs.Files.{certificate_given}
+use Rattle.tcc_large_run.proofs.Files.{device_stops, memory_stops}
 use Rattle.tcc_large_run.proofs.certifying.write_certificate.Goals as goal
 
-pub returns-in-Some : goal.returns-in-Some
-returns-in-Some g c =
+pub returns-in-Err-Device : goal.returns-in-Err-Device
+returns-in-Err-Device g c =
     rw c.in-Some.is
-    (certificate_given c.args.options.now (outcome_said c.args.options.now c.args.outcome.now) c.send_certificate.result _ _ _ _ c.send_certificate.ensures)
+    (device_stops c.args.options.now (outcome_said c.args.options.now c.args.outcome.now) _ _ _ _ c.in-Err-Device.field-0 c.print_device.result
+    c.in-Err-Device.field-0-is c.in-Err-Device.ensures c.print_device.ensures)
+
+pub returns-in-Err-NoMemory : goal.returns-in-Err-NoMemory
+returns-in-Err-NoMemory g c =
+    rw c.in-Some.is
+    (memory_stops c.args.options.now (outcome_said c.args.options.now c.args.outcome.now) _ _ _ _ c.in-Err-NoMemory.field-0 c.print_memory.result
+    c.in-Err-NoMemory.field-0-is c.in-Err-NoMemory.ensures c.print_memory.ensures)

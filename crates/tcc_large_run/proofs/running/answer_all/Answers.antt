@@ -1,8 +1,8 @@
 -- What comes of each moment of the recording.
-use Rattle.tcc_print.proofs.Courses.{ends-fault, ends-seal, finished-end, none-answered, says-end, says-seal, wants_memory}
+use Rattle.tcc_print.proofs.AtMoments.{ends-there, goes-on, has-ended}
+use Rattle.tcc_print.proofs.Courses.{ends-fault, finished-end, none-answered, wants_memory}
 use Rattle.tcc_large_run.specs.LargeRuns.{records_of}
 use Rattle.tcc_large_run.specs.private.Stages.{course}
-use Rattle.tcc_large_run.proofs.Runs.{on_ok}
 use Rattle.tcc_large_run.proofs.running.answer_all.Goals as goal
 
 pub moments-init : goal.moments-init
@@ -15,34 +15,28 @@ moments-init g c = record {
 
 pub moments-preserved : goal.moments-preserved
 moments-preserved g c = record {
-  way = λ text recording. says-seal g.R.Read.remaining (course c.args.run.now.options.now) text
-      c.moments.recording c.read_on.new.recording _ _ c.moments.last (c.moments.invariant.way text recording)
-      _ c.in-Ok-Seal.ensures.moment c.snapshot-snapshot.result.now c.snapshot-snapshot.ensures.finished c.in-Ok-Seal.field-0-is
-      c.in_ok-said-in-Ok-Seal.said _ c.in_ok-said-in-Ok-Seal.ensures;
-  within = λ records within. c.in-Ok-Seal.ensures.within records (c.moments.invariant.within records within);
-  going = λ none. c.in-Ok-Seal.ensures.goes_on;
+  way = λ text recording. goes-on (c.moments.invariant.way text recording) c.read_on.new.recording c.in-Ok.moment c.in-Ok.ensures.moment
+      c.snapshot.result.now c.snapshot.ensures.finished _ c.in-Seal.is c.in_ok-said-in-Ok.said c.in_ok-said-in-Ok.ensures;
+  within = λ records within. c.in-Ok.ensures.within records (c.moments.invariant.within records within);
+  going = λ none. c.in-Ok.ensures.goes_on;
 }
 
-pub returns-in_err-said-in-Ok-Seal-clause-answers : goal.returns-in_err-said-in-Ok-Seal-clause-answers
-returns-in_err-said-in-Ok-Seal-clause-answers g c text recording within fresh =
-    ends-seal g.R.Read.remaining (course c.args.run.now.options.now) text
-    c.moments.recording c.read_on.new.recording _ _ c.moments.last (c.moments.invariant.way text recording)
-    _ c.in-Ok-Seal.ensures.moment c.snapshot-snapshot.result.now c.snapshot-snapshot.ensures.finished c.in-Ok-Seal.field-0-is
-    c.from_residual.result c.in_err-said-in-Ok-Seal.field-0.0 _ c.from_residual.ensures.1 c.in_err-said-in-Ok-Seal.ensures
+pub returns-in_err-said-in-Ok-clause-answers : goal.returns-in_err-said-in-Ok-clause-answers
+returns-in_err-said-in-Ok-clause-answers g c text recording within fresh =
+    ends-there (c.moments.invariant.way text recording) c.read_on.new.recording c.in-Ok.moment c.in-Ok.ensures.moment
+    c.snapshot.result.now c.snapshot.ensures.finished _ c.from_residual.result c.in_err-said-in-Ok.field-0.0 c.from_residual.ensures.1
+    c.in_err-said-in-Ok.ensures
 
-pub returns-in-Ok-End-clause-answers : goal.returns-in-Ok-End-clause-answers
-returns-in-Ok-End-clause-answers g c text recording within fresh =
-    says-end g.R.Read.remaining (course c.args.run.now.options.now) text
-    c.moments.recording c.read_on.new.recording _ _ c.moments.last (c.moments.invariant.way text recording)
-    _ c.in-Ok-End.ensures.moment c.snapshot.result.now c.snapshot.ensures.finished c.in-Ok-End.field-0-is
-    _ c.say_last.result c.say_last.ensures.said c.say_last.ensures.due
+pub returns-in-End-clause-answers : goal.returns-in-End-clause-answers
+returns-in-End-clause-answers g c text recording within fresh =
+    has-ended (c.moments.invariant.way text recording) c.read_on.new.recording c.in-Ok.moment c.in-Ok.ensures.moment
+    c.snapshot.result.now c.snapshot.ensures.finished _ c.in-End.is c.in_ok-said-in-Ok.said c.in_ok-said-in-Ok.ensures
 
-pub returns-in-Ok-End-clause-finished : goal.returns-in-Ok-End-clause-finished
-returns-in-Ok-End-clause-finished g c text recording =
-    on_ok c.say_last.result
-    (finished-end g.R.Read.remaining (course c.args.run.now.options.now) text
+pub returns-in-End-clause-finished : goal.returns-in-End-clause-finished
+returns-in-End-clause-finished g c text recording =
+    finished-end g.R.Read.remaining (course c.args.run.now.options.now) text
     c.moments.recording c.read_on.new.recording _ _ c.moments.last (c.moments.invariant.way text recording)
-    _ c.in-Ok-End.ensures.moment c.snapshot.result.now c.snapshot.ensures.finished c.in-Ok-End.field-0-is)
+    c.in-Ok.moment c.in-Ok.ensures.moment c.snapshot.result.now c.snapshot.ensures.finished c.in-End.is
 
 pub returns-in-Err-clause-answers : goal.returns-in-Err-clause-answers
 returns-in-Err-clause-answers g c text recording within fresh =

@@ -2,7 +2,8 @@
 use Rattle.std.proofs.Common.{subst, sym}
 use Rattle.tcc_rows.specs.Answers.{records_of}
 use Rattle.tcc_txn.specs.Nested.{IsNested}
-use Rattle.tcc_print.proofs.Courses.{ends-fault, ends-seal, none-answered, says-end, says-seal, wants_memory}
+use Rattle.tcc_print.proofs.AtMoments.{ends-there, goes-on, has-ended}
+use Rattle.tcc_print.proofs.Courses.{ends-fault, none-answered, wants_memory}
 use Rattle.tcc_run.specs.private.Stages.{Follows, course}
 use Rattle.tcc_run.proofs.Earlier.{follows_on}
 use Rattle.tcc_run.proofs.explain.answer_all.Goals as goal
@@ -18,28 +19,23 @@ moments-init g c = record {
 
 pub moments-preserved : goal.moments-preserved
 moments-preserved g c = record {
-  way = λ text recording. says-seal g.R.Read.remaining (course c.args.run.now.options.now) text
-      c.moments.recording c.advance.new.self _ _ c.moments.last (c.moments.invariant.way text recording)
-      _ c.in-Ok-Seal.ensures.moment c.snapshot-snapshot.result.now c.snapshot-snapshot.ensures.finished c.in-Ok-Seal.field-0-is
-      c.in_ok-said-in-Ok-Seal.said _ c.in_ok-said-in-Ok-Seal.ensures.said;
-  within = λ records within. c.in-Ok-Seal.ensures.within records (c.moments.invariant.within records within);
-  earlier = subst (λ s. Follows c.args.run.now.options.now.level s c.in_ok-said-in-Ok-Seal.said) c.snapshot-snapshot.ensures.value c.in_ok-said-in-Ok-Seal.ensures.earlier;
-  going = λ none. c.in-Ok-Seal.ensures.goes_on;
+  way = λ text recording. goes-on (c.moments.invariant.way text recording) c.advance.new.self c.in-Ok.moment c.in-Ok.ensures.moment
+      c.snapshot.result.now c.snapshot.ensures.finished _ c.in-Seal.is c.in_ok-said-in-Ok.said c.in_ok-said-in-Ok.ensures.said;
+  within = λ records within. c.in-Ok.ensures.within records (c.moments.invariant.within records within);
+  earlier = subst (λ s. Follows c.args.run.now.options.now.level s c.in_ok-said-in-Ok.said) c.snapshot.ensures.value c.in_ok-said-in-Ok.ensures.earlier;
+  going = λ none. c.in-Ok.ensures.goes_on;
 }
 
-pub returns-in_err-said-in-Ok-Seal : goal.returns-in_err-said-in-Ok-Seal
-returns-in_err-said-in-Ok-Seal g c text recording within fresh =
-    ends-seal g.R.Read.remaining (course c.args.run.now.options.now) text
-    c.moments.recording c.advance.new.self _ _ c.moments.last (c.moments.invariant.way text recording)
-    _ c.in-Ok-Seal.ensures.moment c.snapshot-snapshot.result.now c.snapshot-snapshot.ensures.finished c.in-Ok-Seal.field-0-is
-    c.from_residual.result c.in_err-said-in-Ok-Seal.field-0.0 _ c.from_residual.ensures.1 c.in_err-said-in-Ok-Seal.ensures.said
+pub returns-in_err-said-in-Ok : goal.returns-in_err-said-in-Ok
+returns-in_err-said-in-Ok g c text recording within fresh =
+    ends-there (c.moments.invariant.way text recording) c.advance.new.self c.in-Ok.moment c.in-Ok.ensures.moment
+    c.snapshot.result.now c.snapshot.ensures.finished _ c.from_residual.result c.in_err-said-in-Ok.field-0.0 c.from_residual.ensures.1
+    c.in_err-said-in-Ok.ensures.said
 
-pub returns-in-Ok-End : goal.returns-in-Ok-End
-returns-in-Ok-End g c text recording within fresh =
-    says-end g.R.Read.remaining (course c.args.run.now.options.now) text
-    c.moments.recording c.advance.new.self _ _ c.moments.last (c.moments.invariant.way text recording)
-    _ c.in-Ok-End.ensures.moment c.snapshot.result.now c.snapshot.ensures.finished c.in-Ok-End.field-0-is
-    _ c.say_last.result c.say_last.ensures.said c.say_last.ensures.due
+pub returns-in-End : goal.returns-in-End
+returns-in-End g c text recording within fresh =
+    has-ended (c.moments.invariant.way text recording) c.advance.new.self c.in-Ok.moment c.in-Ok.ensures.moment
+    c.snapshot.result.now c.snapshot.ensures.finished _ c.in-End.is c.in_ok-said-in-Ok.said c.in_ok-said-in-Ok.ensures.said
 
 pub returns-in-Err : goal.returns-in-Err
 returns-in-Err g c text recording within fresh =
@@ -54,12 +50,7 @@ returns g c text recording within fresh =
     c.moments.recording c.moments.recording _ _ c.moments.last (c.moments.invariant.way text recording) _
     c.print_memory.result c.print_memory.ensures
 
-pub say_again-requires-clause-earlier : goal.say_again-requires-clause-earlier
-say_again-requires-clause-earlier g c κs within =
-    follows_on c.args.run.now.options.now.level c.moments.recording.snapshot c.snapshot-snapshot.result.now c.moments.last
-    (subst (IsNested c.moments.recording.snapshot) (sym c.snapshot-snapshot.ensures.value) c.in-Ok-Seal.ensures.continues) c.moments.invariant.earlier
-
-pub say_last-requires-clause-earlier : goal.say_last-requires-clause-earlier
-say_last-requires-clause-earlier g c κs within =
+pub say-requires-clause-earlier : goal.say-requires-clause-earlier
+say-requires-clause-earlier g c κs within =
     follows_on c.args.run.now.options.now.level c.moments.recording.snapshot c.snapshot.result.now c.moments.last
-    (subst (IsNested c.moments.recording.snapshot) (sym c.snapshot.ensures.value) c.in-Ok-End.ensures.continues) c.moments.invariant.earlier
+    (subst (IsNested c.moments.recording.snapshot) (sym c.snapshot.ensures.value) c.in-Ok.ensures.continues) c.moments.invariant.earlier

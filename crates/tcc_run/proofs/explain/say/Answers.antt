@@ -1,16 +1,17 @@
--- Where writing what is said fails, the run ends in it.
-use Rattle.tcc_print.specs.private.Courses.{EndsAnswering, SaysLast}
-use Rattle.tcc_print.proofs.Courses.{ended_by}
+-- What was said last is said again; where something was finished since, what is said is said anew.
+use Rattle.std.proofs.Common.{◌≢◌, ◌∙◌, subst}
+use Rattle.std.specs.Prelude.{IfSome}
+use Rattle.tcc_print.proofs.Saying.{says_at, says_still}
 use Rattle.tcc_run.specs.private.Stages.{course}
-use Rattle.tcc_print.proofs.Saying.{ends_sent}
 use Rattle.tcc_run.proofs.explain.say.Goals as goal
 
-pub returns-in_err-send-clause-said : goal.returns-in_err-send-clause-said
-returns-in_err-send-clause-said g c =
-    let s = c.args.snapshot.now in
-    let before = g.W.Write.contents c.args.out.now in
-    let after = g.W.Write.contents c.send.new.out in
-    ended_by (SaysLast (course c.args.run.now.options.now) s before after) (EndsAnswering (course c.args.run.now.options.now) s before after)
-    c.from_residual.result c.in_err-send.field-0.0 c.from_residual.ensures.1
-    (ends_sent (course c.args.run.now.options.now) s c.in-Ok.outcome (λ said. Unit {0}) before after c.in_err-send.field-0.0
-    c.in-Ok.ensures.told.0 tt c.in_err-send.ensures.ended)
+pub returns-in-Ok-clause-said : goal.returns-in-Ok-clause-said
+returns-in-Ok-clause-said g c =
+    says_still (course c.args.run.now.options.now) c.args.moment c.args.snapshot.now c.args.last c.in-Ok.last _ _ c.say_again.result c.in-Ok.ensures.0
+    (c.say_again.ensures.said (c.in-Ok.ensures.1 ∙ c.transactions.ensures.value))
+
+pub returns-in-Err-clause-said : goal.returns-in-Err-clause-said
+returns-in-Err-clause-said g c =
+    says_at (course c.args.run.now.options.now) c.args.moment c.args.snapshot.now c.args.last _ _ c.say_anew.result
+    (subst (λ n. IfSome c.args.last (λ last. last.transactions ≢ n)) c.transactions.ensures.value c.in-Err.ensures.1)
+    (c.say_anew.ensures.said c.of-found.ensures.told)

@@ -1,7 +1,17 @@
-use Rattle.std.proofs.lemmas.Result.{IfOk-weaker}
+use Rattle.std.proofs.Common.{subst}
+use Rattle.tcc_explain.specs.Explained.{IsRefusal}
+use Rattle.tcc_run.specs.declared.outcome.Outcome.TheVariants as outcome
+use Rattle.tcc_run.proofs.Earlier.{own_earlier}
 use Rattle.tcc_run.proofs.Runs.{told}
 use Rattle.tcc_run.proofs.outcome.Outcome.of.Goals as goal
 
-pub returns-clause-told : goal.returns-clause-told
-returns-clause-told g c =
-    IfOk-weaker c.of_snapshot.result _ _ (λ outcome is. told c.args.run.now.options.now c.args.snapshot.now outcome is) c.of_snapshot.ensures.outcome
+pub returns-in-Ok-clause-told : goal.returns-in-Ok-clause-told
+returns-in-Ok-clause-told g c = told c.args.run.now.options.now c.args.snapshot.now (outcome.Answered c.in-Ok.answer) c.in-Ok.ensures
+
+pub returns-in-Ok-clause-earlier : goal.returns-in-Ok-clause-earlier
+returns-in-Ok-clause-earlier g c = own_earlier c.args.run.now.options.now.level c.args.snapshot.now c.in-Ok.answer c.in-Ok.ensures.0 c.in-Ok.ensures.1
+
+pub returns-in-Err-Reads-clause-told : goal.returns-in-Err-Reads-clause-told
+returns-in-Err-Reads-clause-told g c =
+    let is = subst (IsRefusal c.args.snapshot.now) c.in-Err-Reads.field-0-is c.in-Err-Reads.ensures in
+    told c.args.run.now.options.now c.args.snapshot.now (outcome.Unresolved c.in-Err-Reads.faults c.args.earlier) (is.1, is.0)

@@ -1,0 +1,100 @@
+//! How a run says what it found for a snapshot, whatever that is.
+ghost use Rattle.std.specs.Prelude.{◌≡◌, IfErr, IfOk, MatchResult, Ok, OnOk, Some};
+ghost use Rattle.std.specs.Io.KnownBytes.{Appends};
+ghost use Rattle.tcc_txn.specs.Finished.{transaction_count};
+ghost use Rattle.tcc_print.specs.Printed.{EndsIn};
+ghost use Rattle.tcc_print.specs.Saying.{EndsAnswering, IsTold, SaysAt, SaysLast};
+
+use crate::last::Last;
+use crate::notes::note_reads;
+use crate::options::{Options, Run};
+use crate::printing::print_memory;
+use std::alloc::Global;
+use std::io::Write;
+use tcc_reads::ReadFault;
+use tcc_rows::Moment;
+use tcc_txn::{Bounds, NoMemory, SnapshotWithin};
+
+/// What a run may find for a snapshot, and say of it.
+pub trait Statement: Drop {
+    ghost use Rattle.std.specs.Prelude.{◌≡◌, IfErr, OnOk};
+    ghost use Rattle.std.specs.Io.KnownBytes.{Appends};
+    ghost use Rattle.tcc_print.specs.Printed.{EndsIn};
+    ghost use Rattle.tcc_print.specs.declared.options.Options.{Options};
+    ghost use Rattle.tcc_print.specs.Saying.{Course};
+
+    ghost course: { Options → Course Self };
+
+    /// Writes it as text or as a line of JSON; else the run ends with this number.
+    fn send<W: Write>(&self, alloc: Global, options: &Options, out: &mut W) -> Result<(), u8>
+        ensures whole { OnOk result (Appends (W.contents out.old) (W.contents out.new) ((course options.now).say self.now).text) }
+        ensures ended { IfErr result (EndsIn options.now.json (W.contents out.old) (W.contents out.new) ((course options.now).say self.now).text) };
+
+    /// The read faults that it tells; none where it tells an answer.
+    fn read_faults(&self) -> &[ReadFault];
+
+    ghost asked: { (options : Options) → (course options).options ≡ options };
+}
+
+/// Says it of the snapshot, and notes of the first read faults which write each of them is about; else the run ends with this number.
+fn tell<O: Statement, T, G, B: Bounds, W: Write, N: Write>(
+    run: &Run<T, G>,
+    snapshot: &SnapshotWithin<B>,
+    said: &O,
+    out: &mut W,
+    notes: &mut N,
+) -> Result<(), u8>
+    ensures whole { OnOk result (Appends (W.contents out.old) (W.contents out.new) ((O.course run.now.options.now).say said.now).text) }
+    ensures ended { IfErr result (EndsIn run.now.options.now.json (W.contents out.old) (W.contents out.new) ((O.course run.now.options.now).say said.now).text) }
+{
+    said.send(run.alloc, run.options, out)?;
+    note_reads(run.alloc, snapshot, said.read_faults(), notes);
+    Ok(())
+}
+
+/// Says what was found for the snapshot, and keeps it; else the run ends with this number.
+pub fn say_anew<O: Statement, T, G, B: Bounds, W: Write, N: Write>(
+    run: &Run<T, G>,
+    snapshot: &SnapshotWithin<B>,
+    found: Result<O, NoMemory>,
+    out: &mut W,
+    notes: &mut N,
+) -> Result<Last<O>, u8>
+    ensures kept { IfOk result (λ last. found ≡ Ok last.outcome) }
+    ensures said { IfOk found (IsTold (O.course run.now.options.now) snapshot.now)
+        → MatchResult result (SaysLast (O.course run.now.options.now) snapshot.now (W.contents out.old) (W.contents out.new))
+        (EndsAnswering (O.course run.now.options.now) snapshot.now (W.contents out.old) (W.contents out.new)) }
+{
+    match found {
+        Ok(outcome) => {
+            tell(run, snapshot, &outcome, out, notes)?;
+            Ok(Last {
+                outcome,
+                transactions: snapshot.transactions(),
+            })
+        }
+        Err(NoMemory) => Err(print_memory(out, run.options.json)),
+    }
+}
+
+/// Says again at a seal what was said last, since nothing was finished then; at the end it stands. Else the run ends with this number.
+pub fn say_again<O: Statement, T, G, B: Bounds, W: Write, N: Write>(
+    run: &Run<T, G>,
+    moment: Moment,
+    snapshot: &SnapshotWithin<B>,
+    last: Last<O>,
+    out: &mut W,
+    notes: &mut N,
+) -> Result<Last<O>, u8>
+    ensures kept { IfOk result (λ now. now ≡ last) }
+    ensures said { last.transactions ≡ transaction_count snapshot.now
+        → SaysAt (O.course run.now.options.now) moment snapshot.now (Some last) (W.contents out.old) (W.contents out.new) result }
+{
+    match moment {
+        Moment::Seal => {
+            tell(run, snapshot, &last.outcome, out, notes)?;
+            Ok(last)
+        }
+        Moment::End => Ok(last),
+    }
+}
