@@ -20,13 +20,13 @@ sys.path.insert(0, str(TOP / "tests"))
 from arguments import status_of_written  # noqa: E402
 from counted import Outcome  # noqa: E402
 from crates import stands_on  # noqa: E402
+from imports import imports  # noqa: E402
 
 CONTRACTS = TOP / "docs/CONTRACTS.md"
 PUBLIC_MODULE = re.compile(r"^pub mod (\w+);", re.MULTILINE)
 PASSED_ON = re.compile(r"^pub use (?!tcc_)[\w:]+::(\{[^}]*\}|\w+);", re.MULTILINE)
 METHODS = re.compile(r"impl(?:<[^>]*>)? (\w+)")
 CALL = re.compile(r"( *)pub (?:const )?fn (\w+)")
-CITED = re.compile(r"^ *ghost use Rattle\.(tcc_\w+\.specs\.[\w.]+?)(?:\.\{([^}]*)\}| as \w+);", re.MULTILINE)
 DEFINED = re.compile(r"^[a-z ]*\bpub (?:record |data )?([A-Za-z]\w*)", re.MULTILINE)
 SHAPE = re.compile(r"^[a-z ]*\bpub (?:record |data )?([A-Za-z]\w*) : Type \d+(?: where)?$", re.MULTILINE)
 CLAUSE = re.compile(r"^ *(?:requires|ensures)(?: \w+)? \{", re.MULTILINE)
@@ -101,8 +101,9 @@ def definitions(text: str) -> Set[str]:
     """The functions and relations of specs that a file brings in, also behind a word of its own; no shapes, and nothing of code."""
     files, shapes = defined()
     names: Set[str] = set()
-    for path, group in CITED.findall(text):
-        names |= set(NAME.findall(group)) & files.get(path, set()) if group else files.get(path, set())
+    for one in imports(text):
+        of_module = files.get("%s.specs.%s" % (one.crate, one.module), set())
+        names |= {one.name} & of_module if one.name else of_module
     return names - shapes
 
 

@@ -11,6 +11,7 @@ import re
 from typing import Dict, FrozenSet, Iterator, List, NamedTuple, Optional, Set, Tuple
 
 from counted import Outcome
+from imports import LINE, Import, imports
 
 TOP = pathlib.Path(__file__).resolve().parent.parent.parent
 CRATES = TOP / "crates"
@@ -21,7 +22,6 @@ METHODS = re.compile(r"impl(?:<[^>]*>)? (?:Model for )?(\w+)")
 CALL = re.compile(r"( *)(pub )?(?:const )?fn (\w+)")
 VALUE = re.compile(r" *ghost Value = \{(.*)\};")
 OPENS_BODY = re.compile(r" *(?:\)|(?:pub )?(?:const )?fn ).*[{;]$")
-IMPORT = re.compile(r"^ *(?:pub |ghost )*use Rattle\.(tcc_\w+)\.specs\.((?:private\.)?[A-Z]\w*)(?:\.\{([^}]*)\}| as (\w+))", re.MULTILINE)
 HEAD = re.compile(r"(?:abbrev |unfoldable )?pub (?:record |data )?([\w'-]+)")
 WORD = re.compile(r"[^\W\d][\w'-]*(?:\.[^\W\d][\w'-]*)*|◌?[^\s\w()\[\]{},;.]+")
 # Modules whose calls stand behind public ones about the process's own words and files, of which no clause can speak.
@@ -43,18 +43,22 @@ class Definition(NamedTuple):
         return "%s of %s/specs/%s.antt" % (self.name, self.crate, self.module.replace(".", "/"))
 
 
+def written(text: str) -> List[Import]:
+    """What a file brings in that stands in a file of specs; what code declares doesn't."""
+    return [one for one in imports(text) if not one.module.startswith("declared")]
+
+
 class Names:
     """What the words of a file stand for, by its imports and its own definitions."""
 
     def __init__(self, text: str, own: Optional[Tuple[str, str]] = None, defined: FrozenSet[str] = frozenset()):
         self.of = {name: Definition(*own, name) for name in defined} if own else {}
         self.modules: Dict[str, Tuple[str, str]] = {}
-        for crate, module, listed, alias in IMPORT.findall(text):
-            if alias:
-                self.modules[alias] = (crate, module)
-            for one in filter(None, (one.strip() for one in listed.split(","))):
-                name, _, renamed = one.partition(" as ")
-                self.of.setdefault(renamed or name, Definition(crate, module, name))
+        for one in written(text):
+            if one.name:
+                self.of.setdefault(one.called, Definition(one.crate, one.module, one.name))
+            else:
+                self.modules[one.called] = (one.crate, one.module)
 
     def cited(self, text: str) -> Iterator[Definition]:
         """The definitions that a text cites."""
@@ -87,7 +91,7 @@ def bodies_of(text: str) -> Dict[str, str]:
     bodies: Dict[str, str] = collections.OrderedDict()
     name = None
     for line in text.splitlines():
-        if line.startswith("--") or IMPORT.match(line):
+        if line.startswith("--") or LINE.match(line):
             continue
         head = HEAD.match(line)
         name = head.group(1) if head else name
@@ -176,5 +180,5 @@ def faults_of_trust() -> Iterator[Outcome]:
             wrong = "neither a contract nor a document names it: it belongs into specs/private"
         yield str(one), wrong
     for path in sorted(CRATES.glob("*/specs/*.antt")):
-        imported = [module for _, module, _, _ in IMPORT.findall(path.read_text()) if module.startswith(PRIVATE + ".")]
+        imported = [one.module for one in written(path.read_text()) if one.module.startswith(PRIVATE + ".")]
         yield str(path.relative_to(TOP)), "it imports " + ", ".join(imported) if imported else None

@@ -28,8 +28,7 @@ pub struct Commit {
 }
 
 impl Model for Commit {
-    ghost use Rattle.tcc_answer.specs.Answers.{LabelledOrder};
-    ghost use Rattle.tcc_answer.specs.private.Stored.{order_in, ClaimsOrder};
+    ghost use Rattle.tcc_answer.specs.{Answers.LabelledOrder, private.Stored.order_in, private.Stored.ClaimsOrder};
 
     ghost Value = { LabelledOrder };
 

@@ -3,10 +3,8 @@ ghost use Rattle.std.specs.Prelude.{◌≡◌, ◌≤◌, ℕ, List, [], ◌∷�
 ghost use Rattle.std.specs.Io.KnownBytes.{Appends};
 ghost use Rattle.tcc_txn.specs.declared.limits.TheConstants.{MAX_COUNT};
 ghost use Rattle.tcc_bits.specs.Packed.{at_most};
-ghost use Rattle.tcc_cert.specs.declared.certificate.CycleClaim.{CycleClaim};
-ghost use Rattle.tcc_cert.specs.Texts.{lines_text};
+ghost use Rattle.tcc_cert.specs.{declared.certificate.CycleClaim.CycleClaim, Texts.lines_text, Given.HasTaken};
 ghost use Rattle.tcc_cert.specs.Begun.{MayTake, given_lines, with_rows};
-ghost use Rattle.tcc_cert.specs.Given.{HasTaken};
 
 use std::alloc::Global;
 use std::io::Write;

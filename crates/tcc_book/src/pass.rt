@@ -1,7 +1,6 @@
 //! Passes: what a recorder holds of its session.
 ghost use Rattle.std.specs.Prelude.{◌≡◌, [], IfOk, length};
-ghost use Rattle.tcc_book.specs.Books.{Records};
-ghost use Rattle.tcc_book.specs.Passes.{Receives};
+ghost use Rattle.tcc_book.specs.{Books.Records, Passes.Receives};
 
 use crate::fault::RecordFault;
 use crate::state::BookState;

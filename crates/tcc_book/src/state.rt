@@ -1,9 +1,8 @@
 //! What the lock guards: the sessions that were opened, and the journal of all that was recorded.
 ghost use Rattle.std.specs.Prelude.{◌≡◌, ◌<◌, All, IfOk, length, map};
 ghost use Rattle.indexmap.specs.IndexMap.{IsUnique};
-ghost use Rattle.tcc_txn.specs.Bytes.{same};
+ghost use Rattle.tcc_txn.specs.{Bytes.same, Snapshots.parts_of};
 ghost use Rattle.tcc_book.specs.Books.{IsBook, Opens, Records, copy_of, no_book};
-ghost use Rattle.tcc_txn.specs.Snapshots.{parts_of};
 ghost use Rattle.tcc_book.specs.private.BookStorage.{AddsPosition, AreWithin, part_at, txn_at};
 
 use crate::entry::Entry;
@@ -22,8 +21,7 @@ pub struct BookState {
 }
 
 impl Model for BookState {
-    ghost use Rattle.tcc_book.specs.Books.{Book};
-    ghost use Rattle.tcc_book.specs.private.BookStorage.{IsStored};
+    ghost use Rattle.tcc_book.specs.{Books.Book, private.BookStorage.IsStored};
     ghost use Rattle.indexmap.specs.IndexMap.{keys};
 
     ghost Value = { Book };

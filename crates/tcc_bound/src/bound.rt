@@ -1,8 +1,7 @@
 //! The bound and its steps.
 ghost use Rattle.std.specs.Prelude.{◌≡◌, ℕ, ◌<◌, ◌≤◌, ◌^◌, [], IfOk};
+ghost use Rattle.tcc_bound.specs.{private.Rule.own_of, declared.known.View.TheVariants.Unnamed};
 ghost use Rattle.tcc_bound.specs.Knowing.{newcomer, with_sight, with_offer, without_offers, both_of, IsAtMostAll};
-ghost use Rattle.tcc_bound.specs.private.Rule.{own_of};
-ghost use Rattle.tcc_bound.specs.declared.known.View.TheVariants.{Unnamed};
 
 use crate::known::View;
 use crate::rule::{AtMostAll, Floor, Joining, Looking, Naming, Offering, Splitting};

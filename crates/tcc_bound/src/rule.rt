@@ -9,8 +9,7 @@ use std::marker::{Brand, PhantomData};
 pub struct AtMostAll;
 
 impl TableRule<(), View, ()> for AtMostAll {
-    ghost use Rattle.tcc_bound.specs.declared.known.View.TheVariants.{Unnamed};
-    ghost use Rattle.tcc_bound.specs.private.Rule.{Holds};
+    ghost use Rattle.tcc_bound.specs.{declared.known.View.TheVariants.Unnamed, private.Rule.Holds};
 
     ghost holds = { λ _ s. Holds s.words s.views };
 
@@ -33,8 +32,7 @@ pub struct Naming<F: Floor> {
 
 impl<F: Floor> Play<(), View> for Naming<F> {
     ghost use Rattle.std.specs.Prelude.{◌≡◌};
-    ghost use Rattle.tcc_bound.specs.Knowing.{newcomer};
-    ghost use Rattle.tcc_bound.specs.private.Rule.{own_of};
+    ghost use Rattle.tcc_bound.specs.{Knowing.newcomer, private.Rule.own_of};
 
     ghost then = { λ _ _ _ after. after ≡ own_of (newcomer F.number) };
 }
@@ -72,8 +70,7 @@ impl Split<View> for Splitting {
 pub struct Joining;
 
 impl Join<View> for Joining {
-    ghost use Rattle.tcc_bound.specs.declared.known.View.TheVariants.{Spent};
-    ghost use Rattle.tcc_bound.specs.private.Rule.{joint_view};
+    ghost use Rattle.tcc_bound.specs.{declared.known.View.TheVariants.Spent, private.Rule.joint_view};
 
     ghost both = { joint_view };
 

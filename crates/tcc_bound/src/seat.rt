@@ -13,8 +13,7 @@ pub struct Seat {
 }
 
 impl Model for Seat {
-    ghost use Rattle.tcc_bound.specs.Seated.{Seated};
-    ghost use Rattle.tcc_bound.specs.private.Rule.{known_of, IsLive};
+    ghost use Rattle.tcc_bound.specs.{Seated.Seated, private.Rule.known_of, private.Rule.IsLive};
 
     ghost Value = { Seated };
 

@@ -1,13 +1,10 @@
 //! A certificate of a cycle that goes out row by row, so that nobody has to hold its tables.
 ghost use Rattle.std.specs.Prelude.{◌≡◌, ◌≢◌, ℕ, List, [], ◌∷◌, ◌++◌, Option, Result, Err, IsErr, OnOk, OnErr, IfOk, IsOk, take, codes, length};
 ghost use Rattle.std.specs.Io.KnownBytes.{Appends, Keeps};
-ghost use Rattle.tcc_cert.specs.declared.certificate.Certificate.TheVariants.{Cycle};
-ghost use Rattle.tcc_cert.specs.declared.certificate.CycleClaim.{CycleClaim};
-ghost use Rattle.tcc_cert.specs.declared.fault.CertWriteFault.TheVariants.{Device};
+ghost use Rattle.tcc_cert.specs.{declared.certificate.Certificate.TheVariants.Cycle, declared.certificate.CycleClaim.CycleClaim, declared.fault.CertWriteFault.TheVariants.Device, Given.Sends};
 ghost use Rattle.tcc_cert.specs.Texts.{line_text, lines_text, numbers_words, certificate_text};
 ghost use Rattle.tcc_cert.specs.Begun.{MayTake, begun_lines, given_lines, with_rows};
 ghost use Rattle.tcc_cert.specs.private.Writing.{IsSent, far_mark, mark_before, stage_behind};
-ghost use Rattle.tcc_cert.specs.Given.{Sends};
 
 use crate::lines::{line, number_line};
 use crate::outgoing::Outgoing;

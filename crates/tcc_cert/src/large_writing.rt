@@ -1,8 +1,7 @@
 //! How the text of version 3 goes out.
 ghost use Rattle.std.specs.Prelude.{◌≡◌, ℕ, List, [], ◌∷◌, OnOk, OnErr, take, map, codes, decimal, length};
 ghost use Rattle.std.specs.Io.KnownBytes.{Appends};
-ghost use Rattle.tcc_cert.specs.private.Writing.{IsSent};
-ghost use Rattle.tcc_cert.specs.Texts.{line_text, lines_text};
+ghost use Rattle.tcc_cert.specs.{private.Writing.IsSent, Texts.line_text, Texts.lines_text};
 ghost use Rattle.tcc_cert.specs.LargeTexts.{large_certificate_text, large_claim_lines, large_header_of, large_header_words, least_lines, links_claim_lines, run_words, runs_claim_lines, runs_lines};
 
 use crate::lines::{Word, line, number_line};

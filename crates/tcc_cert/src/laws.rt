@@ -1,19 +1,9 @@
 //! What the definitions of a certificate's text say by themselves.
 ghost use Rattle.std.specs.Prelude.{◌≡◌, ◌≤◌, ◌<◌, ◌+◌, ◌∷◌, length, ℕ, List, Err, None, Ok, Some};
-ghost use Rattle.tcc_cert.specs.Texts.{HasText, certificate_text};
+ghost use Rattle.tcc_cert.specs.{Texts.HasText, Texts.certificate_text, RunsTold.order_claim_of, declared.version_3.TheConstants.V3_MAX_COUNT, declared.version_3.TheConstants.V3_MAX_SESSIONS, LargeReading.large_certificate_read, Outcomes.IsLargeReading, Outcomes.IsReading, Versions.HasNoFirstLine, Parts.parts_of, Parts.parts_read, Reading.certificate_read, declared.certificate.Certificate.Certificate, declared.fault.CertFault.CertFault, declared.large.LargeCertificate.LargeCertificate};
 ghost use Rattle.tcc_cert.specs.LargeTexts.{HasLargeText, HasRunsClaimText, large_certificate_text};
-ghost use Rattle.tcc_cert.specs.RunsTold.{order_claim_of};
-ghost use Rattle.tcc_cert.specs.declared.version_3.TheConstants.{V3_MAX_COUNT, V3_MAX_SESSIONS};
 ghost use Rattle.tcc_graph.specs.declared.level.Level.{Level};
 ghost use Rattle.tcc_reads.specs.History.{History, count, owner};
-ghost use Rattle.tcc_cert.specs.LargeReading.{large_certificate_read};
-ghost use Rattle.tcc_cert.specs.Outcomes.{IsLargeReading, IsReading};
-ghost use Rattle.tcc_cert.specs.Versions.{HasNoFirstLine};
-ghost use Rattle.tcc_cert.specs.Parts.{parts_of, parts_read};
-ghost use Rattle.tcc_cert.specs.Reading.{certificate_read};
-ghost use Rattle.tcc_cert.specs.declared.certificate.Certificate.{Certificate};
-ghost use Rattle.tcc_cert.specs.declared.fault.CertFault.{CertFault};
-ghost use Rattle.tcc_cert.specs.declared.large.LargeCertificate.{LargeCertificate};
 
 /// The text of a certificate that has one is read as that certificate, and so as no other.
 pub fn text_is_read()

@@ -1,7 +1,6 @@
 //! Lines of words and of numbers, as they go out.
 ghost use Rattle.std.specs.Prelude.{◌≡◌, ◌∷◌, map, flat_map, codes, ◌++◌};
-ghost use Rattle.tcc_cert.specs.private.Writing.{IsSent};
-ghost use Rattle.tcc_cert.specs.private.LineWords.{word_text};
+ghost use Rattle.tcc_cert.specs.{private.Writing.IsSent, private.LineWords.word_text};
 ghost use Rattle.tcc_cert.specs.Texts.{words_text, line_text, lines_text, numbers_words, table_lines};
 
 use crate::outgoing::Outgoing;

@@ -1,8 +1,6 @@
 //! Bytes that are gathered before they go out, so that few writes are made.
 ghost use Rattle.std.specs.Prelude.{◌≡◌, ◌+◌, ◌*◌, ◌≤◌, ◌++◌, [], OnOk, codes, decimal, flat_map, length};
-ghost use Rattle.tcc_cert.specs.private.Writing.{IsSent};
-ghost use Rattle.tcc_cert.specs.declared.digits.TheConstants.{NUMBER_BYTES};
-ghost use Rattle.tcc_cert.specs.declared.outgoing.TheConstants.{OUTGOING_BYTES};
+ghost use Rattle.tcc_cert.specs.{private.Writing.IsSent, declared.digits.TheConstants.NUMBER_BYTES, declared.outgoing.TheConstants.OUTGOING_BYTES};
 
 use crate::digits::{NUMBER_BYTES, set_numbers};
 use std::io::{self, Write};

@@ -1,7 +1,6 @@
 //! What each version of the certificate's text allows.
 ghost use Rattle.std.specs.Prelude.{◌≡◌, ◌≤◌};
-ghost use Rattle.tcc_cert.specs.declared.version_2.TheConstants.{V2_MAX_LINE_BYTES};
-ghost use Rattle.tcc_cert.specs.Ranges.{ranges_at, ranges_of};
+ghost use Rattle.tcc_cert.specs.{declared.version_2.TheConstants.V2_MAX_LINE_BYTES, Ranges.ranges_at, Ranges.ranges_of};
 
 use crate::Version;
 use crate::version_1::{

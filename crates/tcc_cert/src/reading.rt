@@ -1,13 +1,7 @@
 //! How a certificate's text is read.
 ghost use Rattle.std.specs.Prelude.{◌≡◌, ◌<◌, ◌++◌, ◌∷◌, ℕ, [], IfErr, IfSome, List, OnOk, false, true};
+ghost use Rattle.tcc_cert.specs.{private.Collecting.Collects, private.Collecting.HasRow, private.Inputs.AsBefore, private.Inputs.Gives, InputBytes.IsAt, declared.ranges.TheConstants.MAX_HEADER_BYTES, Outcomes.IsReading, private.Showing.Shows, Parts.Parts, Parts.parts_read};
 ghost use Rattle.tcc_cert.specs.Ahead.{IsAhead, is_new, line_wanted};
-ghost use Rattle.tcc_cert.specs.private.Collecting.{Collects, HasRow};
-ghost use Rattle.tcc_cert.specs.private.Inputs.{AsBefore, Gives};
-ghost use Rattle.tcc_cert.specs.InputBytes.{IsAt};
-ghost use Rattle.tcc_cert.specs.declared.ranges.TheConstants.{MAX_HEADER_BYTES};
-ghost use Rattle.tcc_cert.specs.Outcomes.{IsReading};
-ghost use Rattle.tcc_cert.specs.private.Showing.{Shows};
-ghost use Rattle.tcc_cert.specs.Parts.{Parts, parts_read};
 ghost use Rattle.tcc_cert.specs.Reading.{Position, header_line, next, word_line, words, words_of};
 
 mod decimals;

@@ -3,8 +3,7 @@ ghost use Rattle.std.specs.Prelude.{◌≡◌, ℕ, List, [], ◌∷◌, ◌++�
 ghost use Rattle.std.specs.Io.KnownBytes.{Appends};
 ghost use Rattle.tcc_graph.specs.declared.step.Step.TheVariants as step;
 ghost use Rattle.tcc_graph.specs.declared.link.Link.TheVariants as link;
-ghost use Rattle.tcc_cert.specs.declared.certificate.Certificate.TheVariants.{Order};
-ghost use Rattle.tcc_cert.specs.private.Writing.{IsSent};
+ghost use Rattle.tcc_cert.specs.{declared.certificate.Certificate.TheVariants.Order, private.Writing.IsSent};
 ghost use Rattle.tcc_cert.specs.Texts.{line_text, lines_text, step_words, link_lines, header_words, clocks_lines, order_lines, certificate_text};
 
 use crate::cycle_writer::write_cycle;

@@ -3,8 +3,7 @@ ghost use Rattle.std.specs.Prelude.{◌≤◌, ◌↔◌, IsTrue, IfOk};
 ghost use Rattle.tcc_txn.specs.declared.limits.TheConstants.{MAX_COUNT};
 ghost use Rattle.tcc_reads.specs.History.{count};
 ghost use Rattle.tcc_cert.specs.CycleRules.{HasRightSizes};
-ghost use Rattle.tcc_check.specs.Verdicts.{bounds_rules, cycle_rules};
-ghost use Rattle.tcc_check.specs.Asked.{IsVerdictOf};
+ghost use Rattle.tcc_check.specs.{Verdicts.bounds_rules, Verdicts.cycle_rules, Asked.IsVerdictOf};
 
 use crate::far_rows::far_table;
 use crate::links::links_verdict;

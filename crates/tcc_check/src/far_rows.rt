@@ -2,8 +2,7 @@
 ghost use Rattle.std.specs.Prelude.{◌≡◌, ◌<◌, ◌≤◌, ◌+◌, ◌-◌, All, List, MatchOption, length, map, slice_index, ℕ};
 ghost use Rattle.tcc_txn.specs.declared.limits.TheConstants.{MAX_COUNT};
 ghost use Rattle.tcc_reads.specs.History.{count};
-ghost use Rattle.tcc_cert.specs.Ahead.{IsAhead};
-ghost use Rattle.tcc_cert.specs.Parts.{Parts};
+ghost use Rattle.tcc_cert.specs.{Ahead.IsAhead, Parts.Parts};
 ghost use Rattle.tcc_cert.specs.Tables.{HasFarSize, IsCapped, row_of, lowest};
 ghost use Rattle.tcc_cert.specs.declared.part.Part.TheVariants as part;
 ghost use Rattle.tcc_check.specs.private.Coming.{AreFoundBefore, IsFarRight, Leaves, far_verdict};

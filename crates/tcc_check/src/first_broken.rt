@@ -1,10 +1,8 @@
 //! Where a row first has more than a link takes.
 ghost use Rattle.std.specs.Prelude.{◌≡◌, ◌<◌, ◌≤◌, ◌+◌, ◌^◌, length, All};
 ghost use Rattle.tcc_reads.specs.History.{count};
-ghost use Rattle.tcc_check.specs.private.Runs.{HasRuns};
-ghost use Rattle.tcc_check.specs.private.Searches.{IsFoundBelow, IsLongPair, IsLongRunTo, IsLongSingle, IsLongStep, IsOvershot, IsOvershotAt, lesser};
-ghost use Rattle.tcc_check.specs.private.Searches.{IsFirstLong};
-ghost use Rattle.tcc_check.specs.private.Weights.{AreByWeight};
+ghost use Rattle.tcc_check.specs.{private.Runs.HasRuns, private.Weights.AreByWeight};
+ghost use Rattle.tcc_check.specs.private.Searches.{IsFoundBelow, IsLongPair, IsLongRunTo, IsLongSingle, IsLongStep, IsOvershot, IsOvershotAt, lesser, IsFirstLong};
 
 use crate::groups::Groups;
 use crate::links_from::UNLINKED;

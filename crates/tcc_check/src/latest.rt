@@ -2,11 +2,9 @@
 //! only the last one that a reader's clock reaches. Those before it stand before it in the order too.
 ghost use Rattle.std.specs.Prelude.{ℕ, ◌≡◌, ◌≢◌, ◌<◌, ◌≤◌, ◌^◌, ◌↔◌, List, All, Contains, length, slice_index, IfOk, IsTrue};
 ghost use Rattle.tcc_reads.specs.History.{IsBySession, count, owner};
-ghost use Rattle.tcc_graph.specs.Keys.{key_at, keys};
-ghost use Rattle.tcc_graph.specs.declared.level.Level.TheVariants.{Causal};
+ghost use Rattle.tcc_graph.specs.{Keys.key_at, Keys.keys, declared.level.Level.TheVariants.Causal};
 ghost use Rattle.tcc_cert.specs.OrderRules.{HasClocks, MayReach};
-ghost use Rattle.tcc_check.specs.private.Latest.{is_within, IsCountWithin, IsLastWithin, AreOwned, AreRising, KeepsSessions};
-ghost use Rattle.tcc_check.specs.private.Latest.{KeepsPairsBy, StandBefore, StandAllBefore, IsReadKept, AreReadsKept};
+ghost use Rattle.tcc_check.specs.private.Latest.{is_within, IsCountWithin, IsLastWithin, AreOwned, AreRising, KeepsSessions, KeepsPairsBy, StandBefore, StandAllBefore, IsReadKept, AreReadsKept};
 
 use crate::order::clock_gap;
 use crate::single_pairs::are_reads_kept_by_pairs;

@@ -1,16 +1,10 @@
 //! The law that what a certificate claims is true where it keeps the rules.
 ghost use Rattle.std.specs.Prelude.{ℕ, ◌≡◌, ◌↔◌};
 ghost use Rattle.tcc_reads.specs.History.{History};
-ghost use Rattle.tcc_graph.specs.Levels.{Judged, judged};
-ghost use Rattle.tcc_graph.specs.Links.{cost};
-ghost use Rattle.tcc_graph.specs.Routes.{IsLeastCycle};
-ghost use Rattle.tcc_graph.specs.Orders.{IsCommitOrder};
+ghost use Rattle.tcc_graph.specs.{Levels.Judged, Levels.judged, Links.cost, Routes.IsLeastCycle, Orders.IsCommitOrder};
+ghost use Rattle.tcc_cert.specs.{declared.certificate.Certificate.Certificate, declared.certificate.CycleClaim.CycleClaim, declared.certificate.OrderClaim.OrderClaim};
 ghost use Rattle.tcc_cert.specs.Rules.{CertifiesCycle, CertifiesOrder, Certifies};
-ghost use Rattle.tcc_cert.specs.declared.certificate.Certificate.{Certificate};
-ghost use Rattle.tcc_cert.specs.declared.certificate.CycleClaim.{CycleClaim};
-ghost use Rattle.tcc_cert.specs.declared.certificate.OrderClaim.{OrderClaim};
-ghost use Rattle.tcc_check.specs.Asked.{AllHold};
-ghost use Rattle.tcc_check.specs.declared.verdict.Rule.{Rule};
+ghost use Rattle.tcc_check.specs.{Asked.AllHold, declared.verdict.Rule.Rule};
 ghost use Rattle.tcc_check.specs.Verdicts.{IsRejected, IsTrueClaim, rules_of};
 
 /// The links of a certified cycle are a least cycle at the level of the claim, and cost what is claimed.

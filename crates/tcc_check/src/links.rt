@@ -1,18 +1,12 @@
 //! The rule on the links of a cycle, one link after the other.
 ghost use Rattle.std.specs.Prelude.{◌≡◌, ◌+◌, ◌<◌, ◌++◌, ◌↔◌, ℕ, All, IfOk, IsTrue, List, MatchOption, Some, get_or, length, map};
 ghost use Rattle.tcc_reads.specs.History.{History, count};
-ghost use Rattle.tcc_graph.specs.Levels.{Judged, judged};
-ghost use Rattle.tcc_graph.specs.declared.link.Link.{Link};
-ghost use Rattle.tcc_cert.specs.Ahead.{IsAhead};
+ghost use Rattle.tcc_graph.specs.{Levels.Judged, Levels.judged, declared.link.Link.Link};
+ghost use Rattle.tcc_cert.specs.{Ahead.IsAhead, Parts.Parts, declared.certificate.CycleClaim.CycleClaim, declared.part.Part.Part};
 ghost use Rattle.tcc_cert.specs.CycleRules.{IsFirstWrongLink, IsLinkBelow, IsLinkRight};
-ghost use Rattle.tcc_cert.specs.Parts.{Parts};
-ghost use Rattle.tcc_cert.specs.declared.certificate.CycleClaim.{CycleClaim};
-ghost use Rattle.tcc_cert.specs.declared.part.Part.{Part};
 ghost use Rattle.tcc_cert.specs.declared.part.Part.TheVariants as part;
-ghost use Rattle.tcc_check.specs.private.Coming.{Leaves};
-ghost use Rattle.tcc_check.specs.private.Judged.{AreLinksJudged, links_rules};
+ghost use Rattle.tcc_check.specs.{private.Coming.Leaves, private.Judged.AreLinksJudged, private.Judged.links_rules, Asked.IsVerdictOf};
 ghost use Rattle.tcc_check.specs.private.Links.{AreSeenTo, ends_or, first_wrong, left_behind};
-ghost use Rattle.tcc_check.specs.Asked.{IsVerdictOf};
 
 use crate::StreamFault;
 use crate::coming::next_part;

@@ -3,12 +3,10 @@
 ghost use Rattle.std.specs.Prelude.{ℕ, ◌≡◌, ◌<◌, ◌≤◌, ◌^◌, ◌↔◌, All, IfOk, length, replicate, slice_index};
 ghost use Rattle.tcc_txn.specs.declared.limits.TheConstants.{MAX_COUNT};
 ghost use Rattle.tcc_reads.specs.History.{count};
-ghost use Rattle.tcc_graph.specs.Keys.{keys};
-ghost use Rattle.tcc_graph.specs.Relations.{IsCausalPair};
+ghost use Rattle.tcc_graph.specs.{Keys.keys, Relations.IsCausalPair};
 ghost use Rattle.tcc_check.specs.private.Readings.{AreReadings, KeysWeigh};
 ghost use Rattle.tcc_check.specs.private.Weights.{IsLeastRow, IsLowered, unlinked};
-ghost use Rattle.tcc_check.specs.private.WeightsFrom.{AreAllEnds, AreEnds, AreLightEnds, BetweenWeighs, ContradictsBy};
-ghost use Rattle.tcc_check.specs.private.WeightsFrom.{InitContradictsBy, MarkWeighs, ReadWeighs, SourceWeighs, WeighsFrom};
+ghost use Rattle.tcc_check.specs.private.WeightsFrom.{AreAllEnds, AreEnds, AreLightEnds, BetweenWeighs, ContradictsBy, InitContradictsBy, MarkWeighs, ReadWeighs, SourceWeighs, WeighsFrom};
 
 use crate::groups::Groups;
 use crate::readings::{least_of, lower_key};

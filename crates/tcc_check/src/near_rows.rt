@@ -3,8 +3,7 @@ ghost use Rattle.std.specs.Prelude.{◌≡◌, ◌<◌, ◌≤◌, ◌+◌, ◌+
 ghost use Rattle.tcc_txn.specs.declared.limits.TheConstants.{MAX_COUNT};
 ghost use Rattle.tcc_reads.specs.History.{History, count};
 ghost use Rattle.tcc_graph.specs.declared.level.Level.{Level};
-ghost use Rattle.tcc_cert.specs.Ahead.{IsAhead};
-ghost use Rattle.tcc_cert.specs.Parts.{Parts};
+ghost use Rattle.tcc_cert.specs.{Ahead.IsAhead, Parts.Parts};
 ghost use Rattle.tcc_cert.specs.Tables.{HasSize, IsCapped, row_of};
 ghost use Rattle.tcc_cert.specs.declared.part.Part.TheVariants as part;
 ghost use Rattle.tcc_check.specs.private.Coming.{IsNearFoundTo, IsNearRight, Leaves, near_verdict};

@@ -2,16 +2,12 @@
 ghost use Rattle.std.specs.Prelude.{ℕ, ◌≡◌, ◌<◌, ◌≤◌, ◌↔◌, ◌^◌, List, length, slice_index, IsTrue, IfOk, MatchOption};
 ghost use Rattle.tcc_txn.specs.declared.limits.TheConstants.{MAX_COUNT, MAX_SESSIONS};
 ghost use Rattle.tcc_reads.specs.History.{IsBySession, count};
-ghost use Rattle.tcc_graph.specs.Relations.{IsCausalPair, IsReadsPair};
-ghost use Rattle.tcc_graph.specs.declared.level.Level.TheVariants.{Causal};
+ghost use Rattle.tcc_graph.specs.{Relations.IsCausalPair, Relations.IsReadsPair, declared.level.Level.TheVariants.Causal};
 ghost use Rattle.tcc_cert.specs.Tables.{entry, HasSize, IsFirstAt};
 ghost use Rattle.tcc_cert.specs.OrderRules.{HasClocks, HasInClock, MayReach, HasOrderSizes, KeepsPairs, BreaksAxiom};
 ghost use Rattle.tcc_cert.specs.Rules.{HoldsEverywhere};
-ghost use Rattle.tcc_check.specs.Asked.{IsVerdictOf};
-ghost use Rattle.tcc_check.specs.private.Searches.{IsFoundBelow};
+ghost use Rattle.tcc_check.specs.{Asked.IsVerdictOf, private.Searches.IsFoundBelow, private.Readings.AreReadings, Verdicts.order_rules};
 ghost use Rattle.tcc_check.specs.private.Positions.{ArePositions, IsKept, IsBehind};
-ghost use Rattle.tcc_check.specs.private.Readings.{AreReadings};
-ghost use Rattle.tcc_check.specs.Verdicts.{order_rules};
 
 use crate::groups::Groups;
 use crate::latest::keeps_axiom;

@@ -2,8 +2,7 @@
 //! before it is asked, and of the reader's sources what else they write.
 ghost use Rattle.std.specs.Prelude.{ℕ, ◌≡◌, ◌<◌, List, IfOk, IsTrue, length};
 ghost use Rattle.tcc_reads.specs.History.{count};
-ghost use Rattle.tcc_graph.specs.Keys.{keys};
-ghost use Rattle.tcc_graph.specs.declared.level.Level.TheVariants.{Atomic};
+ghost use Rattle.tcc_graph.specs.{Keys.keys, declared.level.Level.TheVariants.Atomic};
 ghost use Rattle.tcc_check.specs.private.Latest.{AreApart, AreReadsKept, AreRising, KeepsSessions};
 ghost use Rattle.tcc_check.specs.private.SinglePairs.{AreSourcePositions, DoSessionsStand, DoSourcesStand, DoesSessionStand, DoesWriterStand};
 

@@ -2,8 +2,7 @@
 ghost use Rattle.std.specs.Prelude.{◌≡◌, ◌≤◌, ◌++◌, IfSome, List, MatchOption, false, true, length, map, ℕ};
 ghost use Rattle.tcc_txn.specs.declared.limits.TheConstants.{MAX_COUNT, MAX_SESSIONS};
 ghost use Rattle.tcc_reads.specs.History.{count};
-ghost use Rattle.tcc_cert.specs.Ahead.{IsAhead, is_new};
-ghost use Rattle.tcc_cert.specs.CycleRules.{HasRightSizes};
+ghost use Rattle.tcc_cert.specs.{Ahead.IsAhead, Ahead.is_new, CycleRules.HasRightSizes};
 ghost use Rattle.tcc_cert.specs.Parts.{Parts, parts_read, with_tables};
 ghost use Rattle.tcc_cert.specs.declared.part.Part.TheVariants as part;
 ghost use Rattle.tcc_graph.specs.declared.link.Link.{Link};

@@ -1,7 +1,6 @@
 //! What is answered of a certificate, and the rules that it names.
 ghost use Rattle.std.specs.Prelude.{◌≡◌};
-ghost use Rattle.tcc_check.specs.private.Coming.{first_of, first_rejected};
-ghost use Rattle.tcc_check.specs.Verdicts.{rule_number};
+ghost use Rattle.tcc_check.specs.{private.Coming.first_of, private.Coming.first_rejected, Verdicts.rule_number};
 ghost use Rattle.tcc_check.specs.declared.verdict.Verdict.TheVariants as verdict;
 
 /// The rules, in the order in which they are judged. Of a claim that a cycle is least the first seven are asked, of a

@@ -28,8 +28,7 @@ pub(crate) struct BucketQueue {
 
 impl Model for BucketQueue {
     ghost use Rattle.std.specs.Prelude.{◌≡◌, ℕ, List, length};
-    ghost use Rattle.tcc_core.specs.private.LinkedBuckets.{AreLinked};
-    ghost use Rattle.tcc_core.specs.declared.bucket_queue.TheConstants.{BUCKETS};
+    ghost use Rattle.tcc_core.specs.{private.LinkedBuckets.AreLinked, declared.bucket_queue.TheConstants.BUCKETS};
 
     ghost Value = { List ℕ };
 

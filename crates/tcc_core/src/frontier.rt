@@ -4,13 +4,10 @@
 ghost use Rattle.std.specs.Prelude.{◌≡◌, ◌≢◌, ◌<◌, ◌≤◌, ◌+◌, ◌^◌, ◌⊎◌, ℕ, true, length, slice_index, slice_set, All, Contains, IfSome, IfNone, IfOk};
 ghost use Rattle.tcc_graph.specs.Levels.{Judged};
 ghost use Rattle.tcc_derive.specs.Prices.{IsPricesOf};
+ghost use Rattle.tcc_core.specs.{private.Levels.AreLevels, private.Levels.AreClassed, declared.queue.TheConstants.NO_WAY, declared.bucket_queue.TheConstants.BUCKETS, declared.frontier.TheConstants.UNMARKED};
 ghost use Rattle.tcc_core.specs.private.Queues.{IsBeginning, IsNearest, IsNext, IsPast};
 ghost use Rattle.tcc_core.specs.private.Offers.{IsLower, IsOffered, IsMarked, IsWayOn, IsOfferedBy};
-ghost use Rattle.tcc_core.specs.private.Levels.{AreLevels, AreClassed};
 ghost use Rattle.tcc_txn.specs.declared.limits.TheConstants.{MAX_COUNT};
-ghost use Rattle.tcc_core.specs.declared.queue.TheConstants.{NO_WAY};
-ghost use Rattle.tcc_core.specs.declared.bucket_queue.TheConstants.{BUCKETS};
-ghost use Rattle.tcc_core.specs.declared.frontier.TheConstants.{UNMARKED};
 
 use crate::bucket_queue::BUCKETS;
 use crate::levels::{Level, begin_levels, forget, offer_classes};
@@ -35,8 +32,7 @@ pub(crate) struct Frontier {
 
 impl Model for Frontier {
     ghost use Rattle.tcc_core.specs.private.Queues as queues;
-    ghost use Rattle.tcc_core.specs.private.Offers.{IsMarked};
-    ghost use Rattle.tcc_core.specs.private.Levels.{AreLevels};
+    ghost use Rattle.tcc_core.specs.{private.Offers.IsMarked, private.Levels.AreLevels};
 
     ghost Value = { queues.Queue };
 

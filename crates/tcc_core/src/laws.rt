@@ -1,13 +1,11 @@
 //! The laws of shares: how a search ends in one, and what shares that settle show.
 ghost use Rattle.std.specs.Prelude.{◌≡◌, ◌↔◌, ℕ, List, Option, None, Contains};
-ghost use Rattle.tcc_graph.specs.Levels.{Judged};
-ghost use Rattle.tcc_graph.specs.Links.{cost};
+ghost use Rattle.tcc_graph.specs.{Levels.Judged, Links.cost, declared.link.Link.Link};
 ghost use Rattle.tcc_graph.specs.Routes.{HasCycle, IsLeastCycle, IsDistance};
-ghost use Rattle.tcc_graph.specs.declared.link.Link.{Link};
 ghost use Rattle.tcc_core.specs.Rows.{in_row, cap_of};
 ghost use Rattle.tcc_core.specs.Searches.{Search, IsSearchOf, Settles};
-ghost use Rattle.tcc_core.specs.declared.settled.Settled.TheVariants as settled;
 ghost use Rattle.tcc_core.specs.Shares.{Share, Returned, Cut, IsNotAbove, IsFinished, SettleAt, EachFinished, IsCappedDistance, capped};
+ghost use Rattle.tcc_core.specs.declared.settled.Settled.TheVariants as settled;
 
 /// Where shares settle at a word, the word is none exactly where there is no cycle, and else the cost of a least cycle;
 /// each row, capped at the word where there is one, is the capped distance over numbers from its start upward; and each

@@ -3,11 +3,8 @@
 //! a whole row takes N / 64 steps, and one for each transaction that is new there.
 ghost use Rattle.std.specs.Prelude.{◌≡◌, ◌<◌, ◌≤◌, ◌+◌, ◌*◌, ◌^◌, ℕ, true, length, All, IfOk};
 ghost use Rattle.tcc_bits.specs.Bits.{is_marked, words_for};
+ghost use Rattle.tcc_core.specs.{private.Marked.IsMarkWay, private.Offers.IsOffered, declared.bucket_queue.TheConstants.BUCKETS, declared.levels.TheConstants.LEVELS};
 ghost use Rattle.tcc_core.specs.private.Levels.{HasRoom, IsLevel, AreLevels, IsClassWay, AreClasses};
-ghost use Rattle.tcc_core.specs.private.Marked.{IsMarkWay};
-ghost use Rattle.tcc_core.specs.private.Offers.{IsOffered};
-ghost use Rattle.tcc_core.specs.declared.bucket_queue.TheConstants.{BUCKETS};
-ghost use Rattle.tcc_core.specs.declared.levels.TheConstants.{LEVELS};
 ghost use Rattle.tcc_txn.specs.declared.limits.TheConstants.{MAX_COUNT};
 
 use crate::marked::offer_marked;

@@ -3,9 +3,8 @@
 //! new.
 ghost use Rattle.std.specs.Prelude.{◌≡◌, ◌<◌, ◌≤◌, ◌+◌, ◌-◌, ◌*◌, ◌/◌, ◌%◌, ◌^◌, ℕ, true, length};
 ghost use Rattle.std.specs.Int.{bit_at};
+ghost use Rattle.tcc_core.specs.{private.Offers.IsOffered, declared.bucket_queue.TheConstants.BUCKETS};
 ghost use Rattle.tcc_core.specs.private.Marked.{HasOffered, IsMet, IsMarkWay, IsWordWay, MayOfferMarked};
-ghost use Rattle.tcc_core.specs.private.Offers.{IsOffered};
-ghost use Rattle.tcc_core.specs.declared.bucket_queue.TheConstants.{BUCKETS};
 ghost use Rattle.tcc_txn.specs.declared.limits.TheConstants.{LARGE_COUNT};
 
 use crate::queue::Queue;

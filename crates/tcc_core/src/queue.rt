@@ -3,8 +3,8 @@
 //! takes one step; to find the nearest takes one for each cost that is passed over, at most the width of the window.
 ghost use Rattle.std.specs.Prelude.{◌≡◌, ◌≢◌, ◌<◌, ◌≤◌, ◌+◌, ◌⊎◌, ℕ, length, slice_index, slice_set, All, Contains, IfSome, IfNone, IfOk};
 ghost use Rattle.tcc_core.specs.private.Queues.{IsBeginning, IsNearest, IsNext, IsPast, IsFar, IsFiled, offered};
-ghost use Rattle.tcc_core.specs.private.Queues as queues;
 ghost use Rattle.tcc_core.specs.declared.bucket_queue.TheConstants.{BUCKETS};
+ghost use Rattle.tcc_core.specs.private.Queues as queues;
 ghost use Rattle.tcc_txn.specs.declared.limits.TheConstants.{MAX_COUNT};
 
 use crate::bucket_queue::{BUCKETS, BucketQueue};

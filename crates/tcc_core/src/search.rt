@@ -38,8 +38,7 @@ impl Model for Search {
 }
 
 impl Search {
-    ghost use Rattle.tcc_core.specs.Rows.{IsEmptyRow};
-    ghost use Rattle.tcc_core.specs.Searches.{IsSearchOf, Settles};
+    ghost use Rattle.tcc_core.specs.{Rows.IsEmptyRow, Searches.IsSearchOf, Searches.Settles};
 
     /// A search from this start with an empty row: the start is not in it, since its distance to itself is that of a
     /// cycle that meets nothing below it.

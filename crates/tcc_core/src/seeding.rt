@@ -3,14 +3,11 @@
 //! of prices is read once for a block (loop tiling); what was gone through costs no less than the least so far.
 ghost use Rattle.std.specs.Prelude.{◌≡◌, ◌<◌, ◌≤◌, ℕ, length, IfSome, MatchOption};
 ghost use Rattle.tcc_graph.specs.Levels.{Judged};
-ghost use Rattle.tcc_near.specs.WalkLengths.{IsNearOf};
+ghost use Rattle.tcc_near.specs.{WalkLengths.IsNearOf, declared.walk_lengths.TheConstants.NONE};
 ghost use Rattle.tcc_derive.specs.Prices.{IsPricesOf};
-ghost use Rattle.tcc_core.specs.Shares.{IsCycleCost};
-ghost use Rattle.tcc_core.specs.Seeds.{IsSeed, HasNoSeed};
+ghost use Rattle.tcc_core.specs.{Shares.IsCycleCost, Seeds.IsSeed, Seeds.HasNoSeed, declared.queue.TheConstants.NO_WAY};
 ghost use Rattle.tcc_core.specs.private.Closing.{closing, closing_at, IsLeastOf};
 ghost use Rattle.tcc_txn.specs.declared.limits.TheConstants.{MAX_COUNT};
-ghost use Rattle.tcc_near.specs.declared.walk_lengths.TheConstants.{NONE};
-ghost use Rattle.tcc_core.specs.declared.queue.TheConstants.{NO_WAY};
 
 use crate::queue::NO_WAY;
 use tcc_derive::Prices;

@@ -2,19 +2,11 @@
 //! cost, and what it can cost at most.
 ghost use Rattle.std.specs.Prelude.{◌≡◌, ◌≤◌, ◌↔◌, ◌==◌, ◌∷◌, ◌++◌, ◌+◌, ◌*◌, ℕ, List, All, filter, length};
 ghost use Rattle.std.specs.FinMap.{entries};
-ghost use Rattle.tcc_txn.specs.declared.limits.TheConstants.{MAX_COUNT, MAX_SESSIONS};
-ghost use Rattle.tcc_txn.specs.Snapshots.{Sessions};
-ghost use Rattle.tcc_reads.specs.History.{count};
-ghost use Rattle.tcc_reads.specs.Sources.{history};
-ghost use Rattle.tcc_graph.specs.Levels.{Judged, judged};
-ghost use Rattle.tcc_graph.specs.Links.{link_from, cost};
+ghost use Rattle.tcc_txn.specs.{declared.limits.TheConstants.MAX_COUNT, declared.limits.TheConstants.MAX_SESSIONS, Snapshots.Sessions};
+ghost use Rattle.tcc_reads.specs.{History.count, Sources.history};
+ghost use Rattle.tcc_graph.specs.{Levels.Judged, Levels.judged, Links.link_from, Links.cost, declared.limits.TheConstants.MAX_CYCLE_COST, declared.level.Level.Level, declared.step.Step.Step, declared.link.Link.Link, declared.link.Link.TheVariants.Derived};
 ghost use Rattle.tcc_graph.specs.Routes.{IsRoute, IsLeastCycle, IsDistance};
 ghost use Rattle.tcc_graph.specs.Ties.{IsFirstCycle, link_kind, link_walk};
-ghost use Rattle.tcc_graph.specs.declared.limits.TheConstants.{MAX_CYCLE_COST};
-ghost use Rattle.tcc_graph.specs.declared.level.Level.{Level};
-ghost use Rattle.tcc_graph.specs.declared.step.Step.{Step};
-ghost use Rattle.tcc_graph.specs.declared.link.Link.{Link};
-ghost use Rattle.tcc_graph.specs.declared.link.Link.TheVariants.{Derived};
 ghost use Rattle.tcc_derive.specs.Backwards.{IsFirstWalk};
 ghost use Rattle.tcc_cycle.specs.Picked.{IsPickedCycle, IsPickedWalk};
 

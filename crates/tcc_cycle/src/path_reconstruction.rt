@@ -3,14 +3,11 @@
 //! what is left is the distance to where it begins. L links among N transactions take L N looks at a distance and at a cost.
 ghost use Rattle.std.specs.Prelude.{◌≡◌, ◌<◌, ◌≤◌, ◌-◌, ℕ, length, IfOk, MatchOption};
 ghost use Rattle.tcc_reads.specs.History.{count};
-ghost use Rattle.tcc_graph.specs.Links.{cost};
-ghost use Rattle.tcc_graph.specs.Ties.{IsFirstCycle};
-ghost use Rattle.tcc_graph.specs.declared.link.Link.{Link};
+ghost use Rattle.tcc_graph.specs.{Links.cost, Ties.IsFirstCycle, declared.link.Link.Link, Levels.judged};
 ghost use Rattle.tcc_near.specs.WalkLengths.{IsNearOf};
 ghost use Rattle.tcc_derive.specs.Prices.{IsPricesOf, IsLinkOf};
 ghost use Rattle.tcc_cycle.specs.Returns.{IsFirstReturn};
 ghost use Rattle.tcc_cycle.specs.private.Ways.{spent, IsBefore, IsFirstLink};
-ghost use Rattle.tcc_graph.specs.Levels.{judged};
 
 use crate::FirstReturn;
 use std::alloc::Global;

@@ -4,16 +4,11 @@
 //! that is read very often.
 ghost use Rattle.std.specs.Prelude.{◌≡◌, ◌<◌, ◌≤◌, ◌⊎◌, ℕ, length, All, IfOk, OnOk, flat_map, slice_index};
 ghost use Rattle.tcc_reads.specs.History.{count};
-ghost use Rattle.tcc_near.specs.WalkLengths.{IsNearOf};
-ghost use Rattle.tcc_derive.specs.private.Buckets.{bucket};
-ghost use Rattle.tcc_derive.specs.private.KeyTables.{IsReadsOf, IsWritesOf};
+ghost use Rattle.tcc_near.specs.{WalkLengths.IsNearOf, declared.walk_lengths.TheConstants.NONE};
+ghost use Rattle.tcc_derive.specs.{private.Buckets.bucket, private.KeyTables.IsReadsOf, private.KeyTables.IsWritesOf, private.Rows.IsPriceRow, private.Rows.HasRows, private.Sources.HaveSources};
 ghost use Rattle.tcc_derive.specs.private.Lowering.{one_more, HaveReads, Lowers, ArePricedBy};
-ghost use Rattle.tcc_derive.specs.private.Rows.{IsPriceRow, HasRows};
-ghost use Rattle.tcc_derive.specs.private.Sources.{HaveSources};
-ghost use Rattle.tcc_graph.specs.Levels.{judged};
-ghost use Rattle.tcc_near.specs.declared.walk_lengths.TheConstants.{NONE};
+ghost use Rattle.tcc_graph.specs.{Levels.judged, Tables.row_of};
 ghost use Rattle.tcc_txn.specs.declared.limits.TheConstants.{MAX_COUNT};
-ghost use Rattle.tcc_graph.specs.Tables.{row_of};
 
 use crate::level_sweep::{levels_of, lower_by_levels};
 use crate::read::Read;

@@ -3,9 +3,7 @@
 //! (`cost_limit`). For N transactions that takes N * N steps, and one for each transaction and each read of a key that it writes.
 ghost use Rattle.std.specs.Prelude.{◌≤◌, length, IfOk};
 ghost use Rattle.tcc_near.specs.WalkLengths.{IsNearOf};
-ghost use Rattle.tcc_derive.specs.Limits.{IsLimit};
-ghost use Rattle.tcc_derive.specs.Prices.{IsPricesOf};
-ghost use Rattle.tcc_derive.specs.private.Rows.{IsPriceRow, HasRows};
+ghost use Rattle.tcc_derive.specs.{Limits.IsLimit, Prices.IsPricesOf, private.Rows.IsPriceRow, private.Rows.HasRows};
 ghost use Rattle.tcc_txn.specs.declared.limits.TheConstants.{MAX_COUNT};
 ghost use Rattle.tcc_graph.specs.Levels.{judged};
 

@@ -3,10 +3,8 @@
 ghost use Rattle.std.specs.Prelude.{◌<◌, IfOk, MatchOption};
 ghost use Rattle.tcc_reads.specs.History.{count};
 ghost use Rattle.tcc_near.specs.WalkLengths.{IsNearOf};
-ghost use Rattle.tcc_graph.specs.declared.link.Link.{Link};
-ghost use Rattle.tcc_derive.specs.Prices.{IsDerived};
-ghost use Rattle.tcc_derive.specs.Reasons.{IsFirstReason};
-ghost use Rattle.tcc_graph.specs.Levels.{judged};
+ghost use Rattle.tcc_graph.specs.{declared.link.Link.Link, Levels.judged};
+ghost use Rattle.tcc_derive.specs.{Prices.IsDerived, Reasons.IsFirstReason};
 
 use crate::choices::choice;
 use crate::first_walk::first_walk;

@@ -3,15 +3,11 @@
 //! length.
 ghost use Rattle.std.specs.Prelude.{◌≡◌, ◌≢◌, ◌<◌, ◌+◌, ℕ, true, [], length, Contains, IfOk, MatchOption, slice_index};
 ghost use Rattle.tcc_reads.specs.History.{count};
+ghost use Rattle.tcc_graph.specs.{declared.step.Step.Step, Levels.judged, Tables.row_of};
 ghost use Rattle.tcc_graph.specs.Walks.{step_from, step_to, IsStep, IsReached};
-ghost use Rattle.tcc_graph.specs.declared.step.Step.{Step};
-ghost use Rattle.tcc_near.specs.WalkLengths.{IsNearOf};
-ghost use Rattle.tcc_derive.specs.Names.{IsFirstName};
-ghost use Rattle.tcc_derive.specs.Backwards.{IsFirstWalk};
+ghost use Rattle.tcc_near.specs.{WalkLengths.IsNearOf, declared.walk_lengths.TheConstants.NONE};
+ghost use Rattle.tcc_derive.specs.{Names.IsFirstName, Backwards.IsFirstWalk};
 ghost use Rattle.tcc_derive.specs.private.LeadingBack.{IsFirstStep, IsLastStep, stands_at};
-ghost use Rattle.tcc_graph.specs.Levels.{judged};
-ghost use Rattle.tcc_near.specs.declared.walk_lengths.TheConstants.{NONE};
-ghost use Rattle.tcc_graph.specs.Tables.{row_of};
 
 use std::alloc::Global;
 use tcc_graph::{Graph, Step, Walk};

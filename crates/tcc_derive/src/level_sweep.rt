@@ -5,8 +5,7 @@ ghost use Rattle.std.specs.Prelude.{◌≡◌, ◌<◌, ◌≤◌, ◌+◌, ◌�
 ghost use Rattle.tcc_txn.specs.declared.limits.TheConstants.{LARGE_COUNT, MAX_COUNT};
 ghost use Rattle.tcc_bits.specs.Bits.{is_marked, words_for};
 ghost use Rattle.tcc_near.specs.declared.walk_lengths.TheConstants.{NONE};
-ghost use Rattle.tcc_derive.specs.private.Lowering.{Lowers};
-ghost use Rattle.tcc_derive.specs.declared.read.Read.{Read};
+ghost use Rattle.tcc_derive.specs.{private.Lowering.Lowers, declared.read.Read.Read};
 ghost use Rattle.tcc_derive.specs.private.Sources.{AreSources, IsCovered, LowersEach, LowersUpTo};
 
 use crate::read::Read;

@@ -3,9 +3,8 @@
 ghost use Rattle.std.specs.Prelude.{◌≡◌, ◌<◌, ◌≤◌, length, IfOk};
 ghost use Rattle.tcc_txn.specs.declared.limits.TheConstants.{MAX_COUNT};
 ghost use Rattle.tcc_reads.specs.History.{count};
+ghost use Rattle.tcc_derive.specs.{Prices.IsEnd, private.Rows.HasRows};
 ghost use Rattle.tcc_derive.specs.private.Others.{IsOtherRow, HasOtherRows, HasEnds};
-ghost use Rattle.tcc_derive.specs.Prices.{IsEnd};
-ghost use Rattle.tcc_derive.specs.private.Rows.{HasRows};
 ghost use Rattle.tcc_graph.specs.Tables.{row_of};
 ghost use Rattle.tcc_near.specs.WalkLengths.{IsSquare};
 

@@ -3,11 +3,8 @@
 ghost use Rattle.std.specs.Prelude.{◌≡◌, ◌<◌, ◌≤◌, ◌+◌, ◌∷◌, ◌↔◌, true, [], length, All};
 ghost use Rattle.std.specs.List.{AllPairs};
 ghost use Rattle.tcc_near.specs.WalkLengths.{least_in};
-ghost use Rattle.tcc_derive.specs.Limits.{AreWithin};
+ghost use Rattle.tcc_derive.specs.{Limits.AreWithin, private.Others.IsShaped, private.Others.tables_of, ByClass.IsByClass, private.Classes.HaveByClass};
 ghost use Rattle.tcc_derive.specs.Prices.{price_at, cost_at, cost_among, end_of, others_at};
-ghost use Rattle.tcc_derive.specs.private.Others.{IsShaped, tables_of};
-ghost use Rattle.tcc_derive.specs.ByClass.{IsByClass};
-ghost use Rattle.tcc_derive.specs.private.Classes.{HaveByClass};
 ghost use Rattle.tcc_txn.specs.declared.limits.TheConstants.{MAX_COUNT};
 ghost use Rattle.tcc_graph.specs.Tables.{row_of};
 
@@ -33,10 +30,7 @@ pub struct Prices {
 
 impl Model for Prices {
     ghost use Rattle.std.specs.Prelude.{◌≡◌, ◌↔◌, true, length};
-    ghost use Rattle.tcc_derive.specs.Limits.{AreWithin};
-    ghost use Rattle.tcc_derive.specs.Prices.{Tables};
-    ghost use Rattle.tcc_derive.specs.private.Others.{IsShaped, tables_of};
-    ghost use Rattle.tcc_derive.specs.private.Classes.{HaveByClass};
+    ghost use Rattle.tcc_derive.specs.{Limits.AreWithin, Prices.Tables, private.Others.IsShaped, private.Others.tables_of, private.Classes.HaveByClass};
 
     ghost Value = { Tables };
 

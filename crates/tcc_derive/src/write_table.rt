@@ -1,7 +1,6 @@
 //! The keys that each transaction writes: the lists of writers by key, turned round in a step for each write (bucket sort).
 ghost use Rattle.std.specs.Prelude.{◌<◌, length, All, Contains, OnOk, IfOk};
-ghost use Rattle.tcc_derive.specs.private.Buckets.{Puts};
-ghost use Rattle.tcc_derive.specs.private.KeyTables.{IsWritesOf};
+ghost use Rattle.tcc_derive.specs.{private.Buckets.Puts, private.KeyTables.IsWritesOf};
 
 use crate::bucket::empty_buckets;
 use std::alloc::Global;

@@ -1,14 +1,12 @@
 //! The answer for a snapshot.
 ghost use Rattle.std.specs.Prelude.{◌≡◌, IfOk, MatchResult};
-ghost use Rattle.tcc_graph.specs.Orders.{IsFirstOrder};
-ghost use Rattle.tcc_graph.specs.Routes.{HasCycle};
+ghost use Rattle.tcc_graph.specs.{Orders.IsFirstOrder, Routes.HasCycle, Levels.Judged, Levels.judged};
 ghost use Rattle.tcc_near.specs.WalkLengths.{IsNearOf};
 ghost use Rattle.tcc_derive.specs.Prices.{IsPricesOf};
 ghost use Rattle.tcc_answer.specs.Labels.{labels_of};
 ghost use Rattle.tcc_answer.specs.declared.answer.Answer.TheVariants as answer;
 ghost use Rattle.tcc_explain.specs.Explained.{IsAnswerOfSnapshot, IsAnswerOfHistory, IsRefusal};
 ghost use Rattle.tcc_explain.specs.private.Stages.{IsLabelledHistory, IsSearched};
-ghost use Rattle.tcc_graph.specs.Levels.{Judged, judged};
 
 use crate::fault::ExplainFault;
 use crate::tables::{clocks_at, far_rows, near_rows};

@@ -1,33 +1,18 @@
 //! The laws of answers: their certificates keep the rules and have texts, a history has one first answer at most at a level,
 //! and an anomaly stays one where a snapshot goes on.
 ghost use Rattle.std.specs.Prelude.{◌≡◌, ◌≤◌, ℕ, List, Ok, length, take};
-ghost use Rattle.tcc_rows.specs.Answers.{answers_of};
-ghost use Rattle.tcc_txn.specs.Finished.{KeepsLimits};
-ghost use Rattle.tcc_rows.specs.Items.{finished_in};
-ghost use Rattle.tcc_txn.specs.Snapshots.{Sessions};
+ghost use Rattle.tcc_rows.specs.{Answers.answers_of, Items.finished_in};
+ghost use Rattle.tcc_txn.specs.{Finished.KeepsLimits, Snapshots.Sessions};
 ghost use Rattle.tcc_reads.specs.Sources.{history};
-ghost use Rattle.tcc_graph.specs.Levels.{Judged, judged};
-ghost use Rattle.tcc_graph.specs.Links.{cost};
-ghost use Rattle.tcc_graph.specs.Routes.{IsLeastCycle};
-ghost use Rattle.tcc_graph.specs.Orders.{IsCommitOrder, IsFirstOrder};
+ghost use Rattle.tcc_graph.specs.{Levels.Judged, Levels.judged, Links.cost, Routes.IsLeastCycle, Orders.IsCommitOrder, Orders.IsFirstOrder, declared.level.Level.Level, declared.link.Link.Link};
 ghost use Rattle.tcc_graph.specs.Answers as first;
-ghost use Rattle.tcc_graph.specs.declared.level.Level.{Level};
-ghost use Rattle.tcc_graph.specs.declared.link.Link.{Link};
+ghost use Rattle.tcc_cert.specs.{Texts.HasText, Texts.certificate_text, Reading.certificate_read, declared.version.Version.TheVariants.Two};
 ghost use Rattle.tcc_cert.specs.Rules.{Certifies, CertifiesCycle, CertifiesOrder};
-ghost use Rattle.tcc_cert.specs.Texts.{HasText, certificate_text};
-ghost use Rattle.tcc_cert.specs.Reading.{certificate_read};
-ghost use Rattle.tcc_cert.specs.declared.version.Version.TheVariants.{Two};
-ghost use Rattle.tcc_answer.specs.Answers.{LabelledCycle};
-ghost use Rattle.tcc_answer.specs.Claims.{certificate_of};
-ghost use Rattle.tcc_answer.specs.Texts.{answer_text};
-ghost use Rattle.tcc_answer.specs.Json.{answer_json};
-ghost use Rattle.tcc_answer.specs.declared.answer.Answer.{Answer};
+ghost use Rattle.tcc_answer.specs.{Answers.LabelledCycle, Claims.certificate_of, Texts.answer_text, Json.answer_json, declared.answer.Answer.Answer};
 ghost use Rattle.tcc_answer.specs.declared.answer.Answer.TheVariants as answer;
 ghost use Rattle.tcc_growth.specs.Growth.{Grows};
+ghost use Rattle.tcc_explain.specs.{Explained.IsAnswerOfHistory, Keys.HasNames, Next.IsAnomalyOf, Next.IsNextRefusal};
 ghost use Rattle.tcc_explain.specs.Certificates.{IsNearTable, IsFarTable, IsClocksAt, IsNumbered};
-ghost use Rattle.tcc_explain.specs.Explained.{IsAnswerOfHistory};
-ghost use Rattle.tcc_explain.specs.Keys.{HasNames};
-ghost use Rattle.tcc_explain.specs.Next.{IsAnomalyOf, IsNextRefusal};
 ghost use Rattle.tcc_explain.specs.declared.fault.NextFault.TheVariants as refusal;
 
 /// A least cycle with the distances, capped at what it costs, is certified; so is a commit order with the clocks of the

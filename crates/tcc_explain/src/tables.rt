@@ -1,12 +1,10 @@
 //! The tables of certificates, from the distances, the searches' rows and the clocks.
 ghost use Rattle.std.specs.Prelude.{◌≡◌, IfOk, map};
-ghost use Rattle.tcc_graph.specs.Orders.{IsCommitOrder};
+ghost use Rattle.tcc_graph.specs.{Orders.IsCommitOrder, Levels.judged, declared.level.Level.Level};
 ghost use Rattle.tcc_near.specs.WalkLengths.{IsNearOf};
 ghost use Rattle.tcc_bits.specs.Packed.{value_in};
 ghost use Rattle.tcc_explain.specs.Certificates.{IsNearTable, IsFarTable, IsClocksAt};
 ghost use Rattle.tcc_explain.specs.private.Capping.{AreFarRows};
-ghost use Rattle.tcc_graph.specs.Levels.{judged};
-ghost use Rattle.tcc_graph.specs.declared.level.Level.{Level};
 
 use std::alloc::Global;
 use tcc_answer::CappedRows;

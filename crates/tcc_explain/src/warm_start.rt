@@ -1,10 +1,7 @@
 //! Warm start: what a search may begin with is what an earlier cycle costs now, an upper bound on what a least one costs. Behind each
 //! link the total is what the cheapest links cost so far along the way. L links take L look-ups of a cost.
 ghost use Rattle.std.specs.Prelude.{◌≡◌, ◌<◌, ◌^◌, ◌⊎◌, ℕ, IfSome};
-ghost use Rattle.tcc_graph.specs.Levels.{Judged};
-ghost use Rattle.tcc_graph.specs.Links.{link_cost, cost};
-ghost use Rattle.tcc_graph.specs.Routes.{IsCycle};
-ghost use Rattle.tcc_graph.specs.declared.link.Link.{Link};
+ghost use Rattle.tcc_graph.specs.{Levels.Judged, Links.link_cost, Links.cost, Routes.IsCycle, declared.link.Link.Link};
 ghost use Rattle.tcc_derive.specs.Prices.{IsPricesOf, IsLinkOf};
 ghost use Rattle.tcc_core.specs.Shares.{IsCycleCost};
 ghost use Rattle.tcc_explain.specs.private.Capping.{IsAtMost};

@@ -4,8 +4,7 @@ ghost use Rattle.std.specs.IoError.{error_kind};
 ghost use Rattle.std.specs.declared.io.ErrorKind.{ErrorKind};
 ghost use Rattle.tcc_files.specs.Files.{PrintsUnopened};
 ghost use Rattle.tcc_large_check.specs.LargeChecks.{large_check};
-ghost use Rattle.tcc_verdict.specs.Checking.{IsRun, PrintsOutcome};
-ghost use Rattle.tcc_verdict.specs.Checks.{IsCheckRun, PrintsSome};
+ghost use Rattle.tcc_verdict.specs.{Checking.IsRun, Checking.PrintsOutcome, Checks.IsCheckRun, Checks.PrintsSome};
 
 use crate::files::{open, print_unopened};
 use crate::telling::Telling;

@@ -3,8 +3,7 @@ ghost use Rattle.std.specs.Prelude.{◌≡◌, IfOk, option_map, codes};
 ghost use Rattle.serde_json.specs.View.{view};
 ghost use Rattle.tcc_graph.specs.Links.{cost};
 ghost use Rattle.tcc_answer.specs.Json.{json_line};
-ghost use Rattle.tcc_print.specs.Json.{row_fault_json};
-ghost use Rattle.tcc_print.specs.Statuses.{row_status};
+ghost use Rattle.tcc_print.specs.{Json.row_fault_json, Statuses.row_status};
 ghost use Rattle.tcc_full.specs.Objects.{anomaly_json, committed_count, consistent_json, ended_json, fault_json, field_name, is_large, level_word, limits_json, name_json, none_json, unresolved_json};
 ghost use Rattle.tcc_full.specs.Records.{records_of};
 

@@ -1,11 +1,9 @@
 //! What is found for a snapshot.
 ghost use Rattle.std.specs.Prelude.{◌≡◌, IfOk, true};
-ghost use Rattle.tcc_txn.specs.Finished.{KeepsLimits};
-ghost use Rattle.tcc_txn.specs.Snapshots.{Sessions};
+ghost use Rattle.tcc_txn.specs.{Finished.KeepsLimits, Snapshots.Sessions};
 ghost use Rattle.tcc_graph.specs.Levels.{judged};
 ghost use Rattle.tcc_least.specs.Shapes.{AreLeast};
-ghost use Rattle.tcc_large.specs.Decisions.{IsDecision};
-ghost use Rattle.tcc_large.specs.Explained.{IsLargeAnswer};
+ghost use Rattle.tcc_large.specs.{Decisions.IsDecision, Explained.IsLargeAnswer};
 ghost use Rattle.tcc_full_run.specs.Found.{IsFound};
 
 use std::alloc::Global;

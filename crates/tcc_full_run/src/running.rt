@@ -1,8 +1,7 @@
 //! From the bytes of records to all that is told of their answer.
 ghost use Rattle.std.specs.Prelude.{◌≡◌, ◌++◌, ℕ, Err, IfOk, IfSome, MatchResult, Ok};
 ghost use Rattle.tcc_rows.specs.Recordings.{IsRecorded};
-ghost use Rattle.tcc_full_run.specs.Found.{IsFound};
-ghost use Rattle.tcc_full_run.specs.Runs.{IsFullRun};
+ghost use Rattle.tcc_full_run.specs.{Found.IsFound, Runs.IsFullRun};
 
 use crate::finding::{Found, find_large, find_small};
 use crate::reading::{Failed, within};

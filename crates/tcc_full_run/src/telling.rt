@@ -1,10 +1,7 @@
 //! What is told of a snapshot, or why nothing was judged, and the number that the run then ends with.
 ghost use Rattle.std.specs.Prelude.{◌≡◌, ◌⊎◌, IfOk, true, false};
 ghost use Rattle.tcc_answer.specs.Json.{json_line};
-ghost use Rattle.tcc_full.specs.Objects.{anomaly_json};
-ghost use Rattle.tcc_full.specs.Records.{records_of};
-ghost use Rattle.tcc_full.specs.Rows.{HasRowsOf};
-ghost use Rattle.tcc_full.specs.declared.rows.OperationRows.{OperationRows};
+ghost use Rattle.tcc_full.specs.{Objects.anomaly_json, Records.records_of, Rows.HasRowsOf, declared.rows.OperationRows.OperationRows};
 ghost use Rattle.tcc_full_run.specs.Found.{found_json, found_status, order_json, records_by};
 ghost use Rattle.tcc_full_run.specs.Runs.{TellsDevice, TellsFault, TellsFound, TellsMemory};
 

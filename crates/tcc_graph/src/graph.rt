@@ -2,8 +2,7 @@
 ghost use Rattle.std.specs.Prelude.{◌≡◌, ◌≤◌, ◌<◌, ℕ, length, All, IfOk};
 ghost use Rattle.tcc_txn.specs.declared.limits.TheConstants.{MAX_COUNT, MAX_SESSIONS};
 ghost use Rattle.tcc_reads.specs.History.{IsBySession, count, entry_at, owner};
-ghost use Rattle.tcc_graph.specs.Relations.{reads_from};
-ghost use Rattle.tcc_graph.specs.Readings.{AreReadings};
+ghost use Rattle.tcc_graph.specs.{Relations.reads_from, Readings.AreReadings};
 
 use crate::LargeGraph;
 use crate::named::{Named, named_by};

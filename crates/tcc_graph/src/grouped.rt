@@ -1,9 +1,7 @@
 //! Values in groups that are numbered.
 ghost use Rattle.std.specs.Prelude.{◌≡◌, ◌≤◌, ◌++◌, [], ◌∷◌, length, map, zip, All, IfOk, OnOk};
 ghost use Rattle.std.specs.List.Sorted.{IsNonDecreasing};
-ghost use Rattle.tcc_graph.specs.private.Grouped.{of_group, IsSpan};
-ghost use Rattle.tcc_graph.specs.Relations.{has_items};
-ghost use Rattle.tcc_graph.specs.private.KeyRows.{is_last, is_last_pair};
+ghost use Rattle.tcc_graph.specs.{private.Grouped.of_group, private.Grouped.IsSpan, Relations.has_items, private.KeyRows.is_last, private.KeyRows.is_last_pair};
 
 use std::alloc::Global;
 use std::marker::Model;

@@ -3,9 +3,7 @@ ghost use Rattle.std.specs.Prelude.{◌≡◌, ◌<◌, ◌≤◌, true, map, le
 ghost use Rattle.std.specs.List.Sorted.{IsStrictlySortedBy};
 ghost use Rattle.std.specs.Ordering.{nat_cmp};
 ghost use Rattle.std.specs.Cmp.Lexicographic.{slice_cmp};
-ghost use Rattle.tcc_graph.specs.Keys.{has_name, keys_of};
-ghost use Rattle.tcc_graph.specs.KeyIndices.{name_of};
-ghost use Rattle.tcc_graph.specs.private.ReadTables.{IsIndexed, AreIndexed};
+ghost use Rattle.tcc_graph.specs.{Keys.has_name, Keys.keys_of, KeyIndices.name_of, private.ReadTables.IsIndexed, private.ReadTables.AreIndexed};
 
 use crate::key_table::key_index_of;
 use std::alloc::Global;

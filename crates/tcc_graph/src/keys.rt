@@ -3,8 +3,7 @@ ghost use Rattle.std.specs.Prelude.{◌≡◌, ◌≤◌, length, map, OnOk, IfO
 ghost use Rattle.std.specs.List.Sorted.{IsStrictlySortedBy};
 ghost use Rattle.std.specs.Ordering.{nat_cmp};
 ghost use Rattle.std.specs.Cmp.Lexicographic.{slice_cmp};
-ghost use Rattle.tcc_graph.specs.Keys.{with_names, keys};
-ghost use Rattle.tcc_graph.specs.private.ReadTables.{over};
+ghost use Rattle.tcc_graph.specs.{Keys.with_names, Keys.keys, private.ReadTables.over};
 
 use std::alloc::Global;
 use std::collections::BTreeSet;

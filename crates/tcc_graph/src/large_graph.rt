@@ -1,15 +1,11 @@
 //! The graph of a resolved history of the large limits.
 ghost use Rattle.std.specs.Prelude.{◌≡◌, ◌≤◌, ◌<◌, ◌+◌, ◌++◌, ◌⊎◌, ◌↔◌, ℕ, List, length, map, All, IfOk, IsTrue, string_bytes, MatchOption, []};
-ghost use Rattle.tcc_graph.specs.private.Grouped.{of_group};
-ghost use Rattle.tcc_txn.specs.declared.limits.TheConstants.{LARGE_COUNT, LARGE_SESSIONS};
-ghost use Rattle.tcc_reads.specs.History.{History, IsBySession, count, entry_at, owner};
+ghost use Rattle.tcc_graph.specs.{private.Grouped.of_group, Readings.AreReadingsByIndex, Readings.AreReadingsOfKey, Levels.judged, Numbers.at, Numbers.label, Links.IsLink};
 ghost use Rattle.tcc_graph.specs.Relations.{IsCausalPair, IsSessionPair, session_pair, previous, reads_from, causal_pair};
 ghost use Rattle.tcc_graph.specs.Walks.{IsStep, step_from, step_to};
-ghost use Rattle.tcc_graph.specs.Readings.{AreReadingsByIndex, AreReadingsOfKey};
 ghost use Rattle.tcc_graph.specs.Keys.{IsWriter, keys, key_at, writers, readers};
-ghost use Rattle.tcc_graph.specs.Levels.{judged};
-ghost use Rattle.tcc_graph.specs.Numbers.{at, label};
-ghost use Rattle.tcc_graph.specs.Links.{IsLink};
+ghost use Rattle.tcc_txn.specs.declared.limits.TheConstants.{LARGE_COUNT, LARGE_SESSIONS};
+ghost use Rattle.tcc_reads.specs.History.{History, IsBySession, count, entry_at, owner};
 
 use crate::grouped::Grouped;
 use crate::indexed::{Indexed, indexed_by};
@@ -38,8 +34,7 @@ pub struct LargeGraph {
 
 impl Model for LargeGraph {
     ghost use Rattle.tcc_reads.specs.History.{History};
-    ghost use Rattle.tcc_graph.specs.private.ReadTables.{entries_of, history_of};
-    ghost use Rattle.tcc_graph.specs.private.Graphs.{IsGraph};
+    ghost use Rattle.tcc_graph.specs.{private.ReadTables.entries_of, private.ReadTables.history_of, private.Graphs.IsGraph};
 
     ghost Value = { History };
 

@@ -1,10 +1,7 @@
 //! The law of levels: a history that is causally consistent keeps Read Atomic.
 ghost use Rattle.std.specs.Prelude.{ℕ, List};
 ghost use Rattle.tcc_reads.specs.History.{History};
-ghost use Rattle.tcc_graph.specs.Levels.{causally, atomically};
-ghost use Rattle.tcc_graph.specs.Orders.{IsCommitOrder};
-ghost use Rattle.tcc_graph.specs.Routes.{IsCycle};
-ghost use Rattle.tcc_graph.specs.declared.link.Link.{Link};
+ghost use Rattle.tcc_graph.specs.{Levels.causally, Levels.atomically, Orders.IsCommitOrder, Routes.IsCycle, declared.link.Link.Link};
 
 /// Every commit order at `Causal` is one at `Atomic`, and every cycle at `Atomic` is one at `Causal`, where it costs the
 /// same, since what links cost doesn't depend on a level.

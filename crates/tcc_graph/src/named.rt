@@ -1,9 +1,7 @@
 //! What transactions write and read, by the names of the keys: what the calls of a small graph lend.
 ghost use Rattle.std.specs.Prelude.{◌≡◌, ◌<◌, length, map, All, IfOk};
 ghost use Rattle.tcc_reads.specs.History.{count};
-ghost use Rattle.tcc_graph.specs.KeyIndices.{name_of};
-ghost use Rattle.tcc_graph.specs.private.ReadTables.{named};
-ghost use Rattle.tcc_graph.specs.private.Graphs.{IsNamed, AreNamed};
+ghost use Rattle.tcc_graph.specs.{KeyIndices.name_of, private.ReadTables.named, private.Graphs.IsNamed, private.Graphs.AreNamed};
 
 use crate::LargeGraph;
 use crate::grouped::Grouped;

@@ -1,7 +1,6 @@
 //! Whether links are a cycle of a history.
 ghost use Rattle.std.specs.Prelude.{◌≡◌, ◌↔◌, IsTrue};
-ghost use Rattle.tcc_graph.specs.Levels.{judged};
-ghost use Rattle.tcc_graph.specs.Routes.{AreCycle, LinksLead};
+ghost use Rattle.tcc_graph.specs.{Levels.judged, Routes.AreCycle, Routes.LinksLead};
 
 use crate::{LargeGraph, Level, Link};
 

@@ -1,11 +1,6 @@
 //! Which steps, walks and links are those of a history.
 ghost use Rattle.std.specs.Prelude.{◌≡◌, ◌↔◌, ◌<◌, length, map, All, IsTrue};
-ghost use Rattle.tcc_graph.specs.Relations.{IsSessionPair, IsReadsPair};
-ghost use Rattle.tcc_graph.specs.Keys.{IsWriter, has_name};
-ghost use Rattle.tcc_graph.specs.KeyIndices.{name_of};
-ghost use Rattle.tcc_graph.specs.Walks.{IsStep, Leads};
-ghost use Rattle.tcc_graph.specs.Levels.{IsAllowed, judged};
-ghost use Rattle.tcc_graph.specs.Links.{IsReason, IsLink};
+ghost use Rattle.tcc_graph.specs.{Relations.IsSessionPair, Relations.IsReadsPair, Keys.IsWriter, Keys.has_name, KeyIndices.name_of, Walks.IsStep, Walks.Leads, Levels.IsAllowed, Levels.judged, Links.IsReason, Links.IsLink};
 
 use crate::{LargeGraph, Level, Link, Step};
 use tcc_txn::Name;

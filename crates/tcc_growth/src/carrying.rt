@@ -1,11 +1,8 @@
 //! What becomes of the links of an earlier cycle in a later history.
 ghost use Rattle.std.specs.Prelude.{◌≡◌, All, IfOk, MatchOption, map};
-ghost use Rattle.tcc_graph.specs.Links.{IsLink};
+ghost use Rattle.tcc_graph.specs.{Links.IsLink, Levels.judged, Renumbered.link_by};
 ghost use Rattle.tcc_answer.specs.Labels.{labels_of};
-ghost use Rattle.tcc_graph.specs.Levels.{judged};
-ghost use Rattle.tcc_growth.specs.Growth.{IsFirstMissing};
-ghost use Rattle.tcc_growth.specs.Moved.{moved};
-ghost use Rattle.tcc_graph.specs.Renumbered.{link_by};
+ghost use Rattle.tcc_growth.specs.{Growth.IsFirstMissing, Moved.moved};
 
 use crate::renumbering::ByLabel;
 use std::alloc::Global;

@@ -2,14 +2,8 @@
 //! where a snapshot goes on, its anomalies stay, and the least never costs more.
 ghost use Rattle.std.specs.Prelude.{ℕ, ◌<◌, ◌≡◌, length, List, map, All};
 ghost use Rattle.tcc_txn.specs.Snapshots.{Sessions};
-ghost use Rattle.tcc_graph.specs.Levels.{Judged, judged};
-ghost use Rattle.tcc_graph.specs.Links.{IsLink, cost};
-ghost use Rattle.tcc_graph.specs.Routes.{IsCycle};
-ghost use Rattle.tcc_graph.specs.declared.level.Level.{Level};
-ghost use Rattle.tcc_graph.specs.declared.link.Link.{Link};
-ghost use Rattle.tcc_graph.specs.Renumbered.{LeadOn, link_by};
-ghost use Rattle.tcc_growth.specs.Growth.{Grows, IsFirstMissing, number_in, link_in, CarriesLinks, CarriesCycles, KeepsLabels, KeepsLinks, KeepsCycles};
-ghost use Rattle.tcc_growth.specs.Growth.{KeepsAnomalies, CostsNoMore};
+ghost use Rattle.tcc_graph.specs.{Levels.Judged, Levels.judged, Links.IsLink, Links.cost, Routes.IsCycle, declared.level.Level.Level, declared.link.Link.Link, Renumbered.LeadOn, Renumbered.link_by};
+ghost use Rattle.tcc_growth.specs.Growth.{Grows, IsFirstMissing, number_in, link_in, CarriesLinks, CarriesCycles, KeepsLabels, KeepsLinks, KeepsCycles, KeepsAnomalies, CostsNoMore};
 ghost use Rattle.tcc_slices.specs.Parts.{IsSlice};
 ghost use Rattle.tcc_reads.specs.Sources.{history};
 

@@ -3,12 +3,8 @@
 ghost use Rattle.std.specs.Prelude.{◌≡◌, ◌<◌, ◌+◌, length, slice_index, IfOk, OnOk};
 ghost use Rattle.tcc_graph.specs.Levels.{causally};
 ghost use Rattle.tcc_clocks.specs.Clocks.{LeadsOnward};
-ghost use Rattle.tcc_judge.specs.declared.least.TheConstants.{NONE};
-ghost use Rattle.tcc_judge.specs.Orders.{BreaksAxiom};
+ghost use Rattle.tcc_judge.specs.{declared.least.TheConstants.NONE, Orders.BreaksAxiom, private.Decoding.IsOrdered, private.Least.IsFoundFirst, private.Least.IsLeastOf, private.Blocks.IsAt, private.Blocks.IsReady};
 ghost use Rattle.tcc_judge.specs.private.Behind.{IsBehindOf, IsBrokenIn, IsWithin, earlier_of, first_with, is_earlier};
-ghost use Rattle.tcc_judge.specs.private.Decoding.{IsOrdered};
-ghost use Rattle.tcc_judge.specs.private.Least.{IsFoundFirst, IsLeastOf};
-ghost use Rattle.tcc_judge.specs.private.Blocks.{IsAt, IsReady};
 
 use crate::blocks::Block;
 use crate::least::NONE;

@@ -2,10 +2,8 @@
 //! clocks of the block, and of each key and each of its sessions the next writer behind a place. For N transactions, R reads, W writes
 //! and S sessions that takes some 64 (N + 2 R) + W steps a block, all of them maxima and comparisons of rows.
 ghost use Rattle.std.specs.Prelude.{◌≡◌, ◌<◌, ◌+◌, ◌*◌, length, IfOk, OnOk};
-ghost use Rattle.tcc_clocks.specs.Clocks.{LeadsOnward};
-ghost use Rattle.tcc_clocks.specs.declared.latest.TheConstants.{WIDE};
-ghost use Rattle.tcc_judge.specs.private.Blocks.{IsAt, IsReady};
-ghost use Rattle.tcc_judge.specs.private.Decoding.{IsOrdered};
+ghost use Rattle.tcc_clocks.specs.{Clocks.LeadsOnward, declared.latest.TheConstants.WIDE};
+ghost use Rattle.tcc_judge.specs.{private.Blocks.IsAt, private.Blocks.IsReady, private.Decoding.IsOrdered};
 
 use crate::next_writers::{NextWriters, note_writer};
 use std::alloc::Global;

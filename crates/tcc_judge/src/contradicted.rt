@@ -4,15 +4,11 @@
 ghost use Rattle.std.specs.Prelude.{◌≡◌, ◌<◌, ◌≤◌, ◌+◌, ◌⊎◌, ◌↔◌, ℕ, List, length, slice_index, slice_index_or, true, false, Contains, IfOk, IsTrue, OnOk};
 ghost use Rattle.std.specs.List.Sorted.{IsNonDecreasing};
 ghost use Rattle.tcc_reads.specs.History.{History, count};
-ghost use Rattle.tcc_graph.specs.Keys.{keys, key_at};
-ghost use Rattle.tcc_graph.specs.Relations.{IsReadsPair};
-ghost use Rattle.tcc_graph.specs.Tables.{row_of};
+ghost use Rattle.tcc_graph.specs.{Keys.keys, Keys.key_at, Relations.IsReadsPair, Tables.row_of};
 ghost use Rattle.tcc_clocks.specs.declared.latest.TheConstants.{WIDE};
-ghost use Rattle.tcc_judge.specs.declared.least.TheConstants.{NONE};
+ghost use Rattle.tcc_judge.specs.{declared.least.TheConstants.NONE, private.Decoding.IsOrdered, private.Positions.ArePositions, private.Positions.KeepsPairs};
 ghost use Rattle.tcc_judge.specs.private.Blocks.{IsAt, IsReady, IsWide};
 ghost use Rattle.tcc_judge.specs.private.Contradicted.{AreContradicted, AreContradictedTo, IsBehindAt, IsBehindSome, IsBehindTo, IsGreatestOf};
-ghost use Rattle.tcc_judge.specs.private.Decoding.{IsOrdered};
-ghost use Rattle.tcc_judge.specs.private.Positions.{ArePositions, KeepsPairs};
 
 use crate::behind::least_within;
 use crate::blocks::Block;

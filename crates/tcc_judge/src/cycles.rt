@@ -2,9 +2,7 @@
 ghost use Rattle.std.specs.Prelude.{◌≡◌, ◌≤◌, ◌↔◌, [], IfOk, IsTrue, List};
 ghost use Rattle.tcc_graph.specs.declared.level.Level.{Level};
 ghost use Rattle.tcc_cert.specs.declared.large.Run.{Run};
-ghost use Rattle.tcc_judge.specs.declared.cycles.TheConstants.{SHORT};
-ghost use Rattle.tcc_judge.specs.Cycles.{AreNeeded, HasLinksSizes};
-ghost use Rattle.tcc_judge.specs.Verdicts.{cycle_rules, least_rules};
+ghost use Rattle.tcc_judge.specs.{declared.cycles.TheConstants.SHORT, Cycles.AreNeeded, Cycles.HasLinksSizes, Verdicts.cycle_rules, Verdicts.least_rules};
 ghost use Rattle.tcc_check.specs.Asked.{IsVerdictOf};
 
 use crate::decoding::told;

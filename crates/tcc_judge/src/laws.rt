@@ -1,25 +1,12 @@
 //! The laws that what is accepted is true, and that one's own claims are accepted.
 ghost use Rattle.std.specs.Prelude.{◌≡◌, ◌≤◌, ◌↔◌, ℕ, List, Some};
 ghost use Rattle.tcc_reads.specs.History.{History};
-ghost use Rattle.tcc_graph.specs.declared.level.Level.{Level};
-ghost use Rattle.tcc_graph.specs.declared.link.Link.{Link};
-ghost use Rattle.tcc_graph.specs.Levels.{judged};
-ghost use Rattle.tcc_graph.specs.Orders.{IsCommitOrder};
-ghost use Rattle.tcc_graph.specs.Links.{cost};
-ghost use Rattle.tcc_graph.specs.Routes.{IsCycle, IsLeastCycle};
-ghost use Rattle.tcc_cert.specs.RunsTold.{order_claim_of};
-ghost use Rattle.tcc_cert.specs.declared.large.LargeCertificate.{LargeCertificate};
-ghost use Rattle.tcc_cert.specs.declared.large.LinksClaim.{LinksClaim};
-ghost use Rattle.tcc_cert.specs.declared.large.Run.{Run};
-ghost use Rattle.tcc_cert.specs.declared.large.RunsClaim.{RunsClaim};
+ghost use Rattle.tcc_graph.specs.{declared.level.Level.Level, declared.link.Link.Link, Levels.judged, Orders.IsCommitOrder, Links.cost, Routes.IsCycle, Routes.IsLeastCycle};
+ghost use Rattle.tcc_cert.specs.{RunsTold.order_claim_of, declared.large.LargeCertificate.LargeCertificate, declared.large.LinksClaim.LinksClaim, declared.large.Run.Run, declared.large.RunsClaim.RunsClaim};
 ghost use Rattle.tcc_least.specs.Shapes.{AreLeast};
-ghost use Rattle.tcc_judge.specs.Runs.{order_of};
-ghost use Rattle.tcc_judge.specs.Claims.{cycle_claim_of, short_claim_of};
-ghost use Rattle.tcc_judge.specs.Cycles.{IsRightCycle};
+ghost use Rattle.tcc_judge.specs.{Runs.order_of, Claims.cycle_claim_of, Claims.short_claim_of, Cycles.IsRightCycle, declared.verdict.Rule.Rule};
 ghost use Rattle.tcc_judge.specs.Verdicts.{HasOrderSizes, cycle_rules, least_rules, order_rules, rules_of};
-ghost use Rattle.tcc_judge.specs.declared.verdict.Rule.{Rule};
-ghost use Rattle.tcc_check.specs.declared.verdict.Verdict.{Verdict};
-ghost use Rattle.tcc_check.specs.Asked.{AllHold, IsVerdictOf};
+ghost use Rattle.tcc_check.specs.{declared.verdict.Verdict.Verdict, Asked.AllHold, Asked.IsVerdictOf};
 ghost use Rattle.tcc_check.specs.declared.verdict.Verdict.TheVariants as verdict;
 
 use tcc_graph::LargeGraph;

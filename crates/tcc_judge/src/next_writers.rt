@@ -2,10 +2,9 @@
 ghost use Rattle.std.specs.Prelude.{◌≡◌, ◌<◌, ◌+◌, ℕ, List, length, set, All, IfOk, OnOk, replicate};
 ghost use Rattle.tcc_graph.specs.Tables.{row_of};
 ghost use Rattle.tcc_judge.specs.declared.least.TheConstants.{NONE};
-ghost use Rattle.tcc_clocks.specs.declared.latest.TheConstants.{WIDE};
-ghost use Rattle.tcc_reads.specs.History.{count};
-ghost use Rattle.tcc_clocks.specs.Clocks.{AreOwners};
 ghost use Rattle.tcc_judge.specs.private.NextWriters.{AreLowered, AreNextWriters, lowered};
+ghost use Rattle.tcc_clocks.specs.{declared.latest.TheConstants.WIDE, Clocks.AreOwners};
+ghost use Rattle.tcc_reads.specs.History.{count};
 
 use crate::least::NONE;
 use std::alloc::{AllocError, Global};

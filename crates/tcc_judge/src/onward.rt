@@ -2,14 +2,10 @@
 //! goes through `init`, or else a derived link leads back in the order over each of its transactions; so it is looked for there.
 ghost use Rattle.std.specs.Prelude.{◌≤◌, ◌⊎◌, ◌↔◌, IfOk, IsTrue, MatchOption};
 ghost use Rattle.tcc_graph.specs.Levels.{judged};
-ghost use Rattle.tcc_lanes.specs.Among.{HasCheaperAmong, HasCheaperIntoInit};
-ghost use Rattle.tcc_lanes.specs.declared.limits.TheConstants.{MOST_MEMBERS, MOST_STEPS};
+ghost use Rattle.tcc_lanes.specs.{Among.HasCheaperAmong, Among.HasCheaperIntoInit, declared.limits.TheConstants.MOST_MEMBERS, declared.limits.TheConstants.MOST_STEPS};
+ghost use Rattle.tcc_judge.specs.{private.Members.AreThose, private.Onward.AreNarrowed, private.Onward.onward_rules, private.Positions.KeepsPairs, private.Decoding.IsOrdered};
 ghost use Rattle.tcc_judge.specs.Spanned.{IsBounded, IsSpanned, IsStaleKey};
 ghost use Rattle.tcc_check.specs.Asked.{IsVerdictOf};
-ghost use Rattle.tcc_judge.specs.private.Members.{AreThose};
-ghost use Rattle.tcc_judge.specs.private.Onward.{AreNarrowed, onward_rules};
-ghost use Rattle.tcc_judge.specs.private.Positions.{KeepsPairs};
-ghost use Rattle.tcc_judge.specs.private.Decoding.{IsOrdered};
 
 use crate::contradicted::contradicted_along;
 use crate::members::{marked, marked_under};

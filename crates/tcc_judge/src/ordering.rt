@@ -1,12 +1,8 @@
 //! The judge of a claim that runs tell a commit order.
 ghost use Rattle.std.specs.Prelude.{◌≡◌, IfOk, IfSome, MatchOption};
 ghost use Rattle.tcc_graph.specs.Levels.{judged};
-ghost use Rattle.tcc_judge.specs.Orders.{BreaksAxiom};
-ghost use Rattle.tcc_judge.specs.Runs.{order_of};
+ghost use Rattle.tcc_judge.specs.{Orders.BreaksAxiom, Runs.order_of, private.Least.IsFoundFirst, private.Positions.KeepsPairs, private.Decoding.IsOrdered};
 ghost use Rattle.tcc_judge.specs.Verdicts.{HasOrderSizes, order_rules, pair_rules};
-ghost use Rattle.tcc_judge.specs.private.Least.{IsFoundFirst};
-ghost use Rattle.tcc_judge.specs.private.Positions.{KeepsPairs};
-ghost use Rattle.tcc_judge.specs.private.Decoding.{IsOrdered};
 ghost use Rattle.tcc_check.specs.Asked.{IsVerdictOf};
 
 use crate::behind::first_behind;

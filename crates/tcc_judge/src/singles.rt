@@ -4,15 +4,10 @@
 ghost use Rattle.std.specs.Prelude.{◌≡◌, ◌≤◌, ◌<◌, ◌↔◌, ℕ, length, slice_index, Contains, IfOk, IsTrue, nat_lt, true, false};
 ghost use Rattle.std.specs.List.Sorted.{IsNonDecreasing, IsPartitionPoint};
 ghost use Rattle.tcc_reads.specs.History.{IsBySession, count};
+ghost use Rattle.tcc_graph.specs.{Levels.atomically, Relations.IsSessionPair};
 ghost use Rattle.tcc_graph.specs.Keys.{keys, key_at, writers};
-ghost use Rattle.tcc_graph.specs.Levels.{atomically};
-ghost use Rattle.tcc_graph.specs.Relations.{IsSessionPair};
-ghost use Rattle.tcc_judge.specs.declared.least.TheConstants.{NONE};
-ghost use Rattle.tcc_judge.specs.Orders.{BreaksAxiom};
-ghost use Rattle.tcc_judge.specs.private.Least.{IsFoundFirst, IsLeastOf};
-ghost use Rattle.tcc_judge.specs.private.Positions.{KeepsPairs};
+ghost use Rattle.tcc_judge.specs.{declared.least.TheConstants.NONE, Orders.BreaksAxiom, private.Least.IsFoundFirst, private.Least.IsLeastOf, private.Positions.KeepsPairs, private.Decoding.AreFirsts, private.Decoding.IsOrdered};
 ghost use Rattle.tcc_judge.specs.private.Singles.{DoRise, IsBegin, IsInSession, IsSingle, IsSingleOf, IsSource, is_passed};
-ghost use Rattle.tcc_judge.specs.private.Decoding.{AreFirsts, IsOrdered};
 
 use crate::behind::first_with;
 use crate::decoding::firsts_of;

@@ -2,10 +2,7 @@
 ghost use Rattle.std.specs.Prelude.{◌<◌, ◌≡◌, length, IfOk, MatchResult};
 ghost use Rattle.tcc_reads.specs.History.{count};
 ghost use Rattle.tcc_cert.specs.Tables.{IsFirstAt};
-ghost use Rattle.tcc_judge.specs.Orders.{BreaksPair};
-ghost use Rattle.tcc_judge.specs.private.Least.{IsFoundFirst, IsLeastOf};
-ghost use Rattle.tcc_judge.specs.private.Positions.{IsTurned, KeepsPairs};
-ghost use Rattle.tcc_judge.specs.private.Decoding.{IsOrdered};
+ghost use Rattle.tcc_judge.specs.{Orders.BreaksPair, private.Least.IsFoundFirst, private.Least.IsLeastOf, private.Positions.IsTurned, private.Positions.KeepsPairs, private.Decoding.IsOrdered};
 
 use crate::least::NONE;
 use crate::positions::positions_of;

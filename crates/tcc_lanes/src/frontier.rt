@@ -3,10 +3,7 @@ ghost use Rattle.std.specs.Prelude.{◌≡◌, ◌<◌, ◌↔◌, ℕ, length, 
 ghost use Rattle.tcc_reads.specs.History.{IsBySession, count};
 ghost use Rattle.tcc_graph.specs.Levels.{judged};
 ghost use Rattle.tcc_clocks.specs.Parents.{ArePrevious};
-ghost use Rattle.tcc_lanes.specs.declared.words.TheConstants.{LANES};
-ghost use Rattle.tcc_lanes.specs.private.Marks.{IsAt};
-ghost use Rattle.tcc_lanes.specs.private.Walking.{IsWalkedOn, underway_at};
-ghost use Rattle.tcc_lanes.specs.private.Walks.{AreWalked};
+ghost use Rattle.tcc_lanes.specs.{declared.words.TheConstants.LANES, private.Marks.IsAt, private.Walking.IsWalkedOn, private.Walking.underway_at, private.Walks.AreWalked};
 
 use crate::spreading::spread;
 use std::alloc::Global;

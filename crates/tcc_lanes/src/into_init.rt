@@ -2,12 +2,9 @@
 //! For K keys, N transactions and R reads, and walks of so many steps at most, that takes K / 64 times so many sweeps of N + R.
 ghost use Rattle.std.specs.Prelude.{◌≡◌, ◌≤◌, ◌<◌, ◌↔◌, ℕ, length, All, IfOk, IsTrue};
 ghost use Rattle.tcc_reads.specs.History.{IsBySession, count};
-ghost use Rattle.tcc_graph.specs.Keys.{keys};
-ghost use Rattle.tcc_graph.specs.Levels.{judged};
+ghost use Rattle.tcc_graph.specs.{Keys.keys, Levels.judged};
 ghost use Rattle.tcc_clocks.specs.Parents.{ArePrevious};
-ghost use Rattle.tcc_lanes.specs.declared.words.TheConstants.{LANES};
-ghost use Rattle.tcc_lanes.specs.Among.{HasCheaperIntoInit};
-ghost use Rattle.tcc_lanes.specs.private.Marks.{HasLane};
+ghost use Rattle.tcc_lanes.specs.{declared.words.TheConstants.LANES, Among.HasCheaperIntoInit, private.Marks.HasLane};
 ghost use Rattle.tcc_lanes.specs.private.IntoInit.{AreBegun, HasIntoInit, IsMetByInit, IsReadOfInit, IsWrittenBy};
 
 use crate::frontier::walked;

@@ -1,12 +1,8 @@
 //! The laws of cycles where all pairs rise, as they do by the places of an order that keeps them: which readings to look at, and
 //! which transactions.
 ghost use Rattle.std.specs.Prelude.{◌≢◌, ◌↔◌, ℕ, List, All};
-ghost use Rattle.tcc_graph.specs.Links.{link_from, link_to};
-ghost use Rattle.tcc_graph.specs.Levels.{Judged};
-ghost use Rattle.tcc_graph.specs.Routes.{IsCycle};
-ghost use Rattle.tcc_graph.specs.declared.link.Link.{Link};
-ghost use Rattle.tcc_least.specs.LeadingBack.{Rises};
-ghost use Rattle.tcc_least.specs.Shapes.{NoneBelow};
+ghost use Rattle.tcc_graph.specs.{Links.link_from, Links.link_to, Levels.Judged, Routes.IsCycle, declared.link.Link.Link};
+ghost use Rattle.tcc_least.specs.{LeadingBack.Rises, Shapes.NoneBelow};
 ghost use Rattle.tcc_lanes.specs.Contradicted.{HasCheaper, IsContradicted, IsSpanned, IsSpannedAside};
 
 /// No cycle costs less than n exactly where none does that comes back by a reading that the ranks contradict.

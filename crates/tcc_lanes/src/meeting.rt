@@ -2,9 +2,7 @@
 ghost use Rattle.std.specs.Prelude.{◌≡◌, ◌≤◌, ◌<◌, ◌↔◌, ◌⊎◌, ℕ, length, All, AllPairs, IfOk};
 ghost use Rattle.tcc_reads.specs.History.{count};
 ghost use Rattle.tcc_graph.specs.Keys.{keys};
-ghost use Rattle.tcc_lanes.specs.declared.limits.TheConstants.{MOST_MEMBERS};
-ghost use Rattle.tcc_lanes.specs.declared.words.TheConstants.{LANES};
-ghost use Rattle.tcc_lanes.specs.private.Marks.{IsAt};
+ghost use Rattle.tcc_lanes.specs.{declared.limits.TheConstants.MOST_MEMBERS, declared.words.TheConstants.LANES, private.Marks.IsAt};
 ghost use Rattle.tcc_lanes.specs.private.Pricing.{AreColumns, IsMetAt, IsMetIn};
 
 use crate::limits::MOST_MEMBERS;

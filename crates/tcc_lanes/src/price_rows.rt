@@ -1,12 +1,8 @@
 //! A row of prices for each member.
 ghost use Rattle.std.specs.Prelude.{◌≡◌, ◌≤◌, ◌<◌, ◌+◌, ◌*◌, List, length, if◌then◌else◌, All, AllPairs, IfOk, OnOk};
 ghost use Rattle.tcc_reads.specs.History.{count};
-ghost use Rattle.tcc_graph.specs.Levels.{IsAllowed, judged};
-ghost use Rattle.tcc_graph.specs.Relations.{causal_pair};
-ghost use Rattle.tcc_graph.specs.declared.step.Step.{Step};
-ghost use Rattle.tcc_lanes.specs.declared.limits.TheConstants.{MOST_MEMBERS, MOST_STEPS};
-ghost use Rattle.tcc_lanes.specs.declared.pricing.TheConstants.{NONE};
-ghost use Rattle.tcc_lanes.specs.declared.words.TheConstants.{LANES};
+ghost use Rattle.tcc_graph.specs.{Levels.IsAllowed, Levels.judged, Relations.causal_pair, declared.step.Step.Step};
+ghost use Rattle.tcc_lanes.specs.{declared.limits.TheConstants.MOST_MEMBERS, declared.limits.TheConstants.MOST_STEPS, declared.pricing.TheConstants.NONE, declared.words.TheConstants.LANES};
 ghost use Rattle.tcc_lanes.specs.private.Pricing.{ArePriceRows, AreRowsOn, IsRowOf};
 
 use crate::meeting::columns_of;

@@ -5,10 +5,7 @@ ghost use Rattle.std.specs.Prelude.{◌≡◌, ◌≢◌, ◌≤◌, ◌<◌, �
 ghost use Rattle.tcc_reads.specs.History.{IsBySession, count};
 ghost use Rattle.tcc_graph.specs.Levels.{judged};
 ghost use Rattle.tcc_clocks.specs.Parents.{ArePrevious};
-ghost use Rattle.tcc_lanes.specs.declared.limits.TheConstants.{MOST_MEMBERS};
-ghost use Rattle.tcc_lanes.specs.declared.words.TheConstants.{LANES};
-ghost use Rattle.tcc_lanes.specs.declared.pricing.TheConstants.{NONE};
-ghost use Rattle.tcc_lanes.specs.private.Marks.{HasLane, IsAt};
+ghost use Rattle.tcc_lanes.specs.{declared.limits.TheConstants.MOST_MEMBERS, declared.words.TheConstants.LANES, declared.pricing.TheConstants.NONE, private.Marks.HasLane, private.Marks.IsAt};
 ghost use Rattle.tcc_lanes.specs.private.Pricing.{AreColumns, ArePrices, IsLowered, cell};
 
 use crate::frontier::walk_on;

@@ -1,11 +1,7 @@
 //! The decision of a history at a level.
 ghost use Rattle.std.specs.Prelude.{◌≡◌, IfOk};
-ghost use Rattle.tcc_graph.specs.Links.{cost};
-ghost use Rattle.tcc_graph.specs.declared.level.Level.{Level};
-ghost use Rattle.tcc_graph.specs.Routes.{AreCycle};
-ghost use Rattle.tcc_large.specs.Decisions.{IsDecision};
-ghost use Rattle.tcc_large.specs.private.Retracing.{IsStuckAt, judged_at};
-ghost use Rattle.tcc_graph.specs.Levels.{judged};
+ghost use Rattle.tcc_graph.specs.{Links.cost, declared.level.Level.Level, Routes.AreCycle, Levels.judged};
+ghost use Rattle.tcc_large.specs.{Decisions.IsDecision, private.Retracing.IsStuckAt, private.Retracing.judged_at};
 ghost use Rattle.tcc_order.specs.Placements.{IsPlacement};
 
 use crate::component_order::order_to_judge;

@@ -1,7 +1,6 @@
 //! The law of least cycles: they pass no transaction twice.
 ghost use Rattle.std.specs.Prelude.{List};
-ghost use Rattle.tcc_graph.specs.Levels.{Judged};
-ghost use Rattle.tcc_graph.specs.declared.link.Link.{Link};
+ghost use Rattle.tcc_graph.specs.{Levels.Judged, declared.link.Link.Link};
 ghost use Rattle.tcc_least.specs.Shapes.{AreLeast};
 ghost use Rattle.tcc_large.specs.Cycles.{IsSimple};
 

@@ -3,11 +3,9 @@
 //! each derived link of the cycle: O(D (N + R)) for D derived links, N transactions and R reads.
 ghost use Rattle.std.specs.Prelude.{◌≡◌, ◌<◌, ◌≤◌, ◌⊎◌, ℕ, true, false, length, slice_index, All, Contains, IfOk, MatchOption};
 ghost use Rattle.tcc_reads.specs.History.{count};
-ghost use Rattle.tcc_graph.specs.Levels.{judged};
-ghost use Rattle.tcc_graph.specs.Relations.{IsSessionPair};
+ghost use Rattle.tcc_graph.specs.{Levels.judged, Relations.IsSessionPair, Routes.AreCycle};
 ghost use Rattle.tcc_bits.specs.Bits.{is_marked};
 ghost use Rattle.tcc_order.specs.Placements.{IsLeft};
-ghost use Rattle.tcc_graph.specs.Routes.{AreCycle};
 ghost use Rattle.tcc_large.specs.private.Retracing.{IsHeldBack, GoesRound, IsStuckAt, judged_at};
 
 use crate::cells::Cells;

@@ -3,8 +3,7 @@
 //! takes O(N + R) for the N transactions and R reads that it comes to.
 ghost use Rattle.std.specs.Prelude.{◌≡◌, ◌<◌, ◌≤◌, ℕ, length, All, IfOk, MatchOption, OnOk, slice_index};
 ghost use Rattle.tcc_reads.specs.History.{count};
-ghost use Rattle.tcc_graph.specs.Relations.{IsCausalPair, IsSessionPair};
-ghost use Rattle.tcc_graph.specs.Walks.{IsWalk};
+ghost use Rattle.tcc_graph.specs.{Relations.IsCausalPair, Relations.IsSessionPair, Walks.IsWalk};
 ghost use Rattle.tcc_large.specs.private.Reaching.{IsReach, IsMore, AreCovered, AreMet, AreMetBetween, AreSpread, number_at};
 
 use crate::cells::Cells;

@@ -1,8 +1,7 @@
 //! The link between two transactions of which one is known to stand before the other.
 ghost use Rattle.std.specs.Prelude.{◌≢◌, ◌<◌, List, ℕ, IfOk, MatchOption};
 ghost use Rattle.tcc_reads.specs.History.{count};
-ghost use Rattle.tcc_graph.specs.Levels.{causally, judged};
-ghost use Rattle.tcc_graph.specs.Links.{MayContradict};
+ghost use Rattle.tcc_graph.specs.{Levels.causally, Levels.judged, Links.MayContradict};
 ghost use Rattle.tcc_order.specs.Placements.{IsDerivedPair};
 ghost use Rattle.tcc_large.specs.private.Retracing.{IsHeldBack, IsLinkBetween};
 

@@ -2,10 +2,8 @@
 //! one. Of each start that was passed the position is kept, so it takes as many turns as there are links, and a cell for each
 //! transaction.
 ghost use Rattle.std.specs.Prelude.{IfOk};
-ghost use Rattle.tcc_graph.specs.Levels.{Judged};
-ghost use Rattle.tcc_graph.specs.Routes.{AreCycle};
-ghost use Rattle.tcc_large.specs.Cycles.{IsSimple};
-ghost use Rattle.tcc_large.specs.private.Returning.{IsClosed, IsFirstReturn};
+ghost use Rattle.tcc_graph.specs.{Levels.Judged, Routes.AreCycle};
+ghost use Rattle.tcc_large.specs.{Cycles.IsSimple, private.Returning.IsClosed, private.Returning.IsFirstReturn};
 
 use crate::cells::Cells;
 use std::alloc::Global;

@@ -20,8 +20,7 @@ struct LargeChecker;
 
 impl Checker for LargeChecker {
     ghost use Rattle.std.specs.Prelude.{refl};
-    ghost use Rattle.tcc_large_check.specs.LargeChecks.{large_check};
-    ghost use Rattle.tcc_large_check.specs.private.Stages.{IsSizedHistory};
+    ghost use Rattle.tcc_large_check.specs.{LargeChecks.large_check, private.Stages.IsSizedHistory};
 
     type Limits = LargeLimits;
 

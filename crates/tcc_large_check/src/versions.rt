@@ -1,8 +1,6 @@
 //! The verdict on a certificate, by the version that its first line says.
 ghost use Rattle.std.specs.Prelude.{◌≡◌, ℕ, List, IfSome, true};
-ghost use Rattle.tcc_cert.specs.Ahead.{IsAhead, is_new};
-ghost use Rattle.tcc_cert.specs.Parts.{parts_read};
-ghost use Rattle.tcc_cert.specs.Versions.{IsLargeAt};
+ghost use Rattle.tcc_cert.specs.{Ahead.IsAhead, Ahead.is_new, Parts.parts_read, Versions.IsLargeAt};
 ghost use Rattle.tcc_txn.specs.Snapshots.{Sessions};
 ghost use Rattle.tcc_verdict.specs.private.Stages.{MayBeOfText};
 ghost use Rattle.tcc_large_check.specs.LargeChecks.{large_check};

@@ -2,8 +2,7 @@
 ghost use Rattle.std.specs.Prelude.{◌≡◌, IfOk};
 ghost use Rattle.tcc_cert.specs.declared.large.LargeCertificate.TheVariants as claims;
 ghost use Rattle.tcc_judge.specs.Claims.{links_claim_of};
-ghost use Rattle.tcc_large_run.specs.LargeRuns.{short_runs};
-ghost use Rattle.tcc_large_run.specs.private.Stages.{answer_claim};
+ghost use Rattle.tcc_large_run.specs.{LargeRuns.short_runs, private.Stages.answer_claim};
 
 use std::alloc::Global;
 use tcc_answer::Answer;

@@ -1,21 +1,14 @@
 //! The laws of runs of `explain --large`: what is claimed is accepted, and the check accepts what was written, in bytes; and what
 //! the small limits take is answered as without `--large`.
 ghost use Rattle.std.specs.Prelude.{◌≡◌, ◌≢◌, ◌↔◌, ℕ, List, Option, None, Some, []};
-ghost use Rattle.tcc_txn.specs.Finished.{KeepsLimits};
-ghost use Rattle.tcc_txn.specs.Snapshots.{Sessions};
-ghost use Rattle.tcc_txn.specs.declared.limits.Limits.TheVariants.{Small, Large};
-ghost use Rattle.tcc_rows.specs.Answers.{answers_within};
-ghost use Rattle.tcc_rows.specs.BothLimits.{KeepsSmall};
+ghost use Rattle.tcc_txn.specs.{Finished.KeepsLimits, Snapshots.Sessions, declared.limits.Limits.TheVariants.Small, declared.limits.Limits.TheVariants.Large};
+ghost use Rattle.tcc_rows.specs.{Answers.answers_within, BothLimits.KeepsSmall};
 ghost use Rattle.tcc_reads.specs.Faults.{read_faults};
 ghost use Rattle.tcc_graph.specs.Levels.{judged};
-ghost use Rattle.tcc_large.specs.Decisions.{IsDecision};
-ghost use Rattle.tcc_large.specs.declared.decision.Decision.{Decision};
+ghost use Rattle.tcc_large.specs.{Decisions.IsDecision, declared.decision.Decision.Decision};
+ghost use Rattle.tcc_print.specs.{Statuses.code_of, declared.options.Options.Options, declared.status.Status.TheVariants.Device, declared.status.Status.TheVariants.Memory};
 ghost use Rattle.tcc_print.specs.Courses.{Contents, Gains, IsEnded, IsWhole, Said};
-ghost use Rattle.tcc_print.specs.Statuses.{code_of};
-ghost use Rattle.tcc_print.specs.declared.options.Options.{Options};
-ghost use Rattle.tcc_print.specs.declared.status.Status.TheVariants.{Device, Memory};
-ghost use Rattle.tcc_large_run.specs.LargeClosing.{IsAcceptedWith, PrintsDecided};
-ghost use Rattle.tcc_large_run.specs.private.Laws.{Laws};
+ghost use Rattle.tcc_large_run.specs.{LargeClosing.IsAcceptedWith, LargeClosing.PrintsDecided, private.Laws.Laws};
 ghost use Rattle.tcc_large_run.specs.LargeRuns.{Files, IsAcceptedOf, IsLargeRun, IsSaidOfSnapshot, answers_of, decision_said, finished};
 ghost use Rattle.tcc_run.specs.Runs.{AskAlike, IsRun, IsSaidOfSnapshot as IsSaidSmall};
 

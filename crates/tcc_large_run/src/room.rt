@@ -1,10 +1,8 @@
 //! Whether version 3 of the text has room for what is claimed: its numbers, its counts and its costs have ranges.
 ghost use Rattle.std.specs.Prelude.{All, IfOk, IsTrue, length};
-ghost use Rattle.tcc_graph.specs.Levels.{judged};
-ghost use Rattle.tcc_graph.specs.declared.level.Level.{Level};
-ghost use Rattle.tcc_cert.specs.LargeTexts.{HasLargeText};
+ghost use Rattle.tcc_graph.specs.{Levels.judged, declared.level.Level.Level};
+ghost use Rattle.tcc_cert.specs.{LargeTexts.HasLargeText, declared.ranges.Scale.TheVariants.Large};
 ghost use Rattle.tcc_cert.specs.Texts.{HasLinkText, HasStepText, IsCount};
-ghost use Rattle.tcc_cert.specs.declared.ranges.Scale.TheVariants.{Large};
 ghost use Rattle.tcc_large.specs.Decisions.{IsDecision};
 ghost use Rattle.tcc_large_run.specs.LargeRuns.{claim_of};
 

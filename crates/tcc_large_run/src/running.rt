@@ -1,16 +1,11 @@
 //! From the bytes of records to their answers: at each seal, and at the end.
 ghost use Rattle.std.specs.Prelude.{◌≡◌, ℕ, List, [], None, IfErr, IfOk, IfSome, MatchResult, OnOk, option_map};
-ghost use Rattle.tcc_rows.specs.Ahead.{fault_met};
-ghost use Rattle.tcc_rows.specs.Answers.{Answers, answers_after_within};
-ghost use Rattle.tcc_rows.specs.Lines.{Record};
-ghost use Rattle.tcc_rows.specs.Reached.{IsWithin};
+ghost use Rattle.tcc_rows.specs.{Ahead.fault_met, Answers.Answers, Answers.answers_after_within, Lines.Record, Reached.IsWithin, declared.rows.Item.Item};
 ghost use Rattle.tcc_rows.specs.Recordings.{FailsBehind, IsRecording, TakesMoment, after_items};
-ghost use Rattle.tcc_rows.specs.declared.rows.Item.{Item};
 ghost use Rattle.tcc_txn.specs.declared.limits.Limits.TheVariants.{Large};
 ghost use Rattle.tcc_large_run.specs.LargeRuns.{IsLargeRun, answers_of, finished, records_of};
-ghost use Rattle.tcc_print.specs.Saying.{IsTold, SaysAt};
-ghost use Rattle.tcc_print.specs.private.Courses.{AllAnswered, EndsEarly};
 ghost use Rattle.tcc_large_run.specs.private.Stages.{Concludes, IsOutcome, SendsSlice, WritesFiles, WritesSlice, course, outcome_said};
+ghost use Rattle.tcc_print.specs.{Saying.IsTold, Saying.SaysAt, private.Courses.AllAnswered, private.Courses.EndsEarly};
 
 use crate::certifying::write_certificate;
 use crate::outcome::Outcome;

@@ -1,8 +1,7 @@
 //! The slice of an anomaly: the records of a small history that has it. They are read back before they go out.
 ghost use Rattle.std.specs.Prelude.{◌≡◌, IfOk, IfSome, IsTrue};
 ghost use Rattle.tcc_reads.specs.Sources.{history};
-ghost use Rattle.tcc_large_run.specs.LargeRuns.{Finishes, IsSliceText};
-ghost use Rattle.tcc_large_run.specs.private.Stages.{IsOutcome};
+ghost use Rattle.tcc_large_run.specs.{LargeRuns.Finishes, LargeRuns.IsSliceText, private.Stages.IsOutcome};
 
 use crate::outcome::Outcome;
 use std::alloc::Global;

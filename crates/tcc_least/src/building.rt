@@ -1,12 +1,7 @@
 //! A least cycle, with its links, where one costs three steps at most.
 ghost use Rattle.std.specs.Prelude.{◌≡◌, ◌≤◌, ◌<◌, ◌↔◌, ℕ, List, min, length, IsTrue, IfOk, MatchOption};
 ghost use Rattle.tcc_reads.specs.History.{count};
-ghost use Rattle.tcc_graph.specs.Relations.{IsReadsPair, IsCausalPair};
-ghost use Rattle.tcc_graph.specs.Keys.{IsWriter};
-ghost use Rattle.tcc_graph.specs.Levels.{Judged, judged};
-ghost use Rattle.tcc_graph.specs.Links.{MayContradict, cost};
-ghost use Rattle.tcc_graph.specs.Routes.{IsLeastCycle};
-ghost use Rattle.tcc_graph.specs.declared.level.Level.{Level};
+ghost use Rattle.tcc_graph.specs.{Relations.IsReadsPair, Relations.IsCausalPair, Keys.IsWriter, Levels.Judged, Levels.judged, Links.MayContradict, Links.cost, Routes.IsLeastCycle, declared.level.Level.Level};
 ghost use Rattle.tcc_least.specs.Shapes.{NoneBelow, IsRead, IsRound, IsReturn, IsFirstShort, IsShortLink, AreLeast};
 ghost use Rattle.tcc_least.specs.private.Building.{IsShortCycle, Overwrites};
 

@@ -2,10 +2,7 @@
 //! derived link that doesn't; and those from `init` are told by the reasons against it.
 ghost use Rattle.std.specs.Prelude.{◌≡◌, ◌≤◌, ◌<◌, ◌+◌, ◌↔◌, ℕ, List};
 ghost use Rattle.tcc_reads.specs.History.{count};
-ghost use Rattle.tcc_graph.specs.Levels.{Judged};
-ghost use Rattle.tcc_graph.specs.Links.{cost};
-ghost use Rattle.tcc_graph.specs.Routes.{IsCycle, IsLeastCycle};
-ghost use Rattle.tcc_graph.specs.declared.link.Link.{Link};
+ghost use Rattle.tcc_graph.specs.{Levels.Judged, Links.cost, Routes.IsCycle, Routes.IsLeastCycle, declared.link.Link.Link};
 ghost use Rattle.tcc_least.specs.LeadingBack.{Rises, HasLinkBack, NoneIntoInit, HasReasonAgainstInit};
 ghost use Rattle.tcc_least.specs.Shapes.{IsRound, IsReturn, NoneBelow};
 

@@ -1,7 +1,6 @@
 //! The first cycle of few steps.
 ghost use Rattle.std.specs.Prelude.{◌≡◌, ◌≤◌, ◌<◌, ℕ, min, MatchOption, Some};
-ghost use Rattle.tcc_graph.specs.Levels.{judged};
-ghost use Rattle.tcc_graph.specs.declared.level.Level.{Level};
+ghost use Rattle.tcc_graph.specs.{Levels.judged, declared.level.Level.Level};
 ghost use Rattle.tcc_least.specs.Shapes.{NoneBelow, SomeBelow, IsRound, IsReturn, IsFirstShort};
 
 use crate::returning::first_return;

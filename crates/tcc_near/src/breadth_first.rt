@@ -5,10 +5,9 @@
 ghost use Rattle.std.specs.Prelude.{◌≡◌, ◌<◌, ◌≤◌, ◌≢◌, ◌↔◌, ℕ, true, length, All, Contains, IfOk, OnOk, slice_index};
 ghost use Rattle.tcc_reads.specs.History.{count};
 ghost use Rattle.tcc_graph.specs.Levels.{causally, atomically, judged};
-ghost use Rattle.tcc_near.specs.WalkLengths.{IsNearOf};
-ghost use Rattle.tcc_bits.specs.Bits.{is_marked};
+ghost use Rattle.tcc_near.specs.{WalkLengths.IsNearOf, declared.walk_lengths.TheConstants.NONE};
 ghost use Rattle.tcc_near.specs.private.Breadth.{AreMarks, IsBoundFrom, ArePairs, HasLengths, HaveLengths, IsLedTo, IsRound, IsSeen, one_step, unnumbered};
-ghost use Rattle.tcc_near.specs.declared.walk_lengths.TheConstants.{NONE};
+ghost use Rattle.tcc_bits.specs.Bits.{is_marked};
 ghost use Rattle.tcc_txn.specs.declared.limits.TheConstants.{LARGE_COUNT};
 
 use crate::adjacency::{Pairs, first_marks, take_in};

@@ -7,9 +7,7 @@
 //! searched.
 ghost use Rattle.std.specs.Prelude.{◌≡◌, ◌<◌, ◌≤◌, ◌+◌, ℕ, true, min, length, slice_index, replicate, All, IfOk, IfSome, IsTrue, OnOk};
 ghost use Rattle.tcc_reads.specs.History.{History, count};
-ghost use Rattle.tcc_graph.specs.Relations.{IsSessionPair};
-ghost use Rattle.tcc_graph.specs.Levels.{causally};
-ghost use Rattle.tcc_graph.specs.Tables.{row_of};
+ghost use Rattle.tcc_graph.specs.{Relations.IsSessionPair, Levels.causally, Tables.row_of};
 ghost use Rattle.tcc_near.specs.private.Breadth.{ArePairs, HasLengths, HaveLengths, IsBoundFrom};
 ghost use Rattle.tcc_near.specs.private.Backwards.{IsLeastFrom, IsLowered, IsNextOrOne, IsFromOn, AreOthers, AreKnown, IsThere, AreHeads};
 ghost use Rattle.tcc_near.specs.declared.walk_lengths.TheConstants.{NONE};

@@ -2,9 +2,8 @@
 //! in threads. For N transactions of S sessions that takes N * N steps beside the walk lengths, and N * S numbers.
 ghost use Rattle.std.specs.Prelude.{◌≡◌, ◌<◌, ℕ, length, map, All, IfOk, MatchOption, slice_index};
 ghost use Rattle.tcc_reads.specs.History.{count, owner, place};
-ghost use Rattle.tcc_graph.specs.Levels.{causally};
+ghost use Rattle.tcc_graph.specs.{Levels.causally, Clocks.IsClocksOf};
 ghost use Rattle.tcc_near.specs.WalkLengths.{IsNearOf};
-ghost use Rattle.tcc_graph.specs.Clocks.{IsClocksOf};
 ghost use Rattle.tcc_near.specs.private.ClockRows.{AreLasts, HaveLasts, raised};
 
 use crate::{Clocks, NONE, Near, near};

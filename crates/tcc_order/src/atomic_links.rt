@@ -7,8 +7,7 @@ ghost use Rattle.std.specs.List.Sorted.{IsNonDecreasing};
 ghost use Rattle.tcc_reads.specs.History.{IsBySession, count};
 ghost use Rattle.tcc_graph.specs.Keys.{keys, key_at, writers};
 ghost use Rattle.tcc_graph.specs.Levels.{atomically};
-ghost use Rattle.tcc_clocks.specs.Parents.{ArePrevious};
-ghost use Rattle.tcc_clocks.specs.Clocks.{AreOwners};
+ghost use Rattle.tcc_clocks.specs.{Parents.ArePrevious, Clocks.AreOwners};
 ghost use Rattle.tcc_order.specs.private.CausalLinks.{IsLifted, AreLinks, AreOrdered};
 ghost use Rattle.tcc_order.specs.private.AtomicLinks.{IsOther, IsReader, HaveParents, KeepsRead, KeepsInto};
 

@@ -4,16 +4,11 @@
 //! read from it, and W writers of a key that takes O(S (N + R + P log W)).
 ghost use Rattle.std.specs.Prelude.{◌≡◌, ◌≢◌, ◌<◌, ◌≤◌, ◌+◌, ◌-◌, ◌⊎◌, ◌↔◌, ℕ, length, slice_index, All, Contains, IfOk, OnOk};
 ghost use Rattle.tcc_reads.specs.History.{IsBySession, count, owner};
-ghost use Rattle.tcc_graph.specs.Relations.{IsReadsPair};
+ghost use Rattle.tcc_graph.specs.{Relations.IsReadsPair, Levels.causally, Tables.row_of, Orders.IsNumbering};
+ghost use Rattle.tcc_clocks.specs.{Parents.ArePrevious, declared.latest.TheConstants.WIDE};
 ghost use Rattle.tcc_clocks.specs.Clocks.{AreOwners, AreClocks, LeadsOnward};
-ghost use Rattle.tcc_order.specs.private.CausalLinks.{IsOverwritten, IsLifted, AreDerived, AreEnough, AreLinks, Overwrites, HasNone, lifted_by};
-ghost use Rattle.tcc_graph.specs.Levels.{causally};
-ghost use Rattle.tcc_graph.specs.Tables.{row_of};
-ghost use Rattle.tcc_graph.specs.Orders.{IsNumbering};
-ghost use Rattle.tcc_clocks.specs.Parents.{ArePrevious};
-ghost use Rattle.tcc_order.specs.private.CausalLinks.{AreOrdered, AreSpansOf, CanLift, IsLastUpTo, IsLastBut, AreLatestPast, TellsNothing, KeepsNews, IsBegun};
+ghost use Rattle.tcc_order.specs.private.CausalLinks.{IsOverwritten, IsLifted, AreDerived, AreEnough, AreLinks, Overwrites, HasNone, lifted_by, AreOrdered, AreSpansOf, CanLift, IsLastUpTo, IsLastBut, AreLatestPast, TellsNothing, KeepsNews, IsBegun};
 ghost use Rattle.tcc_order.specs.private.ByKey.{AreReadingsFrom, AreReadingRows, IsTop, AreAlike, IsLikeBefore, key_index_in, reader_in};
-ghost use Rattle.tcc_clocks.specs.declared.latest.TheConstants.{WIDE};
 ghost use Rattle.std.specs.List.Sorted.{IsNonDecreasing, IsPartitionPoint};
 ghost use Rattle.std.specs.Prelude.{nat_le, true, false, ◌∷◌, []};
 

@@ -3,13 +3,9 @@
 //! transactions themselves. For N transactions of S sessions and R reads that takes S (N + R) steps, and N S numbers.
 ghost use Rattle.std.specs.Prelude.{◌≡◌, ◌<◌, ℕ, max, length, slice_index, All, Contains, IfOk};
 ghost use Rattle.tcc_reads.specs.History.{count};
-ghost use Rattle.tcc_graph.specs.Levels.{causally};
-ghost use Rattle.tcc_graph.specs.Orders.{IsCommitOrder};
-ghost use Rattle.tcc_graph.specs.Tables.{row_of};
-ghost use Rattle.tcc_graph.specs.Clocks.{IsClocksOf};
+ghost use Rattle.tcc_graph.specs.{Levels.causally, Orders.IsCommitOrder, Tables.row_of, Clocks.IsClocksOf};
 ghost use Rattle.tcc_order.specs.private.Lasts.{AreLastsOf, raised};
-ghost use Rattle.tcc_clocks.specs.Clocks.{IsBefore};
-ghost use Rattle.tcc_clocks.specs.private.Rows.{IsUpTo};
+ghost use Rattle.tcc_clocks.specs.{Clocks.IsBefore, private.Rows.IsUpTo};
 
 use crate::causal_links::empty_rows;
 use std::alloc::{AllocError, Global};

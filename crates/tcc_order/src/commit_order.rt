@@ -3,15 +3,9 @@
 //! For each other link there is a path of pairs and kept links, so that the order keeps it too. It costs what these three cost.
 ghost use Rattle.std.specs.Prelude.{ℕ, IfOk, MatchOption};
 ghost use Rattle.tcc_reads.specs.History.{IsBySession, count};
-ghost use Rattle.tcc_graph.specs.Orders.{IsFirstOrder, IsNumbering};
-ghost use Rattle.tcc_graph.specs.Routes.{HasCycle};
-ghost use Rattle.tcc_graph.specs.Walks.{IsReached};
-ghost use Rattle.tcc_graph.specs.Levels.{causally, judged};
-ghost use Rattle.tcc_graph.specs.declared.level.Level.{Level};
-ghost use Rattle.tcc_clocks.specs.Parents.{ArePrevious};
-ghost use Rattle.tcc_clocks.specs.Clocks.{LeadsOnward};
-ghost use Rattle.tcc_order.specs.Placements.{IsPlacement, IsPairPlacement};
-ghost use Rattle.tcc_order.specs.private.Found.{AreFound};
+ghost use Rattle.tcc_graph.specs.{Orders.IsFirstOrder, Orders.IsNumbering, Routes.HasCycle, Walks.IsReached, Levels.causally, Levels.judged, declared.level.Level.Level};
+ghost use Rattle.tcc_clocks.specs.{Parents.ArePrevious, Clocks.LeadsOnward};
+ghost use Rattle.tcc_order.specs.{Placements.IsPlacement, Placements.IsPairPlacement, private.Found.AreFound};
 
 use crate::atomic_links::atomic_links;
 use crate::causal_links::{causal_links, empty_rows};

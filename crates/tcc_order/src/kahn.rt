@@ -8,9 +8,9 @@ ghost use Rattle.tcc_reads.specs.History.{count};
 ghost use Rattle.tcc_graph.specs.Tables.{row_of};
 ghost use Rattle.tcc_bits.specs.Bits.{is_marked, words_for};
 ghost use Rattle.tcc_order.specs.private.Placed.{IsPlaced};
-ghost use Rattle.tcc_clocks.specs.Parents.{ArePrevious, sources};
 ghost use Rattle.tcc_order.specs.private.Held.{holds, AreInside, AreRoots, onward};
 ghost use Rattle.tcc_order.specs.private.Queued.{AreQueued, AreSure, IsAny};
+ghost use Rattle.tcc_clocks.specs.Parents.{ArePrevious, sources};
 
 use crate::causal_links::empty_rows;
 use crate::ready::Ready;

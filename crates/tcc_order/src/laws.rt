@@ -1,8 +1,6 @@
 //! The law that a commit order exists exactly where there is no cycle.
 ghost use Rattle.std.specs.Prelude.{◌↔◌, ℕ, List};
-ghost use Rattle.tcc_graph.specs.Levels.{Judged};
-ghost use Rattle.tcc_graph.specs.Orders.{IsCommitOrder};
-ghost use Rattle.tcc_graph.specs.Routes.{HasCycle};
+ghost use Rattle.tcc_graph.specs.{Levels.Judged, Orders.IsCommitOrder, Routes.HasCycle};
 
 /// At each level a history has a commit order exactly where no links lead in a circle.
 pub fn order_or_cycle()

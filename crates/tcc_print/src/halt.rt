@@ -1,7 +1,6 @@
 //! Why a run has no answer or no verdict.
 ghost use Rattle.std.specs.Prelude.{◌≡◌};
-ghost use Rattle.tcc_print.specs.Halts.{by_row};
-ghost use Rattle.tcc_print.specs.private.Halts.{by_stream, unresolved_by};
+ghost use Rattle.tcc_print.specs.{Halts.by_row, private.Halts.by_stream, private.Halts.unresolved_by};
 ghost use Rattle.tcc_print.specs.declared.halt.Halt.TheVariants as halt;
 
 use tcc_cert::CertFault;

@@ -2,8 +2,7 @@
 ghost use Rattle.std.specs.Prelude.{◌≡◌, IfErr, IfOk, OnOk};
 ghost use Rattle.std.specs.Io.KnownBytes.{Appends};
 ghost use Rattle.tcc_graph.specs.Links.{cost};
-ghost use Rattle.tcc_print.specs.Large.{unproved};
-ghost use Rattle.tcc_print.specs.Printed.{EndsIn};
+ghost use Rattle.tcc_print.specs.{Large.unproved, Printed.EndsIn};
 
 use crate::printing::send_made;
 use std::alloc::Global;

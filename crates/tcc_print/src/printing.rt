@@ -1,8 +1,7 @@
 //! How texts go out, and the number that a run then ends with.
 ghost use Rattle.std.specs.Prelude.{◌≡◌, ℕ, List, IfErr, IfOk, MatchResult, OnOk, false, if◌then◌else◌};
 ghost use Rattle.std.specs.Io.KnownBytes.{Appends};
-ghost use Rattle.tcc_print.specs.Printed.{Prints, answered, check_text, device_line, halted, memory_line, unresolved};
-ghost use Rattle.tcc_print.specs.Printed.{CutsOff, EndsIn, PrintsOrMemory};
+ghost use Rattle.tcc_print.specs.Printed.{Prints, answered, check_text, device_line, halted, memory_line, unresolved, CutsOff, EndsIn, PrintsOrMemory};
 ghost use Rattle.tcc_print.specs.Statuses.{check_status, code_of, halt_status};
 
 use crate::halt::Halt;

@@ -19,9 +19,7 @@ use tcc_txn::{Bounds, NoMemory, SnapshotWithin};
 pub trait Statement: Drop {
     ghost use Rattle.std.specs.Prelude.{◌≡◌, IfErr, OnOk};
     ghost use Rattle.std.specs.Io.KnownBytes.{Appends};
-    ghost use Rattle.tcc_print.specs.Printed.{EndsIn};
-    ghost use Rattle.tcc_print.specs.declared.options.Options.{Options};
-    ghost use Rattle.tcc_print.specs.Saying.{Course};
+    ghost use Rattle.tcc_print.specs.{Printed.EndsIn, declared.options.Options.Options, Saying.Course};
 
     ghost course: { Options → Course Self };
 

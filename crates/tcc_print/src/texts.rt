@@ -1,7 +1,6 @@
 //! The texts of faults, each made as a whole before a byte of it goes out.
 ghost use Rattle.std.specs.Prelude.{◌≡◌, ◌++◌, IfOk, OnOk, length, flat_map};
-ghost use Rattle.tcc_print.specs.Texts.{certificate_fault_text, certificate_word, halt_text, operation_text, read_fault_text, read_fault_told, read_word, row_fault_text, row_word};
-ghost use Rattle.tcc_print.specs.Texts.{unresolved_text};
+ghost use Rattle.tcc_print.specs.Texts.{certificate_fault_text, certificate_word, halt_text, operation_text, read_fault_text, read_fault_told, read_word, row_fault_text, row_word, unresolved_text};
 
 use crate::halt::Halt;
 use crate::kinds::{certificate_told, row_told};

@@ -1,10 +1,8 @@
 //! Whether a cycle of more than four steps is a least one. An order comes with it, which nobody has to trust: the claim that the cycle
 //! is a least one, with the runs of that order, goes to the judge of certificates, and is made where it accepts.
 ghost use Rattle.std.specs.Prelude.{◌≡◌, IfOk, IfSome, IsTrue, List, Some};
-ghost use Rattle.tcc_cert.specs.LargeTexts.{HaveRunsText};
-ghost use Rattle.tcc_cert.specs.declared.large.Run.{Run};
-ghost use Rattle.tcc_judge.specs.Claims.{links_claim_of};
-ghost use Rattle.tcc_judge.specs.Verdicts.{cycle_rules};
+ghost use Rattle.tcc_cert.specs.{LargeTexts.HaveRunsText, declared.large.Run.Run};
+ghost use Rattle.tcc_judge.specs.{Claims.links_claim_of, Verdicts.cycle_rules};
 ghost use Rattle.tcc_check.specs.Asked.{AllHold};
 
 use crate::claims::{copied, steps_of};

@@ -2,14 +2,9 @@
 ghost use Rattle.std.specs.Prelude.{◌≡◌, ◌≤◌, length, true, ◌∷◌, [], ◌++◌, List, IfOk, OnOk, option_to_list, if◌then◌else◌, None};
 ghost use Rattle.std.specs.BTreeMap as tree;
 ghost use Rattle.std.specs.Option.{option_copied};
-ghost use Rattle.tcc_txn.specs.declared.op.Op.{Op};
-ghost use Rattle.tcc_txn.specs.declared.limits.TheConstants.{MAX_OPERATIONS};
-ghost use Rattle.tcc_txn.specs.Transactions.{op_key, op_value};
-ghost use Rattle.tcc_reads.specs.Sources.{name_cmp};
-ghost use Rattle.tcc_reads.specs.private.Verdicts.{writers_in, is_in, write_judgement, read_judgement, op_judgement};
-ghost use Rattle.tcc_reads.specs.private.Verdicts.{fault_in, source_in, IsOwn, AreOwnIn, AreVisibleWrites};
-ghost use Rattle.tcc_reads.specs.private.Verdicts.{faults_found, sources_found};
-ghost use Rattle.tcc_reads.specs.private.Tracings.{is_outside, sources_traced};
+ghost use Rattle.tcc_txn.specs.{declared.op.Op.Op, declared.limits.TheConstants.MAX_OPERATIONS, Transactions.op_key, Transactions.op_value};
+ghost use Rattle.tcc_reads.specs.{Sources.name_cmp, private.Tracings.is_outside, private.Tracings.sources_traced};
+ghost use Rattle.tcc_reads.specs.private.Verdicts.{writers_in, is_in, write_judgement, read_judgement, op_judgement, fault_in, source_in, IsOwn, AreOwnIn, AreVisibleWrites, faults_found, sources_found};
 
 use crate::standing::Standing;
 use crate::writers::{Writer, Writers, first_writer};

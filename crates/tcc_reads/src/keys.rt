@@ -3,8 +3,7 @@ ghost use Rattle.std.specs.Prelude.{All, ◌≡◌, ◌<◌, ◌≤◌, ◌||◌
 ghost use Rattle.std.specs.BTreeSet.{contains};
 ghost use Rattle.std.specs.List.{list_any};
 ghost use Rattle.std.specs.List.Sorted.{IsStrictlySortedBy};
-ghost use Rattle.tcc_reads.specs.Sources.{name_cmp, puts_at};
-ghost use Rattle.tcc_reads.specs.private.Numbers.{IsPlace, numbered};
+ghost use Rattle.tcc_reads.specs.{Sources.name_cmp, Sources.puts_at, private.Numbers.IsPlace, private.Numbers.numbered};
 ghost use Rattle.tcc_reads.specs.private.KeyIndices.{has_key, index_of, key_index, writes_key, AreKeysOf};
 
 use crate::numbering::visit;

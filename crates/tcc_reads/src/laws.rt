@@ -1,8 +1,7 @@
 //! The law that the reads of a resolved snapshot have one source each.
 ghost use Rattle.std.specs.Prelude.{◌≡◌, ℕ, List, []};
 ghost use Rattle.tcc_txn.specs.Snapshots.{Sessions};
-ghost use Rattle.tcc_reads.specs.Faults.{read_faults};
-ghost use Rattle.tcc_reads.specs.OneSource.{ReadsFromOthers, HasOneSource};
+ghost use Rattle.tcc_reads.specs.{Faults.read_faults, OneSource.ReadsFromOthers, OneSource.HasOneSource};
 
 /// Where a snapshot has no read fault, each external read has exactly one source, and that is another transaction.
 pub fn one_source()

@@ -1,10 +1,7 @@
 //! Where the transactions of a snapshot stand, in one list, with the numbers of the committed ones.
 ghost use Rattle.std.specs.Prelude.{◌≡◌, ◌<◌, ◌≤◌, ◌+◌, ◌∷◌, ◌++◌, true, All, List, length, drop, map, if◌then◌else◌, IfOk};
 ghost use Rattle.std.specs.FinMap.{entries};
-ghost use Rattle.tcc_txn.specs.Finished.{transaction_count};
-ghost use Rattle.tcc_txn.specs.Limits.{most_sessions, most_transactions};
-ghost use Rattle.tcc_txn.specs.Snapshots.{finished_at};
-ghost use Rattle.tcc_txn.specs.declared.limits.TheConstants.{LARGE_COUNT, MAX_OPERATIONS};
+ghost use Rattle.tcc_txn.specs.{Finished.transaction_count, Limits.most_sessions, Limits.most_transactions, Snapshots.finished_at, declared.limits.TheConstants.LARGE_COUNT, declared.limits.TheConstants.MAX_OPERATIONS};
 ghost use Rattle.tcc_reads.specs.Sites.{Stand, stands_in, stands};
 ghost use Rattle.tcc_reads.specs.private.Numbers.{IsPlace, name_in, numbered, numbered_at, numbered_from};
 

@@ -2,8 +2,7 @@
 ghost use Rattle.std.specs.Prelude.{◌≡◌, ◌<◌, ◌≤◌, ◌+◌, length, All};
 ghost use Rattle.std.specs.List.Sorted.{IsStrictlySortedBy};
 ghost use Rattle.tcc_txn.specs.declared.limits.TheConstants.{MAX_COUNT, MAX_SESSIONS, LARGE_COUNT, LARGE_SESSIONS};
-ghost use Rattle.tcc_reads.specs.History.{count, entry_at, initial};
-ghost use Rattle.tcc_reads.specs.History.{IsBySession, places_of};
+ghost use Rattle.tcc_reads.specs.History.{count, entry_at, initial, IsBySession, places_of};
 ghost use Rattle.tcc_reads.specs.Sources.{pair_cmp};
 
 use crate::Transaction;
@@ -22,8 +21,7 @@ pub struct LargeResolved {
 }
 
 impl Model for LargeResolved {
-    ghost use Rattle.tcc_reads.specs.History.{History};
-    ghost use Rattle.tcc_reads.specs.private.Stored.{IsStored};
+    ghost use Rattle.tcc_reads.specs.{History.History, private.Stored.IsStored};
 
     ghost Value = { History };
 

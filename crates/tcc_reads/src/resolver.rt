@@ -1,13 +1,9 @@
 //! The resolver.
 ghost use Rattle.std.specs.Prelude.{All, ◌≡◌, ◌≤◌, ◌+◌, true, [], ◌∷◌, ◌++◌, length, sum_by, filter_map, flat_map, IfOk, OnOk, MatchResult};
-ghost use Rattle.tcc_txn.specs.Limits.{most_sessions, most_transactions};
-ghost use Rattle.tcc_txn.specs.declared.limits.TheConstants.{MAX_OPERATIONS};
-ghost use Rattle.tcc_reads.specs.History.{initial, count};
+ghost use Rattle.tcc_txn.specs.{Limits.most_sessions, Limits.most_transactions, declared.limits.TheConstants.MAX_OPERATIONS};
+ghost use Rattle.tcc_reads.specs.{Faults.read_faults, Refusals.IsRefusal, private.Numbers.IsPlace, private.Numbers.numbered};
+ghost use Rattle.tcc_reads.specs.History.{initial, count, places_of};
 ghost use Rattle.tcc_reads.specs.Sources.{name_cmp, pair_cmp, key_put, sorted_once, writes_of, history};
-ghost use Rattle.tcc_reads.specs.Faults.{read_faults};
-ghost use Rattle.tcc_reads.specs.Refusals.{IsRefusal};
-ghost use Rattle.tcc_reads.specs.History.{places_of};
-ghost use Rattle.tcc_reads.specs.private.Numbers.{IsPlace, numbered};
 ghost use Rattle.tcc_reads.specs.private.Verdicts.{writers_in, AreOwn, AreOwnIn, faults_found, entries_found};
 
 use crate::judging::judge;

@@ -1,7 +1,6 @@
 //! Lists in order, each item once.
 ghost use Rattle.std.specs.Prelude.{◌≡◌};
-ghost use Rattle.tcc_reads.specs.Sources.{sorted_once};
-ghost use Rattle.tcc_reads.specs.private.Sorting.{TellsApart};
+ghost use Rattle.tcc_reads.specs.{Sources.sorted_once, private.Sorting.TellsApart};
 
 /// The items in order, each once, in no more memory than they take.
 pub(crate) fn sorted_once<T: Ord + Copy>(mut items: Vec<T>) -> Vec<T>

@@ -3,13 +3,8 @@ ghost use Rattle.std.specs.Prelude.{All, ◌≡◌, ◌≤◌, length, ◌||◌,
 ghost use Rattle.std.specs.BTreeSet.{contains};
 ghost use Rattle.std.specs.List.{list_any};
 ghost use Rattle.tcc_txn.specs.declared.limits.TheConstants.{MAX_OPERATIONS};
-ghost use Rattle.tcc_reads.specs.History.{initial};
-ghost use Rattle.tcc_reads.specs.Sources.{pair_cmp};
-ghost use Rattle.tcc_reads.specs.Faults.{read_faults};
+ghost use Rattle.tcc_reads.specs.{History.initial, Sources.pair_cmp, Faults.read_faults, private.Numbers.IsPlace, private.Numbers.numbered, private.Verdicts.writers_in, private.Verdicts.entries_found, private.Tracings.entries_traced, private.Tracings.is_outside};
 ghost use Rattle.tcc_reads.specs.Traced.{is_duplicate, is_rewrite, is_unique, traced_history};
-ghost use Rattle.tcc_reads.specs.private.Numbers.{IsPlace, numbered};
-ghost use Rattle.tcc_reads.specs.private.Verdicts.{writers_in, entries_found};
-ghost use Rattle.tcc_reads.specs.private.Tracings.{entries_traced, is_outside};
 
 use crate::judging::trace;
 use crate::numbering::{self, session_names, visit};

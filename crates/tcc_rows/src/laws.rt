@@ -2,19 +2,11 @@
 //! where the bytes are too many, the last record is the fault; and what the small limits take, the large ones answer alike.
 ghost use Rattle.std.specs.Prelude.{◌≡◌, ◌≢◌, ◌<◌, ◌++◌, ℕ, List, [], None, Some, false, length, take};
 ghost use Rattle.std.specs.FinMap as sessions;
+ghost use Rattle.tcc_rows.specs.{BothLimits.KeepsSmall, Failing.AreLawful, Failing.records_before, Items.finished_in, declared.rows.Item.Item, declared.fault.RowFaultKind.TheVariants.Read};
 ghost use Rattle.tcc_rows.specs.Answers.{answers_of, answers_within, records_of};
-ghost use Rattle.tcc_rows.specs.BothLimits.{KeepsSmall};
-ghost use Rattle.tcc_rows.specs.Failing.{AreLawful, records_before};
-ghost use Rattle.tcc_txn.specs.Finished.{KeepsLimits};
-ghost use Rattle.tcc_rows.specs.Items.{finished_in};
 ghost use Rattle.tcc_rows.specs.Interleaved.{AreInterleaved, AreSealedAlike, records_by_none};
 ghost use Rattle.tcc_rows.specs.Recordings.{has_seal, items_until, seals_in};
-ghost use Rattle.tcc_txn.specs.Nested.{IsNested};
-ghost use Rattle.tcc_txn.specs.Snapshots.{snapshot_fault};
-ghost use Rattle.tcc_rows.specs.declared.rows.Item.{Item};
-ghost use Rattle.tcc_txn.specs.declared.limits.Limits.TheVariants.{Large};
-ghost use Rattle.tcc_txn.specs.declared.limits.TheConstants.{MAX_INPUT_BYTES};
-ghost use Rattle.tcc_rows.specs.declared.fault.RowFaultKind.TheVariants.{Read};
+ghost use Rattle.tcc_txn.specs.{Finished.KeepsLimits, Nested.IsNested, Snapshots.snapshot_fault, declared.limits.Limits.TheVariants.Large, declared.limits.TheConstants.MAX_INPUT_BYTES};
 
 /// What the first items of a text finish, however many, is a snapshot: there are not too many sessions and transactions.
 pub fn finished_is_snapshot()

@@ -1,16 +1,11 @@
 //! What records have finished so far, as a snapshot that grows.
 ghost use Rattle.std.specs.Prelude.{◌≡◌, ◌≢◌, ℕ, List, [], true, IfErr, IfOk, IfSome, OnErr, OnOk, None, Some, Ok, MatchResult, option_map};
 ghost use Rattle.csv.specs.Records.{field_at};
-ghost use Rattle.tcc_rows.specs.Ahead.{fault_met, has_ended};
+ghost use Rattle.tcc_rows.specs.{Ahead.fault_met, Ahead.has_ended, Items.finished_in, Lines.Record, declared.rows.Item.Item};
 ghost use Rattle.tcc_rows.specs.Answers.{Answers, answers_after_within, answers_within, records_within};
-ghost use Rattle.tcc_txn.specs.Finished.{IsWithinLimits, with_transaction};
-ghost use Rattle.tcc_rows.specs.Items.{finished_in};
-ghost use Rattle.tcc_rows.specs.Lines.{Record};
-ghost use Rattle.tcc_txn.specs.Nested.{IsNested};
 ghost use Rattle.tcc_rows.specs.Reached.{IsWithin, ReaderFailed, last_record, row_reached};
 ghost use Rattle.tcc_rows.specs.Recordings.{FailsBehind, IsRecorded, IsRecording, TakesMoment, after_items};
-ghost use Rattle.tcc_txn.specs.declared.limits.Limits.TheVariants.{Small, Large};
-ghost use Rattle.tcc_rows.specs.declared.rows.Item.{Item};
+ghost use Rattle.tcc_txn.specs.{Finished.IsWithinLimits, Finished.with_transaction, Nested.IsNested, declared.limits.Limits.TheVariants.Small, declared.limits.Limits.TheVariants.Large};
 ghost use Rattle.tcc_rows.specs.declared.rows.Stage.TheVariants as stage;
 
 use crate::{Item, RowFault, RowFaultKind, Rows};

@@ -2,12 +2,9 @@
 ghost use Rattle.std.specs.Prelude.{◌≡◌, ◌≢◌, ◌+◌, ◌^◌, ◌<◌, ◌≤◌, List, [], length, true, IfOk, IfErr, IfSome, OnOk, MatchResult};
 ghost use Rattle.std.specs.Prelude.{None, Some, false, Ok, Err, option_map};
 ghost use Rattle.csv.specs.Records.{field_at};
+ghost use Rattle.tcc_rows.specs.{Standing.IsAfter, private.Turns.line_by, Line.Line};
 ghost use Rattle.tcc_rows.specs.Answers.{Answers, answers_after_within, answers_of, answers_within, fault_at_end, records_of, records_within};
-ghost use Rattle.tcc_rows.specs.Standing.{IsAfter};
-ghost use Rattle.tcc_rows.specs.private.Turns.{line_by};
-ghost use Rattle.tcc_txn.specs.declared.limits.Limits.{Limits};
-ghost use Rattle.tcc_txn.specs.declared.limits.Limits.TheVariants.{Small};
-ghost use Rattle.tcc_rows.specs.Line.{Line};
+ghost use Rattle.tcc_txn.specs.{declared.limits.Limits.Limits, declared.limits.Limits.TheVariants.Small};
 
 mod draft;
 mod limited;
@@ -69,15 +66,10 @@ pub struct Rows<R> {
 }
 
 impl<R: Read + Drop> Rows<R> {
+    ghost use Rattle.tcc_rows.specs.{Failing.FailsAtWithin, Failing.items_before_within, private.Failing.FailsIn, Midway.IsMidway, private.StagesAfter.stage_after_line, Recordings.after_items, declared.rows.Item.Item};
     ghost use Rattle.tcc_rows.specs.Ahead.{FaultsIn, IsAhead, TakesAnswer, fault_met, has_ended, stage_after};
-    ghost use Rattle.tcc_rows.specs.Failing.{FailsAtWithin, items_before_within};
-    ghost use Rattle.tcc_rows.specs.private.Failing.{FailsIn};
-    ghost use Rattle.tcc_rows.specs.Midway.{IsMidway};
     ghost use Rattle.tcc_rows.specs.Lines.{Record, is_cut, line_of};
-    ghost use Rattle.tcc_rows.specs.private.StagesAfter.{stage_after_line};
     ghost use Rattle.tcc_rows.specs.Reached.{HasGivenUp, IsWithin, ReaderFailed, StandsBy, StandsIn, last_record, row_reached};
-    ghost use Rattle.tcc_rows.specs.Recordings.{after_items};
-    ghost use Rattle.tcc_rows.specs.declared.rows.Item.{Item};
     ghost use Rattle.tcc_rows.specs.private.Stages.{LeavesIn, MeetsLine, TakesFields, TakesItem, TakesLine};
     ghost use Rattle.tcc_rows.specs.declared.rows.records.RecordsStage.TheVariants as records_stage;
 

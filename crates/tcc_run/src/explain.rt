@@ -1,15 +1,10 @@
 //! From the bytes of records to their answers: at each seal, and at the end.
 ghost use Rattle.std.specs.Prelude.{◌≡◌, ℕ, List, [], None, IfOk, IfSome, MatchResult, OnErr, OnOk, option_map};
-ghost use Rattle.tcc_rows.specs.Ahead.{fault_met};
-ghost use Rattle.tcc_rows.specs.Answers.{answers_of, records_of};
-ghost use Rattle.tcc_rows.specs.Reached.{IsWithin};
-ghost use Rattle.tcc_rows.specs.Recordings.{IsRecording};
+ghost use Rattle.tcc_rows.specs.{Ahead.fault_met, Answers.answers_of, Answers.records_of, Reached.IsWithin, Recordings.IsRecording};
 ghost use Rattle.tcc_txn.specs.declared.limits.Limits.TheVariants.{Small};
 ghost use Rattle.tcc_cert.specs.Texts.{certificate_text};
 ghost use Rattle.tcc_answer.specs.Claims.{certificate_of};
-ghost use Rattle.tcc_print.specs.Courses.{Gains};
-ghost use Rattle.tcc_print.specs.Saying.{SaysAt};
-ghost use Rattle.tcc_print.specs.private.Courses.{AllAnswered, EndsEarly};
+ghost use Rattle.tcc_print.specs.{Courses.Gains, Saying.SaysAt, private.Courses.AllAnswered, private.Courses.EndsEarly};
 ghost use Rattle.tcc_run.specs.Runs.{GainsPart, IsRun};
 ghost use Rattle.tcc_run.specs.private.Stages.{Concludes, Follows, course};
 

@@ -1,15 +1,11 @@
 //! The cut of a snapshot by needs: of each transaction that has a need the operations that are needed, in their order.
 ghost use Rattle.std.specs.Prelude.{◌≡◌, ◌<◌, ◌++◌, ◌∷◌, [], if◌then◌else◌, List, None, Some, true, IfOk, IfSome, MatchOption, OnOk, length};
 ghost use Rattle.std.specs.List.{list_any};
-ghost use Rattle.tcc_reads.specs.Sources.{visible_write};
-ghost use Rattle.tcc_reads.specs.Sources.{history};
+ghost use Rattle.tcc_reads.specs.Sources.{visible_write, history};
 ghost use Rattle.tcc_txn.specs.Transactions.{Transaction};
 ghost use Rattle.tcc_graph.specs.declared.link.Link.{Link};
-ghost use Rattle.tcc_slices.specs.Cuts.{IsCutOf};
-ghost use Rattle.tcc_slices.specs.Limits.{NeedTooMuch};
-ghost use Rattle.tcc_slices.specs.private.Carrying.{IsRising};
+ghost use Rattle.tcc_slices.specs.{Cuts.IsCutOf, Limits.NeedTooMuch, private.Carrying.IsRising, private.Needing.AreByNumber};
 ghost use Rattle.tcc_slices.specs.private.Cutting.{AreMetBy, IsCut, IsNamed, IsNameless, IsPartOf, is_free, is_wanted, kept_behind, own_needs, recorded_of, same_op, wanted_by, wanted_of};
-ghost use Rattle.tcc_slices.specs.private.Needing.{AreByNumber};
 
 use crate::needs::Need;
 use std::alloc::Global;

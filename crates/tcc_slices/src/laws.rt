@@ -1,17 +1,9 @@
 //! The law of cuts: what of a resolved snapshot the links of a cycle need is a slice of it.
 ghost use Rattle.std.specs.Prelude.{ℕ, ◌≡◌, ◌<◌, List, [], map};
 ghost use Rattle.tcc_txn.specs.Snapshots.{Sessions};
-ghost use Rattle.tcc_reads.specs.Faults.{read_faults};
-ghost use Rattle.tcc_reads.specs.History.{count};
-ghost use Rattle.tcc_reads.specs.Sources.{history};
-ghost use Rattle.tcc_graph.specs.Levels.{judged};
-ghost use Rattle.tcc_graph.specs.Renumbered.{link_by};
-ghost use Rattle.tcc_graph.specs.Routes.{AreCycle};
-ghost use Rattle.tcc_graph.specs.declared.level.Level.{Level};
-ghost use Rattle.tcc_graph.specs.declared.link.Link.{Link};
-ghost use Rattle.tcc_slices.specs.declared.needs.Need.{Need};
-ghost use Rattle.tcc_slices.specs.private.Carrying.{Keeps, place};
-ghost use Rattle.tcc_slices.specs.private.Fitting.{IsFit};
+ghost use Rattle.tcc_reads.specs.{Faults.read_faults, History.count, Sources.history};
+ghost use Rattle.tcc_graph.specs.{Levels.judged, Renumbered.link_by, Routes.AreCycle, declared.level.Level.Level, declared.link.Link.Link};
+ghost use Rattle.tcc_slices.specs.{declared.needs.Need.Need, private.Carrying.Keeps, private.Carrying.place, private.Fitting.IsFit};
 
 /// Of a cut of a resolved snapshot by the needs of links of its history: no read has a fault; what is read, written and ordered in it is
 /// so in the whole; and where the links are a cycle of the whole, at a level, they are one of the cut, in its own numbers.

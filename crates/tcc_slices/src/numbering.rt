@@ -1,8 +1,7 @@
 //! The numbers that the transactions of a slice have in the whole, and those of the whole in the slice: by halving, one for each look.
 ghost use Rattle.std.specs.Prelude.{◌≡◌, ◌<◌, ◌≤◌, ◌^◌, ℕ, Contains, IfOk, length, map, slice_index};
 ghost use Rattle.tcc_graph.specs.Renumbered.{link_by};
-ghost use Rattle.tcc_slices.specs.private.Carrying.{IsRising, place};
-ghost use Rattle.tcc_slices.specs.private.Needing.{AreByNumber};
+ghost use Rattle.tcc_slices.specs.{private.Carrying.IsRising, private.Carrying.place, private.Needing.AreByNumber};
 
 use crate::needs::Need;
 use std::alloc::Global;

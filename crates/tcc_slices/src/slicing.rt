@@ -1,15 +1,9 @@
 //! A slice: a small snapshot with what the links of a cycle need, and nothing else.
 ghost use Rattle.std.specs.Prelude.{◌≡◌, ◌≢◌, [], None, IfOk, IfSome, IsTrue, MatchOption, map};
-ghost use Rattle.tcc_reads.specs.Faults.{read_faults};
-ghost use Rattle.tcc_reads.specs.Sources.{history};
-ghost use Rattle.tcc_graph.specs.Levels.{judged};
-ghost use Rattle.tcc_graph.specs.Renumbered.{link_by};
-ghost use Rattle.tcc_graph.specs.Routes.{AreCycle};
-ghost use Rattle.tcc_slices.specs.Cuts.{IsCutOf};
-ghost use Rattle.tcc_slices.specs.Limits.{NeedTooMuch};
-ghost use Rattle.tcc_slices.specs.Slices.{IsCarried, IsSliceOf};
+ghost use Rattle.tcc_reads.specs.{Faults.read_faults, Sources.history};
+ghost use Rattle.tcc_graph.specs.{Levels.judged, Renumbered.link_by, Routes.AreCycle};
+ghost use Rattle.tcc_slices.specs.{Cuts.IsCutOf, Limits.NeedTooMuch, Slices.IsCarried, Slices.IsSliceOf, private.Fitting.IsPassing};
 ghost use Rattle.tcc_slices.specs.private.Carrying.{carry, IsRising, place};
-ghost use Rattle.tcc_slices.specs.private.Fitting.{IsPassing};
 
 use crate::carrying::{fits, is_carried};
 use crate::cutting::cut;

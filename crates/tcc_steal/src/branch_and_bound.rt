@@ -8,8 +8,7 @@ ghost use Rattle.tcc_derive.specs.Prices.{Tables, IsPricesOf};
 ghost use Rattle.tcc_bound.specs.declared.known.Known.{Known};
 ghost use Rattle.tcc_core.specs.Rows.{cap_of};
 ghost use Rattle.tcc_core.specs.Shares.{IsCycleCost, SettleAt, capped};
-ghost use Rattle.tcc_steal.specs.Findings.{HasJudged, IsFound};
-ghost use Rattle.tcc_steal.specs.private.Floors.{least_cost};
+ghost use Rattle.tcc_steal.specs.{Findings.HasJudged, Findings.IsFound, private.Floors.least_cost};
 ghost use Rattle.tcc_steal.specs.private.Working.{AreSearches, HasSeed, IsFirstBack, IsSeat, rows_of};
 
 use crate::fork_join::shares_of_crew;

@@ -3,10 +3,9 @@
 //! thief.
 ghost use Rattle.std.specs.Prelude.{◌≡◌, ◌<◌, ◌≤◌, ℕ, All, length, IfOk, OnOk};
 ghost use Rattle.crossbeam_deque.specs.Handles.{worker_deque, worker_flavor, worker_view, stealer_deque};
-ghost use Rattle.tcc_steal.specs.private.StartQueues.{IsTaker};
-ghost use Rattle.tcc_derive.specs.Prices.{Tables};
-ghost use Rattle.tcc_steal.specs.Findings.{HasJudged};
+ghost use Rattle.tcc_steal.specs.{private.StartQueues.IsTaker, Findings.HasJudged};
 ghost use Rattle.tcc_steal.specs.private.Working.{IsSeat, IsWorker, IsJob, AreThieves, AreJobs, AreJobsOf, AreShares, IsShare};
+ghost use Rattle.tcc_derive.specs.Prices.{Tables};
 
 use crate::deque::{Owner, Thief, fill, pass_for_thief};
 use crate::worker::Worker;

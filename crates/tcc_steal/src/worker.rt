@@ -2,8 +2,7 @@
 ghost use Rattle.std.specs.Prelude.{◌≡◌, ◌<◌, ◌≤◌, length, IfOk, IfSome, OnOk};
 ghost use Rattle.tcc_graph.specs.Levels.{Judged};
 ghost use Rattle.tcc_derive.specs.Prices.{IsPricesOf};
-ghost use Rattle.tcc_core.specs.Rows.{IsEmptyRow};
-ghost use Rattle.tcc_core.specs.Searches.{IsSearchOf};
+ghost use Rattle.tcc_core.specs.{Rows.IsEmptyRow, Searches.IsSearchOf};
 ghost use Rattle.tcc_steal.specs.Findings.{HasJudged};
 ghost use Rattle.tcc_steal.specs.private.Working.{IsWorker, IsDone, KnowsMore};
 

@@ -4,8 +4,7 @@
 //! each session; and two tables of 64 N numbers.
 ghost use Rattle.std.specs.Prelude.{◌≡◌, IfOk, reverse};
 ghost use Rattle.tcc_reads.specs.History.{count};
-ghost use Rattle.tcc_graph.specs.Levels.{judged};
-ghost use Rattle.tcc_graph.specs.Orders.{IsNumbering};
+ghost use Rattle.tcc_graph.specs.{Levels.judged, Orders.IsNumbering};
 ghost use Rattle.tcc_clocks.specs.Clocks.{LeadsOnward};
 ghost use Rattle.tcc_survey.specs.private.Settled.{AreReads, AreFound};
 

@@ -2,8 +2,7 @@
 //! read beside it.
 ghost use Rattle.std.specs.Prelude.{IfOk};
 ghost use Rattle.tcc_reads.specs.History.{count};
-ghost use Rattle.tcc_graph.specs.Levels.{judged};
-ghost use Rattle.tcc_graph.specs.Orders.{IsNumbering};
+ghost use Rattle.tcc_graph.specs.{Levels.judged, Orders.IsNumbering};
 ghost use Rattle.tcc_clocks.specs.Clocks.{LeadsOnward};
 ghost use Rattle.tcc_survey.specs.Contradictions.{AreContradicted};
 

@@ -3,9 +3,7 @@
 //! held once. For N transactions and R reads that takes at most 64 (N + R) steps a block, and 64 N numbers.
 ghost use Rattle.std.specs.Prelude.{◌≡◌, ◌<◌, ◌+◌, MatchOption, ℕ, List, length, set, All, OnOk};
 ghost use Rattle.tcc_reads.specs.History.{IsBySession, count};
-ghost use Rattle.tcc_graph.specs.Relations.{IsSessionPair};
-ghost use Rattle.tcc_graph.specs.Tables.{row_of};
-ghost use Rattle.tcc_graph.specs.Orders.{IsNumbering};
+ghost use Rattle.tcc_graph.specs.{Relations.IsSessionPair, Tables.row_of, Orders.IsNumbering};
 ghost use Rattle.tcc_clocks.specs.Clocks.{AreOwners, IsAfter};
 ghost use Rattle.tcc_survey.specs.private.Firsts.{AreFirstOf, AreFirsts, AreChildren, LeadsBackward};
 

@@ -4,11 +4,9 @@
 ghost use Rattle.std.specs.Prelude.{◌≡◌, ◌<◌, ◌≤◌, ◌+◌, ◌^◌, ◌↔◌, ℕ, length, slice_index, IsTrue, OnOk};
 ghost use Rattle.std.specs.List.Sorted.{IsNonDecreasing};
 ghost use Rattle.tcc_reads.specs.History.{IsBySession, count};
-ghost use Rattle.tcc_graph.specs.Keys.{key_at};
-ghost use Rattle.tcc_graph.specs.Levels.{judged};
-ghost use Rattle.tcc_clocks.specs.Clocks.{AreOwners, AreClocks};
+ghost use Rattle.tcc_graph.specs.{Keys.key_at, Levels.judged};
+ghost use Rattle.tcc_clocks.specs.{Clocks.AreOwners, Clocks.AreClocks, declared.latest.TheConstants.WIDE};
 ghost use Rattle.tcc_survey.specs.private.Firsts.{AreFirsts};
-ghost use Rattle.tcc_clocks.specs.declared.latest.TheConstants.{WIDE};
 ghost use Rattle.tcc_survey.specs.private.Settled.{IsLeastOf, IsAcyclic, IsBlock, MayHit, IsWithin, IsKnown, IsHitOf, IsHitOnLane, AreWritersIn, IsReading, IsLeastBefore, AreReads, AreSettled, AreSpansIn};
 
 use crate::external_reads::Reading;

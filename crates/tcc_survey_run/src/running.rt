@@ -1,15 +1,10 @@
 //! From the bytes of records to the survey of all that they finish.
 ghost use Rattle.std.specs.Prelude.{◌≡◌, ℕ, List, [], None, IfOk, IfSome};
-ghost use Rattle.tcc_rows.specs.Ahead.{fault_met};
-ghost use Rattle.tcc_rows.specs.Answers.{answers_within, records_within};
-ghost use Rattle.tcc_rows.specs.Reached.{IsWithin};
-ghost use Rattle.tcc_rows.specs.Recordings.{IsRecording};
-ghost use Rattle.tcc_reads.specs.Faults.{read_faults};
-ghost use Rattle.tcc_reads.specs.Traced.{traced_history};
+ghost use Rattle.tcc_rows.specs.{Ahead.fault_met, Answers.answers_within, Answers.records_within, Reached.IsWithin, Recordings.IsRecording};
+ghost use Rattle.tcc_reads.specs.{Faults.read_faults, Traced.traced_history};
 ghost use Rattle.tcc_graph.specs.Levels.{judged};
 ghost use Rattle.tcc_survey.specs.Contradictions.{IsSurvey};
-ghost use Rattle.tcc_survey_run.specs.Runs.{IsSurveyRun, limits_of};
-ghost use Rattle.tcc_survey_run.specs.private.Saying.{SaysSurvey};
+ghost use Rattle.tcc_survey_run.specs.{Runs.IsSurveyRun, Runs.limits_of, private.Saying.SaysSurvey};
 
 use crate::options::SurveyOptions;
 use crate::saying::{say_circle, say_found};

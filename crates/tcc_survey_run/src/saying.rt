@@ -3,13 +3,10 @@ ghost use Rattle.std.specs.Prelude.{◌≡◌, ◌<◌, All, flat_map, map, stri
 ghost use Rattle.std.specs.Io.KnownBytes.{Appends};
 ghost use Rattle.tcc_reads.specs.Faults.{read_faults};
 ghost use Rattle.tcc_reads.specs.History.{count, entry_at, initial};
-ghost use Rattle.tcc_graph.specs.Levels.{judged};
-ghost use Rattle.tcc_graph.specs.Numbers.{label};
-ghost use Rattle.tcc_graph.specs.declared.level.Level.{Level};
+ghost use Rattle.tcc_graph.specs.{Levels.judged, Numbers.label, declared.level.Level.Level};
 ghost use Rattle.tcc_survey.specs.Contradictions.{AreContradicted};
+ghost use Rattle.tcc_survey_run.specs.{Told.AreNames, Told.AreTold, private.Saying.SaysFound};
 ghost use Rattle.tcc_survey_run.specs.Surveys.{BreaksOff, GoesOut, circle_line, fault_lines, name_line, read_count, read_line, survey_status, survey_text, total_line};
-ghost use Rattle.tcc_survey_run.specs.Told.{AreNames, AreTold};
-ghost use Rattle.tcc_survey_run.specs.private.Saying.{SaysFound};
 
 use crate::counting::{NameCount, Totals, names_of};
 use crate::options::SurveyOptions;

@@ -2,9 +2,7 @@
 ghost use Rattle.std.specs.Prelude.{◌≡◌, ◌<◌, All, length, IfOk};
 ghost use Rattle.std.specs.List.Sorted.{IsPermutation, IsSortedByKey};
 ghost use Rattle.tcc_reads.specs.History.{count, entry_at, initial};
-ghost use Rattle.tcc_graph.specs.Keys.{keys};
-ghost use Rattle.tcc_graph.specs.Levels.{judged};
-ghost use Rattle.tcc_graph.specs.declared.level.Level.{Level};
+ghost use Rattle.tcc_graph.specs.{Keys.keys, Levels.judged, declared.level.Level.Level};
 ghost use Rattle.tcc_survey.specs.Contradictions.{AreContradicted};
 ghost use Rattle.tcc_operations.specs.Operations.{ops_of};
 ghost use Rattle.tcc_survey_run.specs.Told.{AreTold, IsToldOf, first_read, operation_cmp};

@@ -7,11 +7,8 @@ ghost use Rattle.std.specs.Cmp.Lexicographic.{slice_cmp};
 ghost use Rattle.std.specs.FinMap.Entries.{find, is_sorted, put};
 ghost use Rattle.std.specs.List.{insert};
 ghost use Rattle.std.specs.Ordering.{nat_cmp};
-ghost use Rattle.tcc_txn.specs.Limits.{most_sessions};
-ghost use Rattle.tcc_txn.specs.Nested.{IsPrefix};
-ghost use Rattle.tcc_txn.specs.Snapshots.{listed_at};
+ghost use Rattle.tcc_txn.specs.{Limits.most_sessions, Nested.IsPrefix, Snapshots.listed_at, declared.packed.PackedOp.PackedOp};
 ghost use Rattle.tcc_txn.specs.private.Packing.{AllPacked, ArePacked, PacksOps, op_in, sessions_in, txns_in};
-ghost use Rattle.tcc_txn.specs.declared.packed.PackedOp.{PackedOp};
 
 use crate::by_name::part_of;
 use crate::symbols::{SymbolTable, number_of};
@@ -56,9 +53,7 @@ pub(crate) struct PackedSessions {
 impl Model for PackedSessions {
     ghost use Rattle.std.specs.Prelude.{ℕ, List};
     ghost use Rattle.std.specs.Coded.{coded×, coded_list, coded_ℕ};
-    ghost use Rattle.tcc_txn.specs.Transactions.{Transaction};
-    ghost use Rattle.tcc_txn.specs.private.SnapshotStorage.{transaction_code};
-    ghost use Rattle.tcc_txn.specs.private.Packing.{AllPacked, sessions_in};
+    ghost use Rattle.tcc_txn.specs.{Transactions.Transaction, private.SnapshotStorage.transaction_code, private.Packing.AllPacked, private.Packing.sessions_in};
 
     ghost Value = { List (List ℕ × List Transaction) };
 

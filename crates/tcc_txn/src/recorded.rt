@@ -1,8 +1,6 @@
 //! Transactions as a snapshot holds them.
 ghost use Rattle.std.specs.Prelude.{◌≡◌, ◌≤◌, None, IfOk, OnOk, length, map, slice_get};
-ghost use Rattle.tcc_txn.specs.Transactions.{txn_fault};
-ghost use Rattle.tcc_txn.specs.private.Packing.{AreNamed, op_in};
-ghost use Rattle.tcc_txn.specs.declared.limits.TheConstants.{MAX_OPERATIONS};
+ghost use Rattle.tcc_txn.specs.{Transactions.txn_fault, private.Packing.AreNamed, private.Packing.op_in, declared.limits.TheConstants.MAX_OPERATIONS};
 
 use crate::packed::PackedOp;
 use crate::{Name, NoMemory, Op, Txn};
@@ -27,8 +25,7 @@ pub struct Recorded<'a> {
 }
 
 impl<'a> Model for Recorded<'a> {
-    ghost use Rattle.tcc_txn.specs.Transactions.{Transaction};
-    ghost use Rattle.tcc_txn.specs.private.SnapshotStorage.{transaction_code};
+    ghost use Rattle.tcc_txn.specs.{Transactions.Transaction, private.SnapshotStorage.transaction_code};
 
     ghost Value = { Transaction };
 

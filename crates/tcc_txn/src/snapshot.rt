@@ -7,13 +7,12 @@ ghost use Rattle.std.specs.FinMap.Entries.{find, is_sorted, put};
 ghost use Rattle.std.specs.List.{insert, list_any};
 ghost use Rattle.std.specs.List.Sorted.{IsPermutation, IsSortedByKey};
 ghost use Rattle.std.specs.Ordering.{nat_cmp};
+ghost use Rattle.tcc_txn.specs.{Limits.most_sessions, Limits.most_transactions, private.SnapshotStorage.IsStoredWithin, private.SnapshotStorage.shown};
 ghost use Rattle.tcc_txn.specs.Finished.{IsWithinLimits, KeepsLimits, transaction_count, with_transaction};
-ghost use Rattle.tcc_txn.specs.Limits.{most_sessions, most_transactions};
+ghost use Rattle.tcc_txn.specs.Snapshots.{finished_at, parts_of, first_repeated, snapshot_fault, snapshot_fault_within};
+ghost use Rattle.tcc_txn.specs.declared.limits.TheConstants.{LARGE_SESSIONS, LARGE_TRANSACTIONS, MAX_SESSIONS, MAX_TRANSACTIONS};
 ghost use Rattle.std.specs.Cmp.Lexicographic.{pointwise, slice_cmp};
 ghost use Rattle.std.specs.Option.{option_map_or};
-ghost use Rattle.tcc_txn.specs.Snapshots.{finished_at, parts_of, first_repeated, snapshot_fault, snapshot_fault_within};
-ghost use Rattle.tcc_txn.specs.private.SnapshotStorage.{IsStoredWithin, shown};
-ghost use Rattle.tcc_txn.specs.declared.limits.TheConstants.{LARGE_SESSIONS, LARGE_TRANSACTIONS, MAX_SESSIONS, MAX_TRANSACTIONS};
 
 use crate::by_name::part_of;
 use crate::storage::Storage;
@@ -102,8 +101,7 @@ impl<B: Bounds> Model for SnapshotWithin<B> {
 
     ghost coded = { sessions_code };
 
-    ghost use Rattle.tcc_txn.specs.private.SnapshotStorage.{shown};
-    ghost use Rattle.tcc_txn.specs.private.Storing.{parts_in, IsCounted};
+    ghost use Rattle.tcc_txn.specs.{private.SnapshotStorage.shown, private.Storing.parts_in, private.Storing.IsCounted};
 
     ghost view = { λ s. shown (parts_in s.sessions) };
 

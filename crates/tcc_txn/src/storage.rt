@@ -3,10 +3,7 @@ ghost use Rattle.std.specs.Prelude.{◌≡◌, ◌≤◌, ◌<◌, ◌⊎◌, �
 ghost use Rattle.std.specs.Cmp.Lexicographic.{slice_cmp};
 ghost use Rattle.std.specs.FinMap.Entries.{find, is_sorted, put};
 ghost use Rattle.std.specs.Ordering.{nat_cmp};
-ghost use Rattle.tcc_txn.specs.Limits.{most_sessions};
-ghost use Rattle.tcc_txn.specs.Snapshots.{listed_at, parts_of};
-ghost use Rattle.tcc_txn.specs.private.Storing.{IsPlain, parts_in};
-ghost use Rattle.tcc_txn.specs.declared.limits.Limits.TheVariants.{Small};
+ghost use Rattle.tcc_txn.specs.{Limits.most_sessions, Snapshots.listed_at, Snapshots.parts_of, private.Storing.IsPlain, private.Storing.parts_in, declared.limits.Limits.TheVariants.Small};
 
 use crate::packed::PackedSessions;
 use crate::snapshot::add_to;

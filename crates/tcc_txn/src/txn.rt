@@ -1,7 +1,6 @@
 //! Finished transactions.
 ghost use Rattle.std.specs.Prelude.{◌≡◌, ◌≤◌, ℕ, length, None, Some, IfOk, MatchResult, position};
-ghost use Rattle.tcc_txn.specs.Transactions.{writes_zero, txn_fault};
-ghost use Rattle.tcc_txn.specs.declared.limits.TheConstants.{MAX_OPERATIONS};
+ghost use Rattle.tcc_txn.specs.{Transactions.writes_zero, Transactions.txn_fault, declared.limits.TheConstants.MAX_OPERATIONS};
 
 use crate::{MAX_OPERATIONS, NoMemory, Op, Recorded};
 use std::alloc::Global;

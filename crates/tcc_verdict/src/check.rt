@@ -1,8 +1,7 @@
 //! From the bytes of a history and of a certificate to the verdict.
 ghost use Rattle.std.specs.Prelude.{◌≡◌, IfSome};
-ghost use Rattle.tcc_verdict.specs.Checking.{IsHistory, MayBeResolution};
+ghost use Rattle.tcc_verdict.specs.{Checking.IsHistory, Checking.MayBeResolution, private.Stages.MayBeTextCheck};
 ghost use Rattle.tcc_verdict.specs.Checks.{IsCheckRun, IsShown, PrintsSome};
-ghost use Rattle.tcc_verdict.specs.private.Stages.{MayBeTextCheck};
 
 use crate::{Checker, run_checker};
 use std::alloc::Global;
@@ -53,8 +52,7 @@ struct SmallChecker;
 
 impl Checker for SmallChecker {
     ghost use Rattle.std.specs.Prelude.{refl};
-    ghost use Rattle.tcc_verdict.specs.Checking.{IsHistory};
-    ghost use Rattle.tcc_verdict.specs.Checks.{small_check};
+    ghost use Rattle.tcc_verdict.specs.{Checking.IsHistory, Checks.small_check};
 
     type Limits = SmallLimits;
 

@@ -16,8 +16,7 @@ pub trait Checker {
     ghost use Rattle.std.specs.Prelude.{◌≡◌, IfSome, false};
     ghost use Rattle.tcc_txn.specs.Snapshots.{Sessions};
     ghost use Rattle.tcc_print.specs.Printed.{PrintsOrMemory};
-    ghost use Rattle.tcc_verdict.specs.Checking.{Check, MayBeResolution};
-    ghost use Rattle.tcc_verdict.specs.private.Stages.{MayBeOfText, TellsHalts};
+    ghost use Rattle.tcc_verdict.specs.{Checking.Check, Checking.MayBeResolution, private.Stages.MayBeOfText, private.Stages.TellsHalts};
 
     /// The limits of the records.
     type Limits: Bounds;

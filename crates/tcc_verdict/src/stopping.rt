@@ -1,7 +1,5 @@
 //! How a run ends by the fault of a record, and what is noted of it, by the record that it stands at.
-ghost use Rattle.tcc_print.specs.Halts.{by_row};
-ghost use Rattle.tcc_print.specs.Printed.{PrintsOrMemory, halted};
-ghost use Rattle.tcc_print.specs.Statuses.{halt_status};
+ghost use Rattle.tcc_print.specs.{Halts.by_row, Printed.PrintsOrMemory, Printed.halted, Statuses.halt_status};
 
 use std::alloc::Global;
 use std::io::{Read, Write};

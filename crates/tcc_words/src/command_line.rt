@@ -5,11 +5,7 @@ ghost use Rattle.clap.specs.Words.{FailsBy, IsUnsignedIn, app_of, fault_of, foun
 ghost use Rattle.clap.specs.declared.error.kind.ErrorKind.TheVariants.{OutOfMemory};
 ghost use Rattle.tcc_graph.specs.declared.level.Level.{Level};
 ghost use Rattle.tcc_workers.specs.declared.workers.TheConstants.{MAX_WORKERS};
-ghost use Rattle.tcc_words.specs.CommandLines.{Asks, AsksBy, AsksExplain, AsksFiles, AsksSurvey, EndsUnasked, GoesTogether, IsAsked, IsFlag, IsInput, IsRequired, WasAsked};
-ghost use Rattle.tcc_words.specs.CommandLines.{IsLevel, IsWorkers, PrintsHelp, SaysWorkers, certificate_option};
-ghost use Rattle.tcc_words.specs.CommandLines.{check_command, explain_command, flag, flag_text, level_option, level_text, level_word, option_text};
-ghost use Rattle.tcc_words.specs.CommandLines.{history_path, require_option, required_text, slice_option, survey_command};
-ghost use Rattle.tcc_words.specs.CommandLines.{path, path_option, tcc_command, valued_option, workers_option, workers_text};
+ghost use Rattle.tcc_words.specs.CommandLines.{Asks, AsksBy, AsksExplain, AsksFiles, AsksSurvey, EndsUnasked, GoesTogether, IsAsked, IsFlag, IsInput, IsRequired, WasAsked, IsLevel, IsWorkers, PrintsHelp, SaysWorkers, certificate_option, check_command, explain_command, flag, flag_text, level_option, level_text, level_word, option_text, history_path, require_option, required_text, slice_option, survey_command, path, path_option, tcc_command, valued_option, workers_option, workers_text};
 
 use crate::help;
 use clap::builder::ValueParser;

@@ -2,8 +2,7 @@
 ghost use Rattle.std.specs.Prelude.{◌≡◌, ℕ, [], length, None};
 ghost use Rattle.tcc_graph.specs.Levels.{Judged};
 ghost use Rattle.tcc_derive.specs.Prices.{IsPricesOf};
-ghost use Rattle.tcc_core.specs.Rows.{cap_of};
-ghost use Rattle.tcc_core.specs.Searches.{IsSearchOf};
+ghost use Rattle.tcc_core.specs.{Rows.cap_of, Searches.IsSearchOf};
 ghost use Rattle.tcc_world.specs.Steps.{Grows};
 
 use crate::stage::Stage;

@@ -1,10 +1,7 @@
 //! The law of all interleavings.
 ghost use Rattle.std.specs.Prelude.{◌≡◌, ◌↔◌, ℕ, List, Option, Some, None};
 ghost use Rattle.tcc_reads.specs.History.{count};
-ghost use Rattle.tcc_graph.specs.Levels.{Judged};
-ghost use Rattle.tcc_graph.specs.Links.{cost};
-ghost use Rattle.tcc_graph.specs.Routes.{HasCycle, IsLeastCycle};
-ghost use Rattle.tcc_graph.specs.declared.link.Link.{Link};
+ghost use Rattle.tcc_graph.specs.{Levels.Judged, Links.cost, Routes.HasCycle, Routes.IsLeastCycle, declared.link.Link.Link};
 ghost use Rattle.tcc_core.specs.Shares.{SettleAt};
 ghost use Rattle.tcc_world.specs.Worlds.{World, shares_of, first_world};
 ghost use Rattle.tcc_world.specs.Steps.{IsEnabled, Happens, Runs};

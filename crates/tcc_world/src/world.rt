@@ -30,8 +30,7 @@ pub struct World {
 }
 
 impl Model for World {
-    ghost use Rattle.tcc_world.specs.Machines.{Machine};
-    ghost use Rattle.tcc_world.specs.private.Fitting.{IsFit};
+    ghost use Rattle.tcc_world.specs.{Machines.Machine, private.Fitting.IsFit};
 
     ghost Value = { Machine };
 

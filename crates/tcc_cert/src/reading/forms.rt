@@ -1,8 +1,6 @@
 //! What one line of words says.
 ghost use Rattle.std.specs.Prelude.{◌≡◌, map};
-ghost use Rattle.tcc_cert.specs.Reading.{count_of, cycle_sizes, derived_of, five_words, head_line, head_of_step, key_of};
-ghost use Rattle.tcc_cert.specs.Reading.{order_sizes, reads_of, session_of, sizes_line, step_line, three_words};
-ghost use Rattle.tcc_cert.specs.Reading.{transaction_of, two_words, words};
+ghost use Rattle.tcc_cert.specs.Reading.{count_of, cycle_sizes, derived_of, five_words, head_line, head_of_step, key_of, order_sizes, reads_of, session_of, sizes_line, step_line, three_words, transaction_of, two_words, words};
 
 use super::decimals::number_of;
 use super::input::Input;

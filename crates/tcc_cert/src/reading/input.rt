@@ -1,9 +1,6 @@
 //! The lines of a reader, within the limit on their length.
 ghost use Rattle.std.specs.Prelude.{◌≡◌, ◌<◌, ◌≤◌, ◌-◌, ◌==◌, IfOk, IfSome, OnOk, length, position, take};
-ghost use Rattle.tcc_cert.specs.WindowBytes.{window_bytes};
-ghost use Rattle.tcc_cert.specs.private.Showing.{at_line};
-ghost use Rattle.tcc_cert.specs.Reading.{line_length};
-ghost use Rattle.tcc_cert.specs.declared.reading.window.TheConstants.{WINDOW_BYTES};
+ghost use Rattle.tcc_cert.specs.{WindowBytes.window_bytes, private.Showing.at_line, Reading.line_length, declared.reading.window.TheConstants.WINDOW_BYTES};
 
 use super::source::Source;
 use super::window::Window;
@@ -53,10 +50,8 @@ fn line_length(bytes: &[u8], searched: usize) -> usize
 }
 
 impl<R: Read> Input<R> {
+    ghost use Rattle.tcc_cert.specs.{InputBytes.HasFailed, InputBytes.IsAt, Reading.Position, Ranges.ranges_at};
     ghost use Rattle.tcc_cert.specs.private.Inputs.{Ends, FindsLine, AsBefore, TakesLine, line_in};
-    ghost use Rattle.tcc_cert.specs.InputBytes.{HasFailed, IsAt};
-    ghost use Rattle.tcc_cert.specs.Reading.{Position};
-    ghost use Rattle.tcc_cert.specs.Ranges.{ranges_at};
 
     pub(crate) fn new(reader: R) -> Input<R>
         ensures start { IfSome (R.remaining reader) (λ bytes. IsAt R.remaining result (record { line = 1; bytes = bytes })) }

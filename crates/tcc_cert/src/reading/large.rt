@@ -1,11 +1,8 @@
 //! How the text of version 3 is read.
 ghost use Rattle.std.specs.Prelude.{◌≡◌, ℕ, IfSome, List, OnOk, is_ok};
-ghost use Rattle.tcc_cert.specs.private.Inputs.{AsBefore, Gives};
-ghost use Rattle.tcc_cert.specs.InputBytes.{IsAt};
-ghost use Rattle.tcc_cert.specs.Outcomes.{IsLargeReading};
+ghost use Rattle.tcc_cert.specs.{private.Inputs.AsBefore, private.Inputs.Gives, InputBytes.IsAt, Outcomes.IsLargeReading, declared.ranges.TheConstants.MAX_HEADER_BYTES};
 ghost use Rattle.tcc_cert.specs.Reading.{Position, link_at, next, repeated, start_of};
 ghost use Rattle.tcc_cert.specs.LargeReading.{large_behind_header, large_certificate_at, large_claim_at, large_header_line, least_at, links_claim_at, runs_at};
-ghost use Rattle.tcc_cert.specs.declared.ranges.TheConstants.{MAX_HEADER_BYTES};
 
 use super::input::{Input, at_line};
 use super::large_forms::{LargeSizes, Tail};

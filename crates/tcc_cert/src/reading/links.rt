@@ -1,7 +1,6 @@
 //! The lines of links and of the steps of their walks.
 ghost use Rattle.std.specs.Prelude.{◌≡◌, OnOk};
-ghost use Rattle.tcc_cert.specs.private.Inputs.{AsBefore, Gives};
-ghost use Rattle.tcc_cert.specs.InputBytes.{IsAt};
+ghost use Rattle.tcc_cert.specs.{private.Inputs.AsBefore, private.Inputs.Gives, InputBytes.IsAt};
 ghost use Rattle.tcc_cert.specs.Reading.{Position, link_at, repeated, with_walk};
 
 use super::forms::Head;

@@ -1,10 +1,7 @@
 //! Lines of numbers.
 ghost use Rattle.std.specs.Prelude.{◌≡◌, ◌<◌, ◌≤◌, ◌+◌, All, IfOk, IfSome, OnOk, length};
-ghost use Rattle.tcc_cert.specs.private.Inputs.{AsBefore, Gives};
-ghost use Rattle.tcc_cert.specs.InputBytes.{IsAt};
-ghost use Rattle.tcc_cert.specs.private.Showing.{Shows, ShowsItems};
+ghost use Rattle.tcc_cert.specs.{private.Inputs.AsBefore, private.Inputs.Gives, InputBytes.IsAt, private.Showing.Shows, private.Showing.ShowsItems, Texts.numbers_words, Texts.words_text};
 ghost use Rattle.tcc_cert.specs.Reading.{Position, numbers_line, numbers_of, parted, words, words_of};
-ghost use Rattle.tcc_cert.specs.Texts.{numbers_words, words_text};
 
 use super::decimals::number_of;
 use super::input::{Input, at_line};

@@ -1,12 +1,9 @@
 //! The parts of a certificate's text, each with what stands behind it.
 ghost use Rattle.std.specs.Prelude.{◌≡◌, ◌<◌, ◌+◌, ℕ, IfOk, OnOk};
-ghost use Rattle.tcc_cert.specs.private.Inputs.{AsBefore};
-ghost use Rattle.tcc_cert.specs.InputBytes.{IsAt};
+ghost use Rattle.tcc_cert.specs.{private.Inputs.AsBefore, InputBytes.IsAt, Reading.Position, Ahead.IsBehind};
 ghost use Rattle.tcc_cert.specs.Parts.{Parts, end_parts, link_rows, order_parts, order_rest, parts_behind, whole_parts};
-ghost use Rattle.tcc_cert.specs.Reading.{Position};
 ghost use Rattle.tcc_cert.specs.Shapes.{behind_table, height, links_from, rows_from, table_parts, table_rows};
 ghost use Rattle.tcc_cert.specs.private.Stages.{IsBegun, IsClaimStep, IsRowStep, IsStepAt, TakesStep};
-ghost use Rattle.tcc_cert.specs.Ahead.{IsBehind};
 
 use super::forms::Sizes;
 use super::input::Input;

@@ -1,8 +1,6 @@
 //! The lines of words, each judged by the form of what it has to say.
 ghost use Rattle.std.specs.Prelude.{◌≡◌, map, IfOk, OnOk, Result};
-ghost use Rattle.tcc_cert.specs.private.Inputs.{AsBefore, Gives};
-ghost use Rattle.tcc_cert.specs.InputBytes.{IsAt};
-ghost use Rattle.tcc_cert.specs.private.Showing.{Shows};
+ghost use Rattle.tcc_cert.specs.{private.Inputs.AsBefore, private.Inputs.Gives, InputBytes.IsAt, private.Showing.Shows};
 ghost use Rattle.tcc_cert.specs.Reading.{Position, words, words_of};
 
 use super::input::{Input, at_line};
@@ -13,9 +11,7 @@ use std::io::Read;
 
 /// What a line of words says.
 pub(crate) trait WordLine: Drop {
-    ghost use Rattle.tcc_cert.specs.declared.fault.CertFaultKind.{CertFaultKind};
-    ghost use Rattle.tcc_cert.specs.declared.ranges.Scale.{Scale};
-    ghost use Rattle.tcc_cert.specs.Texts.{Words};
+    ghost use Rattle.tcc_cert.specs.{declared.fault.CertFaultKind.CertFaultKind, declared.ranges.Scale.Scale, Texts.Words};
 
     ghost form: { Scale → Words → Result Self CertFaultKind };
 
@@ -27,11 +23,7 @@ pub(crate) trait WordLine: Drop {
 /// What one line says, or some that belong together.
 pub(crate) trait Entry: Drop {
     ghost use Rattle.std.specs.Prelude.{OnOk};
-    ghost use Rattle.tcc_cert.specs.declared.ranges.Scale.{Scale};
-    ghost use Rattle.tcc_cert.specs.InputBytes.{IsAt};
-    ghost use Rattle.tcc_cert.specs.Reading.{Position, Reads};
-    ghost use Rattle.tcc_cert.specs.private.Inputs.{AsBefore, Gives};
-    ghost use Rattle.tcc_cert.specs.private.Onward.{IsOnward};
+    ghost use Rattle.tcc_cert.specs.{declared.ranges.Scale.Scale, InputBytes.IsAt, Reading.Position, Reading.Reads, private.Inputs.AsBefore, private.Inputs.Gives, private.Onward.IsOnward};
 
     ghost entry: { Scale → Position → Reads Self };
 

@@ -1,8 +1,7 @@
 //! The operations of a transaction that is not finished.
 ghost use Rattle.std.specs.Prelude.{◌≡◌, ◌≤◌, ◌<◌, ◌⊎◌, ◌++◌, ◌∷◌, [], false, length, OnOk, IfErr, ◌≢◌};
 ghost use Rattle.tcc_rows.specs.private.Drafts.{AddsOp};
-ghost use Rattle.tcc_txn.specs.Transactions.{writes_zero};
-ghost use Rattle.tcc_txn.specs.declared.limits.TheConstants.{MAX_OPERATIONS};
+ghost use Rattle.tcc_txn.specs.{Transactions.writes_zero, declared.limits.TheConstants.MAX_OPERATIONS};
 
 use crate::RowFaultKind;
 use std::alloc::Global;
@@ -17,8 +16,7 @@ pub(crate) struct Draft {
 
 impl Model for Draft {
     ghost use Rattle.std.specs.Prelude.{◌≡◌, List, None};
-    ghost use Rattle.tcc_txn.specs.Transactions.{txn_fault};
-    ghost use Rattle.tcc_txn.specs.declared.op.Op.{Op};
+    ghost use Rattle.tcc_txn.specs.{Transactions.txn_fault, declared.op.Op.Op};
 
     ghost Value = { List Op };
 

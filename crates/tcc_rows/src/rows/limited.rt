@@ -2,8 +2,7 @@
 ghost use Rattle.std.specs.Prelude.{◌≡◌, ◌<◌, [], true, length, OnOk, OnErr, Ok, option_map};
 ghost use Rattle.std.specs.Io.{ReadsAtMost};
 ghost use Rattle.std.specs.Io.KnownBytes.{Consumes, IsAtEnd, Keeps, ReadConsumes};
-ghost use Rattle.tcc_rows.specs.ByteLimit.{limited_remaining, marked};
-ghost use Rattle.tcc_rows.specs.private.Limited.{met_end};
+ghost use Rattle.tcc_rows.specs.{ByteLimit.limited_remaining, ByteLimit.marked, private.Limited.met_end};
 ghost use Rattle.tcc_rows.specs.declared.rows.limited.BytesStage.TheVariants as stage;
 
 use std::io;

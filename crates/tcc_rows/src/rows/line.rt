@@ -1,9 +1,8 @@
 //! What one record says by itself.
 ghost use Rattle.std.specs.Prelude.{◌≡◌, ◌≢◌, ◌<◌, ◌∷◌, [], length, slice_index, IfErr};
 ghost use Rattle.csv.specs.Records.{field_at, fields_of};
-ghost use Rattle.tcc_rows.specs.private.Words.{access_of, session_of};
+ghost use Rattle.tcc_rows.specs.{private.Words.access_of, private.Words.session_of, private.Turns.read_as};
 ghost use Rattle.tcc_rows.specs.Lines.{digits_of, line_of, op_of, value_of};
-ghost use Rattle.tcc_rows.specs.private.Turns.{read_as};
 
 use crate::RowFaultKind;
 use csv::ByteRecord;

@@ -5,16 +5,12 @@ ghost use Rattle.std.specs.Ordering.{nat_cmp};
 ghost use Rattle.std.specs.Cmp.Lexicographic.{slice_cmp};
 ghost use Rattle.std.specs.Option.{option_map_or};
 ghost use Rattle.csv.specs.Records.{fields_of};
-ghost use Rattle.tcc_rows.specs.Lines.{line_of};
+ghost use Rattle.tcc_rows.specs.{Lines.line_of, private.Turns.line_by, private.StagesAfter.stage_after_line, Line.Line};
 ghost use Rattle.tcc_rows.specs.Past.{least, lesser, open_sessions, ops_since};
 ghost use Rattle.tcc_rows.specs.Standing.{HoldsNames, HoldsSeats, IsAfter};
 ghost use Rattle.tcc_rows.specs.private.Passing.{MayBegin, NotesName, PassesLine, PassesOperation, TakesLine, lower};
-ghost use Rattle.tcc_rows.specs.private.Turns.{line_by};
-ghost use Rattle.tcc_txn.specs.Transactions.{writes_zero};
-ghost use Rattle.tcc_rows.specs.private.StagesAfter.{stage_after_line};
-ghost use Rattle.tcc_txn.specs.declared.limits.Limits.{Limits};
+ghost use Rattle.tcc_txn.specs.{Transactions.writes_zero, declared.limits.Limits.Limits};
 ghost use Rattle.tcc_rows.specs.declared.rows.Stage.TheVariants as stage;
-ghost use Rattle.tcc_rows.specs.Line.{Line};
 ghost use Rattle.tcc_rows.specs.Line as line;
 
 use super::Item;

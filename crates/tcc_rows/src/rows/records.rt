@@ -3,13 +3,8 @@ ghost use Rattle.std.specs.Prelude.{◌≡◌, ◌==◌, false, List, IfOk, IfEr
 ghost use Rattle.std.specs.List.{list_any};
 ghost use Rattle.csv.specs.Reading.{error_kind};
 ghost use Rattle.csv.specs.Records.{field_at, fields_of, text_of};
-ghost use Rattle.tcc_rows.specs.Ahead.{IsFailure};
-ghost use Rattle.tcc_rows.specs.Answers.{records_within};
-ghost use Rattle.tcc_rows.specs.ByteLimit.{past_limit};
-ghost use Rattle.tcc_rows.specs.Lines.{Record, is_cut};
+ghost use Rattle.tcc_rows.specs.{Ahead.IsFailure, Answers.records_within, ByteLimit.past_limit, Lines.Record, Lines.is_cut, private.Words.failure_of, RecordsLeft.HasLeft, RecordsLeft.record_of};
 ghost use Rattle.tcc_rows.specs.Reached.{HasGivenUp, StandsIn, row_in};
-ghost use Rattle.tcc_rows.specs.private.Words.{failure_of};
-ghost use Rattle.tcc_rows.specs.RecordsLeft.{HasLeft, record_of};
 ghost use Rattle.tcc_rows.specs.private.Stages.{TakesRecord, Counts, ReadsIn};
 ghost use Rattle.tcc_rows.specs.declared.rows.records.RecordsStage.TheVariants as records_stage;
 
