@@ -4,7 +4,6 @@ use Rattle.std.proofs.Common.{arith, length-append}
 use Rattle.std.specs.Prelude.{All, zip, ◌==◌}
 use Rattle.std.proofs.lemmas.Bool.{cases_lt, ne_eqb}
 use Rattle.std.proofs.lemmas.List.{get_or_read, get_or_push, get_or_append_left, get_or-map, length-map}
-use Rattle.std.proofs.lemmas.List.Elements.{All-map}
 use Rattle.std.proofs.lemmas.Slice.Zip.{seconds-zip}
 use Rattle.tcc_reads.specs.History.{History, count, entry_at}
 use Rattle.tcc_graph.specs.KeyIndices.{name_of}
@@ -12,7 +11,6 @@ use Rattle.tcc_graph.specs.Keys.{has_name, keys, key_at, IsWriter}
 use Rattle.tcc_graph.specs.Relations.{reads_from, IsReadsPair}
 use Rattle.tcc_graph.specs.Readings.{AreReadingsByIndex}
 use Rattle.tcc_graph.specs.private.Grouped.{of_group}
-use Rattle.tcc_graph.specs.private.ReadTables.{named}
 use Rattle.tcc_graph.specs.private.Graphs.{Named, named_of, IsNamed, AreNamed}
 use Rattle.tcc_graph.proofs.GroupedLemmas.{map-zip, zip-map}
 use Rattle.tcc_graph.proofs.NameLemmas.{has_name-contains, contains-has_name}
@@ -30,16 +28,15 @@ of_group-named names (p ∷ ps) b = go (p.0 == b) refl (of_group-named names ps 
     go false e rest = rw e rest
 
 -- by its tables of indices
-module _ (h : History) (n : ℕ) (p : Named) (row : List (ℕ × ℕ)) (reads : List (ℕ × ℕ)) where
-  pub is_named : p.writes ≡ (entry_at h n).writes → p.reads ≡ named (keys h) reads → named (keys h) reads ≡ (entry_at h n).reads
-      → All (λ read. (read.0 < length (keys h)) × (read.1 < count h)) reads
+module _ (h : History) (n : ℕ) (p : Named) (row : List (ℕ × ℕ)) where
+  pub is_named : p.writes ≡ (entry_at h n).writes → p.reads ≡ (entry_at h n).reads → All (λ read. read.1 < count h) p.reads
       → p.readings ≡ zip (map (λ q. q.0) row) (map (key_at h) (map (λ q. q.1) row))
       → AreReadingsByIndex h n (map (λ q. q.0) row) (map (λ q. q.1) row)
       → ((b : ℕ) → b < count h → map (key_at h) (of_group row b) ≡ reads_from h n b) → IsNamed h n p
-  is_named written read is within readings are from = record {
+  is_named written read sources readings are from = record {
     writes = written;
-    reads = read ∙ is;
-    sources = rw read (All-map (λ r. r.1 < count h) (λ r. (name_of (keys h) r.0, r.1)) reads (λ k d l. (within k d l).1));
+    reads = read;
+    sources = sources;
     from = λ b below. rw readings
         (ap (λ ps. of_group ps b) (zip-named (keys h) readers indices ∙ ap (map (with_name (keys h))) (zip-map row)) ∙ of_group-named (keys h) row b ∙ from b below);
     readings = rw (readings, map-zip readers names long, seconds-zip readers names long) (named_readings h n readers indices are);

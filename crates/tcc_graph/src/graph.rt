@@ -98,7 +98,7 @@ impl Graph {
         requires to { b < count self.now }
         ensures { result.now ≡ reads_from self.now a b }
     {
-        self.names[a as usize].readings().get(b)
+        self.names[a as usize].readings.get(b)
     }
 
     /// The keys that a transaction reads, each with the transaction that it reads it from.
@@ -107,7 +107,7 @@ impl Graph {
         ensures value { result.now ≡ (entry_at self.now c).reads }
         ensures sources { All (λ read. read.1 < count self.now) result.now }
     {
-        self.names[c as usize].reads()
+        &self.names[c as usize].reads
     }
 
     /// The keys that a transaction writes visibly; none for `init`, which writes every key.
@@ -115,7 +115,7 @@ impl Graph {
         requires { b < count self.now }
         ensures { result.now ≡ (entry_at self.now b).writes }
     {
-        self.names[b as usize].writes()
+        &self.names[b as usize].writes
     }
 
     /// Who reads from `a`, by ascending number, and beside each a key that it reads there: of one reader in byte order,
@@ -124,7 +124,7 @@ impl Graph {
         requires { a < count self.now }
         ensures { AreReadings self.now a result.0.now result.1.now }
     {
-        let readings = self.names[a as usize].readings();
+        let readings = &self.names[a as usize].readings;
         (readings.groups(), readings.values())
     }
 }

@@ -1,7 +1,7 @@
 //! What transactions write and read, by the names of the keys: what the calls of a small graph lend.
 ghost use Rattle.std.specs.Prelude.{◌≡◌, ◌<◌, length, map, All, IfOk};
-ghost use Rattle.tcc_reads.specs.History.{count};
-ghost use Rattle.tcc_graph.specs.{KeyIndices.name_of, private.ReadTables.named, private.Graphs.IsNamed, private.Graphs.AreNamed};
+ghost use Rattle.tcc_reads.specs.History.{count, entry_at};
+ghost use Rattle.tcc_graph.specs.{KeyIndices.name_of, private.Graphs.IsNamed, private.Graphs.AreNamed};
 
 use crate::LargeGraph;
 use crate::grouped::Grouped;
@@ -12,9 +12,12 @@ use tcc_txn::{Name, NoMemory};
 /// What a transaction writes and reads, and what is read from it.
 #[derive(Drop)]
 pub(crate) struct Named {
-    writes: Vec<Name>,
-    reads: Vec<(Name, u32)>,
-    readings: Grouped<Name>,
+    /// The keys that it writes visibly.
+    pub writes: Vec<Name>,
+    /// Key and source of its external reads.
+    pub reads: Vec<(Name, u32)>,
+    /// The keys that are read from it, each in the group of its reader.
+    pub readings: Grouped<Name>,
 }
 
 impl Model for Named {
@@ -37,15 +40,14 @@ fn names_at(alloc: Global, keys: &[Name], key_indices: &[u32]) -> Result<Vec<Nam
     Ok(names)
 }
 
-/// The keys at the indices that are read, each with its source.
-fn reads_by_name(
-    alloc: Global,
-    keys: &[Name],
-    reads: &[(u32, u32)],
-) -> Result<Vec<(Name, u32)>, NoMemory>
-    requires { All (λ read. read.0 < length keys.now) reads.now }
-    ensures { IfOk result (λ names. names.items ≡ named keys.now reads.now) }
+/// The keys that the transaction of a number reads, each with its source.
+fn reads_by_name(alloc: Global, graph: &LargeGraph, n: u32) -> Result<Vec<(Name, u32)>, NoMemory>
+    requires { n < count graph.now }
+    ensures value { IfOk result (λ names. names.items ≡ (entry_at graph.now n).reads) }
+    ensures sources { IfOk result (λ names. All (λ read. read.1 < count graph.now) names.items) }
 {
+    let keys = graph.keys();
+    let reads = graph.reads_at(n);
     let mut names = Vec::with_capacity(alloc, reads.len())?;
     for (key_index, source) in reads {
         names.push((keys[*key_index as usize], *source))?;
@@ -64,30 +66,9 @@ impl Named {
         let keys_read = names_at(alloc, keys, readings.values())?;
         Ok(Named {
             writes: names_at(alloc, keys, graph.writes_at(n))?,
-            reads: reads_by_name(alloc, keys, graph.reads_at(n))?,
+            reads: reads_by_name(alloc, graph, n)?,
             readings: readings.with_values(alloc, keys_read)?,
         })
-    }
-
-    /// The keys that it writes visibly.
-    pub(crate) fn writes(&self) -> &[Name]
-        ensures { result.now ≡ self.now.writes }
-    {
-        &self.writes
-    }
-
-    /// Key and source of its external reads.
-    pub(crate) fn reads(&self) -> &[(Name, u32)]
-        ensures { result.now ≡ self.now.reads }
-    {
-        &self.reads
-    }
-
-    /// The keys that are read from it, each in the group of its reader.
-    pub(crate) fn readings(&self) -> &Grouped<Name>
-        ensures { result.now ≡ self.now.readings }
-    {
-        &self.readings
     }
 }
 

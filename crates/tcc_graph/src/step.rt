@@ -14,35 +14,36 @@ impl Step {
     ghost use Rattle.std.specs.Prelude.{◌≡◌, ◌↔◌, IsTrue};
     ghost use Rattle.tcc_graph.specs.Walks.{IsStepBelow, step_from, step_to};
 
+    /// Where it starts, and where it ends.
+    fn ends(&self) -> (u32, u32)
+        ensures from { result.0 ≡ step_from self.now }
+        ensures to { result.1 ≡ step_to self.now }
+    {
+        match self {
+            Step::Session { from, to } | Step::Reads { from, to, .. } => (*from, *to),
+        }
+    }
+
     /// Where it starts.
     pub fn from(&self) -> u32
         ensures { result ≡ step_from self.now }
     {
-        match self {
-            Step::Session { from, .. } => *from,
-            Step::Reads { from, .. } => *from,
-        }
+        self.ends().0
     }
 
     /// Where it ends.
     pub fn to(&self) -> u32
         ensures { result ≡ step_to self.now }
     {
-        match self {
-            Step::Session { to, .. } => *to,
-            Step::Reads { to, .. } => *to,
-        }
+        self.ends().1
     }
 
     /// Whether both ends are numbers below the count.
     pub fn is_below(&self, count: u32) -> bool
         ensures { IsTrue result ↔ IsStepBelow count self.now }
     {
-        match self {
-            Step::Session { from, to } | Step::Reads { from, to, .. } => {
-                *from < count && *to < count
-            }
-        }
+        let (from, to) = self.ends();
+        from < count && to < count
     }
 }
 

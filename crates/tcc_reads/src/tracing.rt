@@ -60,28 +60,6 @@ fn rewrites(alloc: Global, faults: &[ReadFault]) -> Result<BTreeSet<(Name, u64)>
     Ok(found)
 }
 
-/// Adds a transaction of these operations with the reads that can be traced, if it was committed. What `own` held is forgotten.
-fn trace_one(
-    alloc: Global,
-    first: &FirstWrites,
-    rewrites: &BTreeSet<(Name, u64)>,
-    standing: &Standing<'_>,
-    ops: &[Op],
-    own: &mut BTreeMap<Name, u64>,
-    transactions: &mut Vec<Transaction>,
-) -> Result<(), AllocError>
-    requires ops { ops.now ≡ standing.now.stand.txn.ops }
-    requires few { length ops.now ≤ MAX_OPERATIONS }
-    ensures { OnOk result (transactions.new.items ≡ transactions.old.items
-        ++ entries_traced (writers_in first.now.writers) (is_outside rewrites.now) (standing.now ∷ [])) }
-{
-    if standing.txn.committed() {
-        let reads = trace(alloc, &first.writers, rewrites, standing, ops, own)?;
-        transactions.push(transaction(alloc, standing, ops, reads)?)?;
-    }
-    Ok(())
-}
-
 /// The initial and the committed transactions, with the reads that can be traced.
 fn trace_all<B: Bounds>(
     alloc: Global,
@@ -100,43 +78,34 @@ fn trace_all<B: Bounds>(
     transactions.push(initial_transaction(alloc))?;
     for place in places {
         let standing = visit(snapshot, place, &mut ops)?;
-        trace_one(
-            alloc,
-            first,
-            rewrites,
-            &standing,
-            &ops,
-            &mut own,
-            &mut transactions,
-        )?;
+        if standing.txn.committed() {
+            let reads = trace(alloc, &first.writers, rewrites, &standing, &ops, &mut own)?;
+            transactions.push(transaction(alloc, &standing, &ops, reads)?)?;
+        }
     }
     Ok(transactions)
 }
 
-/// These transactions, of which only the reads that can be traced are kept.
+/// Leaves of what was found only the reads that can be traced, and all faults.
 fn keep_traced<B: Bounds>(
     alloc: Global,
     first: &FirstWrites,
     snapshot: &SnapshotWithin<B>,
     places: &[Place],
-    found: Findings,
-) -> Result<(Vec<Transaction>, Vec<ReadFault>), NoMemory>
+    found: &mut Findings,
+) -> Result<(), NoMemory>
     requires places { All (IsPlace snapshot.now) places.now }
-    requires found { found.transactions.items ≡ initial ∷ entries_found (writers_in first.now.writers) (numbered snapshot.now places.now) }
-    ensures transactions { IfOk result (λ traced. traced.0.items
-        ≡ initial ∷ entries_traced (writers_in first.now.writers) (is_unique found.faults.items) (numbered snapshot.now places.now)) }
-    ensures faults { IfOk result (λ traced. traced.1.items ≡ found.faults.items) }
+    requires found { found.old.transactions.items ≡ initial ∷ entries_found (writers_in first.now.writers) (numbered snapshot.now places.now) }
+    ensures transactions { OnOk result (found.new.transactions.items
+        ≡ initial ∷ entries_traced (writers_in first.now.writers) (is_unique found.old.faults.items) (numbered snapshot.now places.now)) }
+    ensures faults { found.new.faults.items ≡ found.old.faults.items }
 {
-    let Findings {
-        transactions,
-        faults,
-    } = found;
-    let rewrites = rewrites(alloc, &faults)?;
+    let rewrites = rewrites(alloc, &found.faults)?;
     if rewrites.is_empty() {
-        return Ok((transactions, faults));
+        return Ok(());
     }
-    let transactions = trace_all(alloc, first, &rewrites, snapshot, places)?;
-    Ok((transactions, faults))
+    found.transactions = trace_all(alloc, first, &rewrites, snapshot, places)?;
+    Ok(())
 }
 
 /// Finds the source of each external read of a snapshot's committed transactions that can be traced, and all faults.
@@ -150,13 +119,16 @@ pub fn resolve_traced<B: Bounds>(
     let sessions = session_names(alloc, snapshot)?;
     let stands = numbering::places(alloc, snapshot)?;
     let first = first_writes(alloc, snapshot, &stands)?;
-    let found = examine(alloc, &first, snapshot, &stands)?;
-    let (transactions, faults) = keep_traced(alloc, &first, snapshot, &stands, found)?;
-    let places = places(alloc, &transactions)?;
+    let mut found = examine(alloc, &first, snapshot, &stands)?;
+    keep_traced(alloc, &first, snapshot, &stands, &mut found)?;
+    let places = places(alloc, &found.transactions)?;
     let history = LargeResolved {
         sessions,
         places,
-        transactions,
+        transactions: found.transactions,
     };
-    Ok(Traced { history, faults })
+    Ok(Traced {
+        history,
+        faults: found.faults,
+    })
 }

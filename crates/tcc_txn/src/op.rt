@@ -19,8 +19,7 @@ impl Op {
         ensures { result ≡ op_key self.now }
     {
         match self {
-            Op::Get { key, .. } => *key,
-            Op::Put { key, .. } => *key,
+            Op::Get { key, .. } | Op::Put { key, .. } => *key,
         }
     }
 
@@ -29,8 +28,7 @@ impl Op {
         ensures { result ≡ op_value self.now }
     {
         match self {
-            Op::Get { value, .. } => *value,
-            Op::Put { value, .. } => *value,
+            Op::Get { value, .. } | Op::Put { value, .. } => *value,
         }
     }
 }

@@ -9,26 +9,26 @@ use Rattle.tcc_reads.specs.private.Verdicts.{writers_in}
 use Rattle.tcc_reads.proofs.Findings.{AreFindings, findings, traced_of_findings, stored_traced}
 use Rattle.tcc_reads.proofs.Limits.{sessions_large, transactions_large}
 use Rattle.tcc_reads.proofs.tracing.resolve_traced.Given.{Over}
-use Rattle.tcc_reads.proofs.tracing.resolve_traced.Goals.{In_ok-transactions}
+use Rattle.tcc_reads.proofs.tracing.resolve_traced.Goals.{In_ok-keep_traced}
 use Rattle.tcc_reads.proofs.tracing.resolve_traced.Goals as goal
 
-found : (g : Over) (c : In_ok-transactions g) → AreFindings (entries c.args.snapshot.now) c.in_ok-sessions.sessions.items
+found : (g : Over) (c : In_ok-keep_traced g) → AreFindings (entries c.args.snapshot.now) c.in_ok-sessions.sessions.items
     (writers_in c.in_ok-first.first.writers) c.in_ok-found.found.transactions.items c.in_ok-found.found.faults.items
 found g c =
     findings (entries c.args.snapshot.now) _ (writers_in c.in_ok-first.first.writers) _ _ _ _ _
     c.in_ok-sessions.ensures c.in_ok-stands.ensures.list
     (ap (numbered c.args.snapshot.now) c.deref.ensures.value) c.in_ok-first.ensures.first (ap (numbered c.args.snapshot.now) c.deref-2.ensures.value) c.in_ok-found.ensures.transactions c.in_ok-found.ensures.faults
 
-traced : (g : Over) (c : In_ok-transactions g) → c.in_ok-transactions.transactions.items
+traced : (g : Over) (c : In_ok-keep_traced g) → c.keep_traced.new.found.transactions.items
     ≡ initial ∷ entries_traced (writers_in c.in_ok-first.first.writers) (is_unique c.in_ok-found.found.faults.items) (numbered_from 1 (stands_from 0 (entries c.args.snapshot.now)))
 traced g c =
-    c.in_ok-transactions.ensures.transactions
+    c.in_ok-keep_traced.ensures.transactions
     ∙ ap (λ (ns : List Numbered). initial ∷ entries_traced (writers_in c.in_ok-first.first.writers) (is_unique c.in_ok-found.found.faults.items) ns)
     (ap (numbered c.args.snapshot.now) c.deref-3.ensures.value ∙ c.in_ok-stands.ensures.list)
 
 pub invariant_of-history : goal.invariant_of-history
 invariant_of-history g c =
-    let at = (goal.at.invariant_of-history g c).In_ok-transactions in
+    let at = (goal.at.invariant_of-history g c).In_ok-keep_traced in
     stored_traced (entries c.args.snapshot.now) _ _ _ _ (found g at) _ (traced g at) c.in_ok-places.places.items
     (rw c.deref-4.ensures.value at c.in_ok-places.ensures)
     (omega (arith, c.in_ok-stands.ensures.few_sessions, sessions_large g.B.Bounds.limits))
@@ -36,10 +36,10 @@ invariant_of-history g c =
 
 pub returns-clause-history : goal.returns-clause-history
 returns-clause-history g c =
-    let at = (goal.at.returns-clause-history g c).In_ok-transactions in
+    let at = (goal.at.returns-clause-history g c).In_ok-keep_traced in
     (traced_of_findings (entries c.args.snapshot.now) _ _ _ _ (found g at) _ (traced g at) c.args.snapshot.now refl).0
 
 pub returns-clause-faults : goal.returns-clause-faults
 returns-clause-faults g c =
-    let at = (goal.at.returns-clause-faults g c).In_ok-transactions in
-    c.in_ok-transactions.ensures.faults ∙ (traced_of_findings (entries c.args.snapshot.now) _ _ _ _ (found g at) _ (traced g at) c.args.snapshot.now refl).1
+    let at = (goal.at.returns-clause-faults g c).In_ok-keep_traced in
+    c.keep_traced.ensures.faults ∙ (traced_of_findings (entries c.args.snapshot.now) _ _ _ _ (found g at) _ (traced g at) c.args.snapshot.now refl).1
