@@ -1,9 +1,9 @@
 -- The readings of each transaction, key by key: how they come together, and what has to stand before it by those of one key.
 use Rattle.std.proofs.Common.{◌≡◌, ◌≢◌, ◌<◌, ◌≤◌, ◌+◌, ◌-◌, ◌↔◌, ◌⊎◌, inl, inr, ℕ, List, [], ◌∷◌, ◌++◌, length, get_or, set, slice_index, refl, sym, ap, subst, ◌∙◌, arith}
 use Rattle.std.specs.Prelude.{max, zip}
-use Rattle.std.specs.List.{All, Contains}
+use Rattle.std.specs.List.{Contains}
 use Rattle.std.proofs.lemmas.Bool.{cases_lt, cases_eq}
-use Rattle.std.proofs.lemmas.List.{get_or_default, get_or_past, get_or-set_same, get_or-set_other, length-set}
+use Rattle.std.proofs.lemmas.List.{get_or_default, get_or-set_same, get_or-set_other, length-set}
 use Rattle.std.proofs.lemmas.List.Elements.{All-weaker, All-contains, All-contains_itself, Contains-append_left, Contains-push, Contains-push_cases}
 use Rattle.tcc_reads.specs.History.{History, IsBySession, count, owner}
 use Rattle.tcc_graph.specs.Relations.{IsReadsPair}
@@ -13,14 +13,15 @@ use Rattle.tcc_graph.specs.Walks.{IsReached}
 use Rattle.tcc_graph.specs.Tables.{row_of}
 use Rattle.tcc_graph.proofs.Walking.{pair_walk, reached_append}
 use Rattle.tcc_graph.proofs.WriterLemmas.{writers_below}
-use Rattle.tcc_bits.proofs.Lists.{nothing_in, zip_at, zip_has, zip-long}
+use Rattle.tcc_bits.proofs.Lists.{zip_at, zip_has, zip-long}
 use Rattle.tcc_clocks.specs.Clocks.{IsOneOf, IsBefore, AreOwners, AreLatestOf, AreClocks}
 use Rattle.tcc_clocks.specs.declared.latest.TheConstants.{WIDE}
-use Rattle.tcc_order.specs.private.CausalLinks.{IsLatestPast, AreLatestPast, IsOverwritten, IsLiftable, IsLifted, IsClock, IsCovered, AreEnough, Overwrites, TellsNothing}
+use Rattle.tcc_order.specs.private.CausalLinks.{IsLatestPast, AreLatestPast, IsOverwritten, IsLiftable, IsLifted, IsClock, IsCovered, AreEnough, Overwrites, TellsNothing, HasNone}
 use Rattle.tcc_order.specs.private.ByKey.{AreReadingsFrom, AreReadingRows, IsBeside, AddsReadings, IsTop, AreAlike, IsLikeBefore, reader_in, key_index_in}
 use Rattle.tcc_order.proofs.Readings.{key_place}
 use Rattle.tcc_clocks.proofs.EntryLemmas.{clock_reaches}
 use Rattle.tcc_clocks.proofs.Reaching.{same_session}
+use Rattle.tcc_order.proofs.EmptyRows.{nothing_kept}
 use Rattle.tcc_order.proofs.Needing.{IsUpTo, passed_enough}
 
 -- ---- how they come together
@@ -127,18 +128,9 @@ module _ (h : History) (end : ℕ) (sources readers : List ℕ) (of : AreReading
           go (inl same) = (adds.each a c p).1 (inr (same, placed a c (subst (λ (z : ℕ). IsReadsPair h a c (key_at h z)) same w.1)))
           go (inr other) = (adds.each a c p).1 (inl ((are.each a c p).1 (omega (arith, w.0, other), w.1)))
 
-pub no_keys : (h : History) (rows : List (List (ℕ × ℕ))) → length rows ≡ count h → All (λ row. row ≡ []) rows → AreOfKeys h 0 rows
-no_keys h rows long none = record { long = long; each = λ a c p. ((λ is. absurd (nothing a c p is)), (λ w. absurd (omega (arith, w.0)))) }
-  where
-    empty : (a : ℕ) → row_of rows a ≡ []
-    empty a = go (cases_lt a (length rows))
-      where
-        go : (a < length rows) ⊎ (length rows ≤ a) → row_of rows a ≡ []
-        go (inl less) = none a [] less
-        go (inr more) = get_or_past rows a [] more
-
-    nothing : (a c p : ℕ) → Contains (row_of rows a) (c, p) → ⊥
-    nothing a c p is = nothing_in (c, p) (rw (empty a) at is)
+pub no_keys : (h : History) (rows : List (List (ℕ × ℕ))) → length rows ≡ count h → HasNone rows → AreOfKeys h 0 rows
+no_keys h rows long none =
+    record { long = long; each = λ a c p. ((λ is. absurd (nothing_kept rows none a (c, p) is)), (λ w. absurd (omega (arith, w.0)))) }
 
 pub all_keys : (h : History) (end : ℕ) (rows : List (List (ℕ × ℕ))) → length (keys h) ≡ end → AreOfKeys h end rows → AreReadingRows h rows
 all_keys h end rows whole are = record {

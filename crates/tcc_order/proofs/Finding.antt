@@ -1,11 +1,9 @@
 -- An order by what holds each transaction back is a commit order, the first is the first, and a circle is a cycle.
-use Rattle.std.proofs.Common.{◌≡◌, ◌≢◌, ◌<◌, ◌≤◌, ◌*◌, ℕ, zero, suc, Bool, true, ◌⊎◌, inl, inr, List, [], ◌∷◌, ◌++◌, length, length-append, sym, subst, arith}
+use Rattle.std.proofs.Common.{◌≡◌, ◌≢◌, ◌<◌, ◌≤◌, ◌*◌, ℕ, zero, suc, Bool, true, ◌⊎◌, inl, inr, List, [], ◌∷◌, length, sym, subst, arith}
 use Rattle.std.specs.Int.{div_ceil}
 use Rattle.tcc_clocks.specs.declared.latest.TheConstants.{WIDE}
 use Rattle.std.specs.List.{Contains}
-use Rattle.std.proofs.lemmas.Bool.{cases_eq, cases_lt}
-use Rattle.std.proofs.lemmas.List.{get_or_append_left, get_or_at, get_or_past}
-use Rattle.tcc_bits.proofs.Lists.{nothing_in}
+use Rattle.std.proofs.lemmas.Bool.{cases_eq}
 use Rattle.std.proofs.lemmas.List.Elements.{Contains-append_left, Contains-append_right, Contains-append_cases}
 use Rattle.tcc_reads.specs.History.{History, IsBySession, count}
 use Rattle.tcc_graph.specs.Relations.{IsSessionPair}
@@ -25,6 +23,7 @@ use Rattle.tcc_order.specs.private.Held.{holds}
 use Rattle.tcc_order.specs.private.CausalLinks.{IsCovered, IsKeptUpTo, AreDerived, AreEnough, AreLinks, Derives, Overwrites, HasNone}
 use Rattle.tcc_clocks.specs.Clocks.{LeadsOnward}
 use Rattle.tcc_order.specs.private.Numbering.{IsOrderOf, IsFirstOf, Joins, HasCircle}
+use Rattle.tcc_order.proofs.EmptyRows.{nothing_kept}
 use Rattle.tcc_order.proofs.Fronts.{holds_there, holds_parts}
 use Rattle.tcc_order.proofs.Kept.{IsLinked, has_link, linked_before}
 use Rattle.tcc_order.proofs.Links.{linked_by}
@@ -150,7 +149,7 @@ module _ (j : Judged) (numbered : IsBySession j.history.entries) (kept : List (L
 
 -- ---- where nothing is kept
 pub none_derived : (Means : ℕ → ℕ → Type 0) (kept : List (List ℕ)) → HasNone kept → AreDerived Means kept
-none_derived Means kept none a b there = absurd (none a b there)
+none_derived Means kept none a b there = absurd (nothing_kept kept none a b there)
 
 -- ---- at `Causal`
 pub causal_links : (h : History) (kept : List (List ℕ)) → length kept ≡ count h → AreDerived (Overwrites h) kept
@@ -166,20 +165,6 @@ causal_links h kept long derived enough = record {
 
     from : (a b : ℕ) → Derives (causally h) a b → Overwrites h a b
     from a b (small, below, (c, x, pair, writer, apart, way)) = (small, below, (c, x, pair, writer, apart, (way.0, way.1.0)))
-
-pub none_nothing : HasNone []
-none_nothing x b (k, l, e) = omega arith
-
-pub none_more : (kept : List (List ℕ)) → HasNone kept → HasNone (kept ++ [] ∷ [])
-none_more kept none x b there = go (cases_lt x (length kept))
-  where
-    go : (x < length kept) ⊎ (length kept ≤ x) → ⊥
-    go (inl low) = none x b (rw (get_or_append_left kept ([] ∷ []) [] x low) at there)
-    go (inr high) = by (cases_eq x (length kept))
-      where
-        by : (x ≡ length kept) ⊎ (x ≢ length kept) → ⊥
-        by (inl same) = let here : length kept ≡ x = sym same in nothing_in b (rw (get_or_at kept [] [] [] x here) at there)
-        by (inr other) = nothing_in b (rw (get_or_past (kept ++ [] ∷ []) x [] (omega (arith, length-append kept ([] ∷ []), high, other))) at there)
 
 -- so many blocks have room for all sessions
 pub blocks_cover : (sessions blocks : ℕ) → div_ceil sessions 64 ≤ blocks → sessions ≤ blocks * WIDE

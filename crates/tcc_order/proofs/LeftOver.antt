@@ -1,5 +1,5 @@
 -- Where no transaction can be placed next: what is left, and the cycle that there is then.
-use Rattle.std.proofs.Common.{◌≡◌, ◌<◌, ◌∙◌, ◌⊎◌, inl, inr, ℕ, Bool, true, false, List, [], ◌∷◌, length, sym}
+use Rattle.std.proofs.Common.{◌≡◌, ◌<◌, ◌∙◌, ◌⊎◌, inl, inr, ℕ, Bool, true, false, List, [], ◌∷◌, length, sym, arith}
 use Rattle.std.specs.List.{Contains}
 use Rattle.std.proofs.lemmas.List.Elements.{Contains-append_left, Contains-append_right, Contains-append_cases}
 use Rattle.tcc_reads.specs.History.{History, IsBySession, count}
@@ -9,7 +9,6 @@ use Rattle.tcc_graph.specs.Routes.{HasCycle}
 use Rattle.tcc_graph.specs.Tables.{row_of}
 use Rattle.tcc_graph.specs.Walks.{IsReached}
 use Rattle.tcc_bits.specs.Bits.{is_marked}
-use Rattle.tcc_bits.proofs.Lists.{nothing_in}
 use Rattle.tcc_graph.proofs.Walking.{pair_walk, reached_append}
 use Rattle.tcc_graph.proofs.WriterLemmas.{writer_writes, writer_in, read_is_key}
 use Rattle.tcc_clocks.specs.Parents.{parents, previous_one, sources}
@@ -20,6 +19,7 @@ use Rattle.tcc_order.specs.private.CausalLinks.{AreDerived, Derives, HasNone}
 use Rattle.tcc_order.specs.private.Numbering.{Joins, HasCircle}
 use Rattle.tcc_order.specs.private.Placed.{IsLeftOut, IsStuckBy}
 use Rattle.tcc_order.proofs.Circle.{HasBefore, prior_of, some_left, left_circle}
+use Rattle.tcc_order.proofs.EmptyRows.{nothing_kept}
 use Rattle.tcc_order.proofs.Finding.{circle_cycle}
 use Rattle.tcc_order.proofs.Fronts.{Says, holds_there, holds_parts, placed_free}
 use Rattle.tcc_order.proofs.Greedy.{IsBelow}
@@ -78,7 +78,7 @@ module _ (h : History) (numbered : IsBySession h.entries) (kept : List (List ℕ
 
       go : b < count h → x < count h → Contains (parents h x) b ⊎ Contains (row_of kept x) b → IsCausalPair h b x
       go from to (inl one) = parent from to (Contains-append_cases (previous_one h x) (sources h x) b one)
-      go from to (inr one) = absurd (none x b one)
+      go from to (inr one) = absurd (nothing_kept kept none x b one)
 
   one_step : (b x : ℕ) → holds h kept b x ≡ true → IsReached h b x
   one_step b x p = let w = pair_walk h b x (holds_pair b x p) in (w.0, w.1)
@@ -100,7 +100,7 @@ pairs_left h kept none placed is = record { some = (is.some.0, is.some.1.0, is.s
   where
     parent : (b x : ℕ) → Contains (parents h x) b ⊎ Contains (row_of kept x) b → Contains (parents h x) b
     parent b x (inl one) = one
-    parent b x (inr one) = absurd (none x b one)
+    parent b x (inr one) = absurd (nothing_kept kept none x b one)
 
     held : (x : ℕ) → (b : ℕ) × IsLeftOut (count h) placed b × (holds h kept b x ≡ true)
         → (b : ℕ) × (b < count h) × (is_marked placed b ≡ false) × Contains (parents h x) b
@@ -113,8 +113,8 @@ pairs_circle h numbered placed is = stuck_pairs h numbered [] nothing placed rec
   held = λ x left. held x left.0 (is.held x left.0 left.1);
 }
   where
-    nothing : HasNone []
-    nothing x b there = nothing_in b there
+    nothing : HasNone {T = ℕ} []
+    nothing x d l = absurd (omega arith)
 
     held : (x : ℕ) → x < count h → (b : ℕ) × (b < count h) × (is_marked placed b ≡ false) × Contains (parents h x) b
         → (b : ℕ) × IsLeftOut (count h) placed b × (holds h [] b x ≡ true)

@@ -8,6 +8,7 @@ pub mod OrderOrCycle
 pub mod QueuedLemmas
 pub mod Fronts
 pub mod Links
+pub mod EmptyRows
 pub mod LastLemmas
 mod Worked
 mod WorkedClocks

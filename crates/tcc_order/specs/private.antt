@@ -2,6 +2,7 @@
 pub mod Numbering
 pub mod Lasts
 pub mod Held
+pub mod Precedences
 pub mod Placed
 pub mod Queued
 pub mod CausalLinks

@@ -12,6 +12,7 @@ ghost use Rattle.tcc_order.specs.private.CausalLinks.{IsLifted, AreLinks, AreOrd
 ghost use Rattle.tcc_order.specs.private.AtomicLinks.{IsOther, IsReader, HaveParents, KeepsRead, KeepsInto};
 
 use crate::causal_links::{before_in_session, last_up_to, lift_session};
+use crate::rows::MadeRows;
 use std::alloc::{AllocError, Global};
 use tcc_bits::Row;
 use tcc_clocks::{find_parents, owners};
@@ -152,11 +153,7 @@ fn once(alloc: Global, places: &mut [usize], numbers: &[u32]) -> Result<Row<u32>
 }
 
 /// The transactions right before each one, each once.
-fn parents_of_each(
-    alloc: Global,
-    graph: &LargeGraph,
-    parents: &[u32],
-) -> Result<Vec<Row<u32>>, NoMemory>
+fn parents_of_each(alloc: Global, graph: &LargeGraph, parents: &[u32]) -> MadeRows<u32>
     requires numbered { IsBySession graph.now.entries }
     requires parents { ArePrevious graph.now parents.now }
     ensures { IfOk result (λ rows. HaveParents graph.now (count graph.now) rows.items) }
@@ -208,11 +205,7 @@ fn links_into(
 }
 
 /// The links at `Atomic` that are kept.
-pub(crate) fn atomic_links(
-    alloc: Global,
-    graph: &LargeGraph,
-    parents: &[u32],
-) -> Result<Vec<Row<u32>>, NoMemory>
+pub(crate) fn atomic_links(alloc: Global, graph: &LargeGraph, parents: &[u32]) -> MadeRows<u32>
     requires numbered { IsBySession graph.now.entries }
     requires parents { ArePrevious graph.now parents.now }
     ensures { IfOk result (λ kept. AreLinks (atomically graph.now) kept.items) }

@@ -7,12 +7,13 @@ ghost use Rattle.tcc_reads.specs.History.{IsBySession, count, owner};
 ghost use Rattle.tcc_graph.specs.{Relations.IsReadsPair, Levels.causally, Tables.row_of, Orders.IsNumbering};
 ghost use Rattle.tcc_clocks.specs.{Parents.ArePrevious, declared.latest.TheConstants.WIDE};
 ghost use Rattle.tcc_clocks.specs.Clocks.{AreOwners, AreClocks, LeadsOnward};
-ghost use Rattle.tcc_order.specs.private.CausalLinks.{IsOverwritten, IsLifted, AreDerived, AreEnough, AreLinks, Overwrites, HasNone, lifted_by, AreOrdered, AreSpansOf, CanLift, IsLastUpTo, IsLastBut, AreLatestPast, TellsNothing, KeepsNews, IsBegun};
+ghost use Rattle.tcc_order.specs.private.CausalLinks.{IsOverwritten, IsLifted, AreDerived, AreEnough, AreLinks, Overwrites, lifted_by, AreOrdered, AreSpansOf, CanLift, IsLastUpTo, IsLastBut, AreLatestPast, TellsNothing, KeepsNews, IsBegun};
 ghost use Rattle.tcc_order.specs.private.ByKey.{AreReadingsFrom, AreReadingRows, IsTop, AreAlike, IsLikeBefore, key_index_in, reader_in};
 ghost use Rattle.std.specs.List.Sorted.{IsNonDecreasing, IsPartitionPoint};
 ghost use Rattle.std.specs.Prelude.{nat_le, true, false, ◌∷◌, []};
 
 use crate::by_key::readings_by_key;
+use crate::rows::{MadeRows, empty_rows};
 use std::alloc::Global;
 use tcc_bits::Row;
 use tcc_clocks::{
@@ -368,25 +369,13 @@ fn keep_block(
     Ok(())
 }
 
-/// So many rows in which nothing stands.
-pub(crate) fn empty_rows(alloc: Global, count: u32) -> Result<Vec<Row<u32>>, NoMemory>
-    ensures long { IfOk result (λ rows. length rows.items ≡ count) }
-    ensures none { IfOk result (λ rows. HasNone rows.items) }
-{
-    let mut rows = Vec::new(alloc);
-    for _row in 0..count {
-        rows.push(Row::new(Vec::new(alloc)))?;
-    }
-    Ok(rows)
-}
-
 /// The links at `Causal` that are kept, by an order in which causal pairs lead onward.
 pub(crate) fn causal_links(
     alloc: Global,
     graph: &LargeGraph,
     parents: &[u32],
     order: &[u32],
-) -> Result<Vec<Row<u32>>, NoMemory>
+) -> MadeRows<u32>
     requires parents { ArePrevious graph.now parents.now }
     requires numbering { IsNumbering (count graph.now) order.now }
     requires onward { LeadsOnward graph.now order.now }

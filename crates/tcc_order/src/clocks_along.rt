@@ -7,7 +7,7 @@ ghost use Rattle.tcc_graph.specs.{Levels.causally, Orders.IsCommitOrder, Tables.
 ghost use Rattle.tcc_order.specs.private.Lasts.{AreLastsOf, raised};
 ghost use Rattle.tcc_clocks.specs.{Clocks.IsBefore, private.Rows.IsUpTo};
 
-use crate::causal_links::empty_rows;
+use crate::rows::empty_rows;
 use std::alloc::{AllocError, Global};
 use tcc_bits::Row;
 use tcc_clocks::{parents_of, raise_each};

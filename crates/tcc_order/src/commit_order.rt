@@ -8,9 +8,10 @@ ghost use Rattle.tcc_clocks.specs.{Parents.ArePrevious, Clocks.LeadsOnward};
 ghost use Rattle.tcc_order.specs.{Placements.IsPlacement, Placements.IsPairPlacement, private.Found.AreFound};
 
 use crate::atomic_links::atomic_links;
-use crate::causal_links::{causal_links, empty_rows};
+use crate::causal_links::causal_links;
 use crate::kahn::{Placed, first_placing};
 use crate::placement::{PairPlacement, Placement, Stuck};
+use crate::rows::empty_rows;
 use std::alloc::Global;
 use tcc_bits::Row;
 use tcc_clocks::previous_of_each;

@@ -7,13 +7,14 @@ ghost use Rattle.tcc_txn.specs.declared.limits.TheConstants.{LARGE_COUNT};
 ghost use Rattle.tcc_reads.specs.History.{count};
 ghost use Rattle.tcc_graph.specs.Tables.{row_of};
 ghost use Rattle.tcc_bits.specs.Bits.{is_marked, words_for};
-ghost use Rattle.tcc_order.specs.private.Placed.{IsPlaced};
+ghost use Rattle.tcc_order.specs.private.{CausalLinks.HasNone, Placed.IsPlaced};
 ghost use Rattle.tcc_order.specs.private.Held.{holds, AreInside, AreRoots, onward};
+ghost use Rattle.tcc_order.specs.private.Precedences.{IsKnown, precedes};
 ghost use Rattle.tcc_order.specs.private.Queued.{AreQueued, AreSure, IsAny};
 ghost use Rattle.tcc_clocks.specs.Parents.{ArePrevious, sources};
 
-use crate::causal_links::empty_rows;
 use crate::ready::Ready;
+use crate::rows::empty_rows;
 use std::alloc::{AllocError, Global};
 use tcc_bits::{Row, is_marked, mark, words_for};
 use tcc_graph::LargeGraph;
@@ -79,90 +80,78 @@ fn missing_parent(parents: &[u32], placed: &[u64], x: u32) -> Option<u32>
     }
 }
 
-/// Of the sources of a transaction and of the links that are kept into it, behind so many, one that was not placed, and how many
-/// stand before it.
-fn missing_behind(
-    graph: &LargeGraph,
-    kept: &[Row<u32>],
-    placed: &[u64],
-    x: u32,
-    seen: usize,
-) -> Option<(u32, usize)>
-    requires below { x < count graph.now }
-    requires long { length kept.now ≡ count graph.now }
-    requires inside { AreInside graph.now kept.now }
-    ensures { MatchOption result
-        (seen ≡ 0 → (b : ℕ) → Contains (sources graph.now x ++ row_of kept.now x) b → is_marked placed.now b ≡ true)
-        (λ found. (holds graph.now kept.now found.0 x ≡ true) × (is_marked placed.now found.0 ≡ false)) }
-{
-    let reads = graph.reads_at(x);
-    if let Some(index) = missing_source(reads, placed, seen) {
-        return Some((reads[index].1, index));
-    }
-    let row = kept[x as usize].as_slice();
-    let index = missing_of(row, placed, seen.saturating_sub(reads.len()))?;
-    Some((row[index], reads.len().saturating_add(index)))
+/// What each transaction stands behind: its parent, its sources, and the links that are kept into it.
+#[derive(Clone, Copy)]
+struct Precedence<'a> {
+    graph: &'a LargeGraph,
+    /// Of each transaction the one before it in its session.
+    parents: &'a [u32],
+    /// Of each transaction the sources of the links that are kept into it.
+    kept: &'a [Row<u32>],
 }
 
-/// Of what holds a transaction back one that was not placed, and how far it was looked for; first behind so many of its sources
-/// and links.
-fn missing(
-    graph: &LargeGraph,
-    parents: &[u32],
-    kept: &[Row<u32>],
-    placed: &[u64],
-    x: u32,
-    seen: usize,
-) -> Option<(u32, usize)>
-    requires below { x < count graph.now }
-    requires parents { ArePrevious graph.now parents.now }
-    requires long { length kept.now ≡ count graph.now }
-    requires inside { AreInside graph.now kept.now }
-    ensures { MatchOption result
-        ((b : ℕ) → holds graph.now kept.now b x ≡ true → is_marked placed.now b ≡ true)
-        (λ found. (holds graph.now kept.now found.0 x ≡ true) × (is_marked placed.now found.0 ≡ false)) }
-{
-    if let Some(parent) = missing_parent(parents, placed, x) {
-        return Some((parent, seen));
-    }
-    if seen > 0 {
-        if let Some(found) = missing_behind(graph, kept, placed, x, seen) {
-            return Some(found);
+impl Precedence<'_> {
+    /// Of the sources of a transaction and of the links that are kept into it, behind so many, one that was not placed, and how
+    /// many stand before it.
+    fn missing_behind(&self, placed: &[u64], x: u32, seen: usize) -> Option<(u32, usize)>
+        requires known { IsKnown self.now }
+        requires below { x < count self.now.graph.now }
+        ensures { MatchOption result
+            (seen ≡ 0 → (b : ℕ) → Contains (sources self.now.graph.now x ++ row_of self.now.kept.now x) b → is_marked placed.now b ≡ true)
+            (λ found. (precedes self.now found.0 x ≡ true) × (is_marked placed.now found.0 ≡ false)) }
+    {
+        let reads = self.graph.reads_at(x);
+        if let Some(index) = missing_source(reads, placed, seen) {
+            return Some((reads[index].1, index));
         }
+        let row = self.kept[x as usize].as_slice();
+        let index = missing_of(row, placed, seen.saturating_sub(reads.len()))?;
+        Some((row[index], reads.len().saturating_add(index)))
     }
-    missing_behind(graph, kept, placed, x, 0)
-}
 
-/// Looks at each of those that were woken: it is free, or waits from now on for one that holds it back.
-fn look_at_woken(
-    graph: &LargeGraph,
-    parents: &[u32],
-    kept: &[Row<u32>],
-    placed: &[u64],
-    queue: &mut Queue,
-) -> Result<(), NoMemory>
-    requires parents { ArePrevious graph.now parents.now }
-    requires long { length kept.now ≡ count graph.now }
-    requires inside { AreInside graph.now kept.now }
-    requires seen { length queue.old.seen.items ≡ count graph.now }
-    requires queued { AreQueued (holds graph.now kept.now) parents.now placed.now IsAny (queue.old.woken.items ++ queue.old.ready) queue.old.waiting.items }
-    requires sure { AreSure (holds graph.now kept.now) placed.now queue.old.ready }
-    ensures seen { length queue.new.seen.items ≡ count graph.now }
-    ensures none { OnOk result (queue.new.woken.items ≡ []) }
-    ensures queued { OnOk result (AreQueued (holds graph.now kept.now) parents.now placed.now IsAny queue.new.ready queue.new.waiting.items) }
-    ensures sure { OnOk result (AreSure (holds graph.now kept.now) placed.now queue.new.ready) }
-{
-    while let Some(number) = queue.woken.pop() {
-        let seen = queue.seen[number as usize];
-        match missing(graph, parents, kept, placed, number, seen) {
-            Some((other, place)) => {
-                queue.seen[number as usize] = place;
-                queue.waiting[other as usize].push(number)?;
+    /// Of what holds a transaction back one that was not placed, and how far it was looked for; first behind so many of its
+    /// sources and links.
+    fn missing(&self, placed: &[u64], x: u32, seen: usize) -> Option<(u32, usize)>
+        requires known { IsKnown self.now }
+        requires below { x < count self.now.graph.now }
+        ensures { MatchOption result
+            ((b : ℕ) → precedes self.now b x ≡ true → is_marked placed.now b ≡ true)
+            (λ found. (precedes self.now found.0 x ≡ true) × (is_marked placed.now found.0 ≡ false)) }
+    {
+        if let Some(parent) = missing_parent(self.parents, placed, x) {
+            return Some((parent, seen));
+        }
+        if seen > 0 {
+            if let Some(found) = self.missing_behind(placed, x, seen) {
+                return Some(found);
             }
-            None => queue.ready.push(number)?,
         }
+        self.missing_behind(placed, x, 0)
     }
-    Ok(())
+
+    /// Looks at each of those that were woken: it is free, or waits from now on for one that holds it back.
+    fn look_at_woken(&self, placed: &[u64], queue: &mut Queue) -> Result<(), NoMemory>
+        requires known { IsKnown self.now }
+        requires seen { length queue.old.seen.items ≡ count self.now.graph.now }
+        requires queued { AreQueued (precedes self.now) self.now.parents.now placed.now IsAny (queue.old.woken.items ++ queue.old.ready) queue.old.waiting.items }
+        requires sure { AreSure (precedes self.now) placed.now queue.old.ready }
+        ensures seen { length queue.new.seen.items ≡ count self.now.graph.now }
+        ensures none { OnOk result (queue.new.woken.items ≡ []) }
+        ensures queued { OnOk result (AreQueued (precedes self.now) self.now.parents.now placed.now IsAny queue.new.ready queue.new.waiting.items) }
+        ensures sure { OnOk result (AreSure (precedes self.now) placed.now queue.new.ready) }
+    {
+        while let Some(number) = queue.woken.pop() {
+            let seen = queue.seen[number as usize];
+            match self.missing(placed, number, seen) {
+                Some((other, place)) => {
+                    queue.seen[number as usize] = place;
+                    queue.waiting[other as usize].push(number)?;
+                }
+                None => queue.ready.push(number)?,
+            }
+        }
+        Ok(())
+    }
 }
 
 /// Takes out the least of the numbers that are ready and were not placed.
@@ -233,7 +222,7 @@ fn first_queue(alloc: Global, parents: &[u32], count: u32) -> Result<Queue, NoMe
     ensures woken { IfOk result (λ queue. AreRoots parents.now (length parents.now) queue.woken.items) }
     ensures ready { IfOk result (λ queue. (x : ℕ) → Contains queue.ready x → ⊥) }
     ensures long { IfOk result (λ queue. length queue.waiting.items ≡ count) }
-    ensures waiting { IfOk result (λ queue. (b x : ℕ) → Contains (row_of queue.waiting.items b) x → ⊥) }
+    ensures waiting { IfOk result (λ queue. HasNone queue.waiting.items) }
     ensures seen { IfOk result (λ queue. length queue.seen.items ≡ count) }
 {
     let woken = roots(alloc, parents)?;
@@ -264,8 +253,13 @@ pub(crate) fn first_placing(
     let mut placed = vec![in alloc; 0; words_for(count as usize)]?;
     let mut queue = first_queue(alloc, parents, count)?;
     let mut order = Vec::new(alloc);
+    let precedence = Precedence {
+        graph,
+        parents,
+        kept,
+    };
     for _ in 0..count {
-        look_at_woken(graph, parents, kept, &placed, &mut queue)?;
+        precedence.look_at_woken(&placed, &mut queue)?;
         let Some(next) = first_ready(&placed, &mut queue.ready) else {
             return Ok(Placed::Stuck(placed));
         };

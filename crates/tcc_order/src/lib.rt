@@ -11,6 +11,7 @@ mod kahn;
 pub mod laws;
 mod placement;
 mod ready;
+mod rows;
 
 pub use clocks_along::clocks;
 pub use commit_order::{order, order_of_pairs, place, place_pairs};

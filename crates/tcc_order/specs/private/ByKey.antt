@@ -37,12 +37,15 @@ pub record IsTop (table : List (List ℕ)) (readings : List (ℕ × ℕ)) (start
   pub attained : (top ≡ 0) ⊎ ((j : ℕ) × (start ≤ j) × (j < end) × (top ≡ slice_index (row_of table (reader_in readings j)) k))
   pub greatest : (j : ℕ) → start ≤ j → j < end → slice_index (row_of table (reader_in readings j)) k ≤ max top (slice_index known k)
 
--- at each index stand the same key and readers of one row
-abbrev pub AreAlike : List (List ℕ) → List (ℕ × ℕ) → List (ℕ × ℕ) → Type 0
-AreAlike table readings others =
-    (k : ℕ) → k < length readings
-    → (k < length others) × (key_index_in readings k ≡ key_index_in others k)
+-- at index k stand the same key and readers of one row
+abbrev pub AreAlikeAt : List (List ℕ) → List (ℕ × ℕ) → List (ℕ × ℕ) → ℕ → Type 0
+AreAlikeAt table readings others k =
+    (k < length others) × (key_index_in readings k ≡ key_index_in others k)
     × (row_of table (reader_in readings k) ≡ row_of table (reader_in others k))
+
+-- at each index of the first they do
+abbrev pub AreAlike : List (List ℕ) → List (ℕ × ℕ) → List (ℕ × ℕ) → Type 0
+AreAlike table readings others = (k : ℕ) → k < length readings → AreAlikeAt table readings others k
 
 -- a and the transaction before it in its session are read by readers of one row, key by key
 pub record IsLikeBefore (owners : List ℕ) (table : List (List ℕ)) (rows : List (List (ℕ × ℕ))) (a : ℕ) : Type 0 where

@@ -1,5 +1,5 @@
 -- The links that are kept, by the greatest numbers of the sessions of a block.
-use Rattle.std.specs.Prelude.{ℕ, ◌<◌, ◌≤◌, ◌+◌, ◌-◌, ◌≡◌, ◌≢◌, ◌⊎◌, ◌==◌, ◌&&◌, nat_lt, nat_le, not, if◌then◌else◌, max, List, length, slice_index, All, Contains}
+use Rattle.std.specs.Prelude.{ℕ, ◌<◌, ◌≤◌, ◌+◌, ◌-◌, ◌≡◌, ◌≢◌, ◌⊎◌, ◌==◌, ◌&&◌, nat_lt, nat_le, not, if◌then◌else◌, max, List, [], length, slice_index, All, Contains}
 use Rattle.std.specs.List.Sorted.{IsNonDecreasing}
 use Rattle.tcc_reads.specs.History.{History, count, owner}
 use Rattle.tcc_graph.specs.Relations.{IsReadsPair, IsSessionPair}
@@ -98,9 +98,9 @@ abbrev pub Derives : Judged → ℕ → ℕ → Type 0
 Derives j a b = (a < count j.history) × (b < count j.history)
     × ((c : ℕ) × (x : List ℕ) × IsReadsPair j.history a c x × Contains (writers j.history x) b × (b ≢ a) × IsAllowedFrom j b c)
 
--- no link is kept
-abbrev pub HasNone : List (List ℕ) → Type 0
-HasNone kept = (x b : ℕ) → Contains (row_of kept x) b → ⊥
+-- nothing stands in any row
+abbrev pub HasNone : {T : Type 0} → List (List T) → Type 0
+HasNone rows = All (λ row. row ≡ []) rows
 
 -- links that are kept at a level: each is a derived pair, and all are covered
 pub record AreLinks (j : Judged) (kept : List (List ℕ)) : Type 0 where

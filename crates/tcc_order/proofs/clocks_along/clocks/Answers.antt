@@ -27,14 +27,13 @@ clock_row-requires-clause-lasts c =
 pub loop-number-preserved : goal.loop-number-preserved
 loop-number-preserved c =
     let h = c.args.graph.now in
-    let order = c.args.order.now in
     let k = c.loop-number.number-index in
-    let n : ℕ = get_or order k 0 in
+    let n : ℕ = get_or c.args.order.now k 0 in
     let low : n < count h = below_in c.requires.numbering k c.loop-number-test.true in
     let row = c.in_ok-row.row in
     let made : AreLastsOf h (IsUpTo h (Contains (parents h n))) row
     = rw (c.deref-in-loop-number.ensures.value, c.in_ok-parents.ensures.found) at c.in_ok-row.ensures in
-    table_more h (λ c row. AreLastsOf h (IsBefore h c) row) c.loop-number.table.items order row k c.loop-number-test.true low c.loop-number.invariant
+    table_more h (λ c row. AreLastsOf h (IsBefore h c) row) c.loop-number.table.items c.args.order.now row k c.loop-number-test.true low c.loop-number.invariant
     (lasts_same h (IsUpTo h (Contains (parents h n))) (IsBefore h n) row
     (up_to_parents h c.numbered.ensures.numbered n low c.in_ok-parents.ensures.sources) made)
 

@@ -5,12 +5,13 @@ use Rattle.tcc_order.specs.private.Held.{holds}
 use Rattle.tcc_order.specs.private.CausalLinks.{Derives}
 use Rattle.tcc_order.specs.private.Numbering.{IsFirstOf}
 use Rattle.tcc_order.specs.private.Placed.{IsStuckBy}
+use Rattle.tcc_order.proofs.EmptyRows.{nothing_kept}
 use Rattle.tcc_order.proofs.Finding.{none_derived, pairs_first}
 use Rattle.tcc_order.proofs.LeftOver.{stuck_of}
 use Rattle.tcc_order.proofs.commit_order.links_by_clocks.Goals as goal
 
 pub first_placing-requires-clause-inside : goal.first_placing-requires-clause-inside
-first_placing-requires-clause-inside c = rw c.deref.ensures.value (λ x b there. absurd (c.in_ok-none.ensures.none x b there))
+first_placing-requires-clause-inside c = rw c.deref.ensures.value (λ x b there. absurd (nothing_kept c.in_ok-none.none.items c.in_ok-none.ensures.none x b there))
 
 pub causal_links-requires-clause-onward : goal.causal_links-requires-clause-onward
 causal_links-requires-clause-onward c =

@@ -2,12 +2,13 @@ use Rattle.tcc_reads.specs.History.{count}
 use Rattle.tcc_order.specs.private.Held.{holds}
 use Rattle.tcc_order.specs.private.Numbering.{IsFirstOf}
 use Rattle.tcc_order.specs.private.Placed.{IsStuckBy}
+use Rattle.tcc_order.proofs.EmptyRows.{nothing_kept}
 use Rattle.tcc_order.proofs.Finding.{pairs_first}
 use Rattle.tcc_order.proofs.LeftOver.{pairs_left}
 use Rattle.tcc_order.proofs.commit_order.place_pairs.Goals as goal
 
 pub first_placing-requires-clause-inside : goal.first_placing-requires-clause-inside
-first_placing-requires-clause-inside c = rw c.deref-2.ensures.value (λ x b there. absurd (c.in_ok-none.ensures.none x b there))
+first_placing-requires-clause-inside c = rw c.deref-2.ensures.value (λ x b there. absurd (nothing_kept c.in_ok-none.none.items c.in_ok-none.ensures.none x b there))
 
 pub returns-in-Order : goal.returns-in-Order
 returns-in-Order c =

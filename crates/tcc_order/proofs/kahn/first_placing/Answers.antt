@@ -10,6 +10,7 @@ use Rattle.tcc_order.specs.private.Held.{holds, IsFreeBy, onward}
 use Rattle.tcc_order.specs.private.Queued.{AreQueued, AreSure, IsAny, IsNot}
 use Rattle.tcc_order.proofs.Greedy.{IsNext, Picks-push, Picks-first, Picks-order}
 use Rattle.tcc_order.proofs.LeftOver.{stuck_placed}
+use Rattle.tcc_order.proofs.EmptyRows.{nothing_kept}
 use Rattle.tcc_order.proofs.Fronts.{holds_below, says_more, placed_free, free_placed, session_fronts}
 use Rattle.tcc_order.proofs.QueuedLemmas.{all_ready, queued_begin, queued_popped, queued_after, sure_after}
 use Rattle.tcc_order.proofs.kahn.first_placing.Goals.{After-first_ready}
@@ -36,7 +37,7 @@ loop-init c =
       λ x. none_marked n x,
       tt,
       all,
-      queued_begin (holds h c.args.kept.now) ps (replicate n 0) queue.woken.items queue.ready queue.waiting.items long c.in_ok-queue.ensures.waiting
+      queued_begin (holds h c.args.kept.now) ps (replicate n 0) queue.woken.items queue.ready queue.waiting.items long (nothing_kept queue.waiting.items c.in_ok-queue.ensures.waiting)
           c.in_ok-queue.ensures.ready (none_marked n) (λ x there. ((c.in_ok-queue.ensures.woken x).0 there).0)
           (λ x l root. (c.in_ok-queue.ensures.woken x).1 (l, root)),
       λ x there. absurd (c.in_ok-queue.ensures.ready x there),
@@ -46,12 +47,10 @@ pub returns-in_default : goal.returns-in_default
 returns-in_default c =
     let h = c.args.graph.now in
     let kept = c.args.kept.now in
-    let ps = c.args.parents.now in
-    let held = holds h kept in
     let placed = c.loop.placed.items in
     let done : (y : ℕ) → Contains c.look_at_woken.new.queue.ready y → is_marked placed y ≡ true = rw c.deref-in-loop.ensures.value at c.in_default.ensures.none in
-    stuck_placed held (count h) placed c.loop.order.items c.loop.invariant.2 (holds_below h kept)
-    (λ x free. false≢true (sym free.new ∙ done x (all_ready h kept ps c.requires.parents (queued (goal.at.returns-in_default c).After-first_ready) x free))) (omega (arith, c.loop.invariant.1))
+    stuck_placed (holds h kept) (count h) placed c.loop.order.items c.loop.invariant.2 (holds_below h kept)
+    (λ x free. false≢true (sym free.new ∙ done x (all_ready h kept c.args.parents.now c.requires.parents (queued (goal.at.returns-in_default c).After-first_ready) x free))) (omega (arith, c.loop.invariant.1))
 
 pub mark-requires : goal.mark-requires
 mark-requires c =
