@@ -45,7 +45,7 @@ from tcc.notes import write_notes
 from tcc.operations import USUAL, Untold, is_number, operation, spelled
 from tcc.progress import INTERRUPTED, Doing
 from tcc.rows import Json
-from tcc.words import command_line, count
+from tcc.words import add_files, command_line, count
 
 EXAMPLE = """example: session p1 doesn't see its own write
   $ cat history.jsonl
@@ -241,12 +241,11 @@ def json_text(word: str) -> str:
 def arguments() -> argparse.Namespace:
     ask = command_line(__doc__, EXAMPLE)
     ask.add_argument("history", nargs="?", metavar="HISTORY", help="the file of the operations, by default standard input")
-    ask.add_argument("--table", metavar="FILE", help="writes what isn't itself in the records, a line each: kind, what stands "
-                     "for it, and how JSON spells it")
-    ask.add_argument("--map", metavar="FILE", help="writes a line for each transaction of the records: its label, the index of "
-                     "the operation that ended it, where it has one, and its line")
-    ask.add_argument("--notes", metavar="FILE", help="writes annotations: of each transaction the node, the time in seconds, the index "
-                     "and the line of the operation that ended it, as far as the history has them")
+    add_files(ask, table="writes what isn't itself in the records, a line each: kind, what stands for it, and how JSON spells it",
+              map="writes a line for each transaction of the records: its label, the index of the operation that ended it, where it "
+                  "has one, and its line",
+              notes="writes annotations: of each transaction the node, the time in seconds, the index and the line of the operation "
+                    "that ended it, as far as the history has them")
     ask.add_argument("--initial", metavar="JSON", type=json_text, default="null", help="a value, as JSON, that a key has "
                      "before it is written; nil always is one")
     ask.add_argument("--seal-every", metavar="N", type=count, help="puts a seal behind each N transactions, in the order in which "

@@ -30,7 +30,7 @@ from tcc.answers import (Link, anomaly_head, columns, cycle_of, key, label, orde
                      transactions_of)
 from tcc.progress import Doing, status_of
 from tcc.rows import History, Json, Operation, Transaction, Unfit, open_records, read_history, read_places
-from tcc.words import command_line
+from tcc.words import add_files, command_line
 
 EXAMPLE = """example: draw the anomaly of a history, then show the records that it speaks of
   $ tcc explain --json < examples/stale-read.csv > answer.json
@@ -295,11 +295,9 @@ def shown(answer: Json, history: Optional[History], places: Dict[str, str], as_t
 def arguments() -> argparse.Namespace:
     ask = command_line(__doc__, EXAMPLE)
     ask.add_argument("answer", nargs="?", metavar="ANSWER", help="the file of the answer, by default standard input")
-    ask.add_argument("--history", metavar="FILE", help="the records that the answer is for; of a slice with --places, those of the "
-                     "whole history")
-    ask.add_argument("--places", metavar="FILE", help="the table that places.py makes of a slice: its transactions are called as in "
-                     "the whole history")
-    ask.add_argument("--notes", metavar="FILE", help="annotations of the history: node, time, index and note of each transaction")
+    add_files(ask, history="the records that the answer is for; of a slice with --places, those of the whole history",
+              places="the table that places.py makes of a slice: its transactions are called as in the whole history",
+              notes="annotations of the history: node, time, index and note of each transaction")
     ask.add_argument("--answer", dest="number", metavar="N", type=int, help="takes answer N, from 1; by default the last")
     ask.add_argument("--text", action="store_true", help="lists the transactions with their rows, in place of a picture")
     asked = ask.parse_args()

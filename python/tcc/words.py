@@ -8,6 +8,12 @@ def command_line(about: Optional[str], example: str) -> argparse.ArgumentParser:
     return argparse.ArgumentParser(description=about, epilog=example, formatter_class=argparse.RawDescriptionHelpFormatter)
 
 
+def add_files(ask: argparse.ArgumentParser, **told: str) -> None:
+    """Options that name a file each, with what is told of it."""
+    for name, text in told.items():
+        ask.add_argument("--" + name, metavar="FILE", help=text)
+
+
 def count(word: str) -> int:
     """A number from 1."""
     if not re.fullmatch("[1-9][0-9]{0,8}", word):

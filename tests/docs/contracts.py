@@ -21,11 +21,9 @@ from arguments import status_of_written  # noqa: E402
 from counted import Outcome  # noqa: E402
 from crates import stands_on  # noqa: E402
 from imports import imports  # noqa: E402
+from sources import root_of, with_types  # noqa: E402
 
 CONTRACTS = TOP / "docs/CONTRACTS.md"
-PUBLIC_MODULE = re.compile(r"^pub mod (\w+);", re.MULTILINE)
-PASSED_ON = re.compile(r"^pub use (?!tcc_)[\w:]+::(\{[^}]*\}|\w+);", re.MULTILINE)
-METHODS = re.compile(r"impl(?:<[^>]*>)? (\w+)")
 CALL = re.compile(r"( *)pub (?:const )?fn (\w+)")
 DEFINED = re.compile(r"^[a-z ]*\bpub (?:record |data )?([A-Za-z]\w*)", re.MULTILINE)
 SHAPE = re.compile(r"^[a-z ]*\bpub (?:record |data )?([A-Za-z]\w*) : Type \d+(?: where)?$", re.MULTILINE)
@@ -114,19 +112,16 @@ def standing(path: pathlib.Path) -> Tuple[bool, str, bool]:
 
 def calls(crate: str) -> Iterator[Call]:
     """The functions that the root of a library makes public, and those of its public types."""
-    source = TOP / "crates" / crate / "src"
-    root = (source / "lib.rt").read_text()
-    modules, public = set(PUBLIC_MODULE.findall(root)), set(re.findall(r"\w+", " ".join(PASSED_ON.findall(root))))
-    for path in sorted(source.rglob("*.rt"), key=standing):
-        of, text = "", path.read_text()
+    root = root_of(crate)
+    for path in sorted((TOP / "crates" / crate / "src").rglob("*.rt"), key=standing):
+        text = path.read_text()
         lines, known = text.split("\n"), definitions(text)
-        for number, line in enumerate(lines):
-            methods, call = METHODS.match(line), CALL.match(line)
-            of = methods.group(1) if methods else of
-            if not call or not (path.stem in modules or (of if call.group(1) else call.group(2)) in public):
+        for number, line, of in with_types(lines):
+            call = CALL.match(line)
+            if not call or not root.has(path, of if call.group(1) else call.group(2)):
                 continue
             indent, name = call.groups()
-            before = of if indent else path.stem if path.stem in modules else ""
+            before = of if indent else path.stem if path.stem in root.modules else ""
             head = head_of(lines, number, indent)
             clause = CLAUSE.search(head)
             cites = [one for one in NAME.findall(head[clause.start():]) if one in known] if clause else []

@@ -18,10 +18,10 @@ TOP = pathlib.Path(__file__).resolve().parent.parent.parent
 sys.path.insert(0, str(TOP / "tests"))
 from arguments import status_of_written  # noqa: E402
 from counted import Outcome  # noqa: E402
+from sources import METHODS  # noqa: E402
 
 EXAMPLES = TOP / "crates/tcc_examples/src/examples.rt"
 FUNCTION = re.compile(r"^pub fn (example_\w+)(?:.|\n(?!\}\n))*?(?:\n| )\{\n((?:.|\n(?!\}\n))*\n)\}\n", re.MULTILINE)
-METHODS = re.compile(r"impl(?:<[^>]*>)? (\w+)")
 ITEM = re.compile(r" *pub (?:const )?(?:fn|struct|enum|trait|type) (\w+)")
 HUMP = re.compile(r"(?<=[a-z])(?=[A-Z])")
 

@@ -44,10 +44,9 @@ import told  # noqa: E402
 from arguments import status_on_tcc  # noqa: E402
 from counted import Outcome  # noqa: E402
 from crates import stands_on  # noqa: E402
-from trust import faults_of_trust  # noqa: E402
+from trust import QUOTED, faults_of_trust  # noqa: E402
 
 CODE = re.compile(r"```.*?```", re.DOTALL)
-QUOTED = re.compile(r"`([^`\n]+)`")
 LINK = re.compile(r"\]\(([^)#\s]+)(?:#[^)]*)?\)")
 ENDINGS = ("antt", "bash", "csv", "edit", "json", "md", "py", "rt", "toml", "txt", "c", "certificate", "svg")
 PATH = re.compile(r"[A-Za-z0-9_.-]+(?:/[A-Za-z0-9_.-]+)*(?:/|\.(?:%s))" % "|".join(ENDINGS))

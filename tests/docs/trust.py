@@ -12,13 +12,9 @@ from typing import Dict, FrozenSet, Iterator, List, NamedTuple, Optional, Set, T
 
 from counted import Outcome
 from imports import LINE, Import, imports
+from sources import CRATES, root_of, with_types
 
-TOP = pathlib.Path(__file__).resolve().parent.parent.parent
-CRATES = TOP / "crates"
 PRIVATE = "private"
-PUBLIC_MODULE = re.compile(r"^pub mod (\w+);", re.MULTILINE)
-PASSED_ON = re.compile(r"^pub use (?!tcc_)[\w:]+::(\{[^}]*\}|\w+);", re.MULTILINE)
-METHODS = re.compile(r"impl(?:<[^>]*>)? (?:Model for )?(\w+)")
 CALL = re.compile(r"( *)(pub )?(?:const )?fn (\w+)")
 VALUE = re.compile(r" *ghost Value = \{(.*)\};")
 OPENS_BODY = re.compile(r" *(?:\)|(?:pub )?(?:const )?fn ).*[{;]$")
@@ -124,20 +120,16 @@ class Said(NamedTuple):
 
 def all_said(crate: str) -> Iterator[Said]:
     """The contracts of a crate's functions, and what values of its types are seen as."""
-    source = CRATES / crate / "src"
-    root = (source / "lib.rt").read_text() if (source / "lib.rt").exists() else ""
-    modules, names = set(PUBLIC_MODULE.findall(root)), set(re.findall(r"\w+", " ".join(PASSED_ON.findall(root))))
-    for path in sorted(source.rglob("*.rt")):
-        of, lines = "", path.read_text().splitlines()
-        for index, line in enumerate(lines):
-            methods, call, value = METHODS.match(line), CALL.match(line), VALUE.match(line)
-            of = methods.group(1) if methods else of
+    root = root_of(crate)
+    for path in sorted((CRATES / crate / "src").rglob("*.rt")):
+        lines = path.read_text().splitlines()
+        for index, line, of in with_types(lines):
+            call, value = CALL.match(line), VALUE.match(line)
             if value:
-                yield Said(path, of, value.group(1), path.stem in modules or of in names)
+                yield Said(path, of, value.group(1), root.has(path, of))
             elif call:
                 indent, public, name = call.groups()
-                is_public = public is not None and (path.stem in modules or (of if indent else name) in names)
-                yield Said(path, name, contract(lines, index), is_public)
+                yield Said(path, name, contract(lines, index), public is not None and root.has(path, of if indent else name))
 
 
 def public_calls(crate: str) -> Iterator[str]:
@@ -166,7 +158,7 @@ def believed() -> Dict[Definition, str]:
 @functools.lru_cache(maxsize=None)
 def named() -> FrozenSet[str]:
     """What stands in backquotes in the documents."""
-    texts = (path.read_text() for path in (TOP / "docs").glob("*.md"))
+    texts = (path.read_text() for path in (CRATES.parent / "docs").glob("*.md"))
     return frozenset(name for text in texts for name in QUOTED.findall(text))
 
 
@@ -181,4 +173,4 @@ def faults_of_trust() -> Iterator[Outcome]:
         yield str(one), wrong
     for path in sorted(CRATES.glob("*/specs/*.antt")):
         imported = [one.module for one in written(path.read_text()) if one.module.startswith(PRIVATE + ".")]
-        yield str(path.relative_to(TOP)), "it imports " + ", ".join(imported) if imported else None
+        yield str(path.relative_to(CRATES.parent)), "it imports " + ", ".join(imported) if imported else None

@@ -49,24 +49,14 @@ def waiting(late: int, early: int) -> Transactions:
         yield "late%d" % n, ["r,go,1", "r,x,%d" % (n + 1)]
 
 
-def overwritten(writers: int, readers: int) -> Transactions:
-    """Session a writes x many times, and many others read its first value; z reads the second and then the first."""
+def read_early(writers: int, readers: int, early: int) -> Transactions:
+    """Session a writes 1, 2 and so on to x, and many others read an early value, 1 or the initial 0; z reads 2 and then that one."""
     for n in range(writers):
         yield "a", ["w,x,%d" % (n + 1)]
     for _ in range(readers):
-        yield "b", ["r,x,1"]
+        yield "b", ["r,x,%d" % early]
     yield "z", ["r,x,2"]
-    yield "z", ["r,x,1"]
-
-
-def never_written(writers: int, readers: int) -> Transactions:
-    """Session a writes x many times, and many others read the initial value of x; z reads a value and then the initial one."""
-    for n in range(writers):
-        yield "a", ["w,x,%d" % (n + 1)]
-    for _ in range(readers):
-        yield "b", ["r,x,0"]
-    yield "z", ["r,x,2"]
-    yield "z", ["r,x,0"]
+    yield "z", ["r,x,%d" % early]
 
 
 def crossed(sources: int, readers: int, of_all: bool = False) -> Transactions:
@@ -218,8 +208,8 @@ def hard() -> Iterator[Hard]:
     contradicted by what it knows by two."""
     large, atomic, small = (["explain", *words] for words in (["--large"], ["--large", "--level", "atomic"], ["--level", "atomic"]))
     yield Hard("waiting", large, records_of(waiting(1365, 2729)), "consistent: 5471 transactions, 4095 sessions\n")
-    yield Hard("overwritten", atomic, records_of(overwritten(30000, 30000)), "consistent: 60002 transactions, 3 sessions\n")
-    yield Hard("never written", atomic, records_of(never_written(30000, 30000)), "consistent: 60002 transactions, 3 sessions\n")
+    yield Hard("overwritten", atomic, records_of(read_early(30000, 30000, 1)), "consistent: 60002 transactions, 3 sessions\n")
+    yield Hard("never written", atomic, records_of(read_early(30000, 30000, 0)), "consistent: 60002 transactions, 3 sessions\n")
     yield Hard("crossed", atomic, records_of(crossed(250, 400)), "consistent: 650 transactions, 33 sessions\n")
     yield Hard("crossed, all keys", small, records_of(crossed(250, 800, of_all=True)), "anomaly: 3 steps, overwritten-read\n")
     yield Hard("written twice", atomic, records_of(written_twice(320)), "consistent: 1280 transactions, 60 sessions\n")
