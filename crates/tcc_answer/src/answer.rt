@@ -95,6 +95,15 @@ impl Commit {
     }
 }
 
+/// The tables by which a cycle can be checked, capped at its cost.
+#[derive(Drop)]
+struct Distances {
+    /// The least lengths of walks.
+    near: CappedRows,
+    /// The least costs of routes.
+    far: CappedRows,
+}
+
 /// A cycle that no commit order can keep at a level, with the tables of its certificate and the names that it prints.
 #[derive(Drop)]
 pub struct Anomaly {
@@ -102,8 +111,7 @@ pub struct Anomaly {
     links: Links,
     /// How many steps the links have together.
     steps: u32,
-    near: CappedRows,
-    far: CappedRows,
+    distances: Distances,
     labels: Labels,
 }
 
@@ -114,7 +122,13 @@ impl Model for Anomaly {
 
     ghost Value = { LabelledCycle };
 
-    ghost view = { λ a. record { level = a.level; links = a.links; near = a.near; far = a.far; labels = a.labels } };
+    ghost view = { λ a. record {
+      level = a.level;
+      links = a.links;
+      near = a.distances.near;
+      far = a.distances.far;
+      labels = a.labels;
+    } };
 
     ghost invariant = { λ a. a.steps ≡ cost a.links };
 }
@@ -137,8 +151,7 @@ impl Anomaly {
             level,
             links,
             steps,
-            near,
-            far,
+            distances: Distances { near, far },
             labels,
         }
     }
@@ -152,12 +165,12 @@ impl Anomaly {
         ensures part { OnErr result ((n : ℕ) × Appends (W.contents out.old) (W.contents out.new)
             (take n (certificate_text (claim.Cycle (cycle_claim self.now))))) }
     {
-        let count = self.near.len();
+        let count = self.distances.near.len();
         let steps = self.steps;
         let begun = write_first_lines(out, Version::Two, self.level, count, &self.links, steps)?;
         let mut writer = CycleWriter::behind(out, begun);
-        self.near.write(&mut writer, CycleTable::Near)?;
-        self.far.write(&mut writer, CycleTable::Far)?;
+        self.distances.near.write(&mut writer, CycleTable::Near)?;
+        self.distances.far.write(&mut writer, CycleTable::Far)?;
         writer.end()
     }
 
@@ -214,14 +227,14 @@ impl Anomaly {
     pub(crate) fn near(&self) -> &CappedRows
         ensures { result.now ≡ self.now.near }
     {
-        &self.near
+        &self.distances.near
     }
 
     /// The least costs of routes, capped at the cost of the cycle.
     pub(crate) fn far(&self) -> &CappedRows
         ensures { result.now ≡ self.now.far }
     {
-        &self.far
+        &self.distances.far
     }
 
     /// What the anomaly says, without the distances by which it can be checked. No memory is taken, and theirs is given back.
@@ -232,8 +245,10 @@ impl Anomaly {
             level: self.level,
             links: self.links,
             steps: self.steps,
-            near: CappedRows::empty(alloc),
-            far: CappedRows::empty(alloc),
+            distances: Distances {
+                near: CappedRows::empty(alloc),
+                far: CappedRows::empty(alloc),
+            },
             labels: self.labels,
         }
     }

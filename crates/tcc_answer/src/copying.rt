@@ -6,30 +6,40 @@ ghost use Rattle.tcc_answer.specs.Claims.{certificate_of, cycle_claim, order_cla
 
 use crate::{Anomaly, Answer, Commit};
 use std::alloc::Global;
-use tcc_cert::{Certificate, CycleClaim, Links, Numbers, OrderClaim, Table, Version};
+use tcc_cert::{Certificate, CycleClaim, Numbers, OrderClaim, Version};
 use tcc_graph::Link;
-use tcc_txn::NoMemory;
+use tcc_txn::{ListOf, NoMemory};
 
-/// Equal links.
-fn copied_links(alloc: Global, links: &[Link]) -> Result<Links, NoMemory>
-    ensures { IfOk result (λ copy. copy ≡ links.now) }
-{
-    let mut copy = Vec::new(alloc);
-    for link in links {
-        copy.push(link.copy(alloc)?)?;
-    }
-    Ok(Links::new(copy))
+/// What can be copied, if there is memory for it.
+trait Copyable: Drop {
+    ghost use Rattle.std.specs.Prelude.{◌≡◌, IfOk};
+
+    /// An equal value.
+    fn copied(&self, alloc: Global) -> Result<Self, NoMemory>
+        ensures { IfOk result (λ copy. copy ≡ self.now) };
 }
 
-/// Equal rows.
-fn copied_rows(alloc: Global, rows: &[Numbers]) -> Result<Table, NoMemory>
-    ensures { IfOk result (λ copy. copy ≡ rows.now) }
+impl Copyable for Link {
+    fn copied(&self, alloc: Global) -> Result<Link, NoMemory> {
+        self.copy(alloc)
+    }
+}
+
+impl Copyable for Numbers {
+    fn copied(&self, alloc: Global) -> Result<Numbers, NoMemory> {
+        self.copy(alloc)
+    }
+}
+
+/// An equal list.
+fn copied_list<T: Copyable>(alloc: Global, items: &[T]) -> Result<ListOf<T>, NoMemory>
+    ensures { IfOk result (λ copy. copy ≡ items.now) }
 {
     let mut copy = Vec::new(alloc);
-    for row in rows {
-        copy.push(row.copy(alloc)?)?;
+    for item in items {
+        copy.push(item.copied(alloc)?)?;
     }
-    Ok(Table::new(copy))
+    Ok(ListOf::new(copy))
 }
 
 /// An equal claim of an order.
@@ -37,7 +47,7 @@ fn copied_order(alloc: Global, claim: &OrderClaim) -> Result<OrderClaim, NoMemor
     ensures { IfOk result (λ copy. copy ≡ claim.now) }
 {
     let order = claim.order.copy(alloc)?;
-    let clocks = copied_rows(alloc, claim.clocks.as_slice())?;
+    let clocks = copied_list(alloc, claim.clocks.as_slice())?;
     Ok(OrderClaim {
         version: claim.version,
         level: claim.level,
@@ -52,7 +62,7 @@ impl Anomaly {
     pub fn certificate(&self, alloc: Global) -> Result<Certificate, NoMemory>
         ensures { IfOk result (λ certificate. certificate ≡ claim.Cycle (cycle_claim self.now)) }
     {
-        let links = copied_links(alloc, self.links())?;
+        let links = copied_list(alloc, self.links())?;
         let near = self.near().table(alloc)?;
         let far = self.far().table(alloc)?;
         Ok(Certificate::Cycle(CycleClaim {

@@ -16,25 +16,25 @@ claimed level links near far = record { version = Two; level = level; links = li
 
 pub returns-in_err-begun-clause-part : goal.returns-in_err-begun-clause-part
 returns-in_err-begun-clause-part g c =
-    let k = claimed c.self.inside.level c.self.inside.links c.self.inside.near c.self.inside.far in
+    let k = claimed c.self.inside.level c.self.inside.links c.self.inside.distances.near c.self.inside.distances.far in
     rw (← c.self.view_is) (on_err c.from_residual.result (part_begun _ _ k (rw (c.len-count.ensures, c.self.invariant) at c.in_err-begun.ensures.part)))
 
 pub returns-in_err-write-clause-part : goal.returns-in_err-write-clause-part
 returns-in_err-write-clause-part g c =
     let before = g.W.Write.contents c.args.out.now in
-    let count = length c.self.inside.near in
-    let k = claimed c.self.inside.level c.self.inside.links c.self.inside.near c.self.inside.far in
+    let count = length c.self.inside.distances.near in
+    let k = claimed c.self.inside.level c.self.inside.links c.self.inside.distances.near c.self.inside.distances.far in
     let same : c.write.new.writer.out.now ≡ c.out-1.given.0 = search rules in
     let begun = c.behind-writer.ensures.begun before count k (rw (c.len-count.ensures, c.self.invariant) at c.in_ok-begun.ensures.whole) in
     let part = c.in_err-write.ensures.part before count (record k { near = []; far = [] }) begun refl in
     rw (← c.self.view_is) (on_err c.from_residual-in_err-write.result
-    (rw (← same) (part_given _ _ k (part_more _ _ count table.Far (record k { far = [] }) tt c.self.inside.far part))))
+    (rw (← same) (part_given _ _ k (part_more _ _ count table.Far (record k { far = [] }) tt c.self.inside.distances.far part))))
 
 pub returns-in_err-write-2-clause-part : goal.returns-in_err-write-2-clause-part
 returns-in_err-write-2-clause-part g c =
     let before = g.W.Write.contents c.args.out.now in
-    let count = length c.self.inside.near in
-    let k = claimed c.self.inside.level c.self.inside.links c.self.inside.near c.self.inside.far in
+    let count = length c.self.inside.distances.near in
+    let k = claimed c.self.inside.level c.self.inside.links c.self.inside.distances.near c.self.inside.distances.far in
     let same : c.write-2.new.writer.out.now ≡ c.out-in_err-write-2-1.given.0 = search rules in
     let begun = c.behind-writer.ensures.begun before count k (rw (c.len-count.ensures, c.self.invariant) at c.in_ok-begun.ensures.whole) in
     let near = c.in_ok-write.ensures.whole before count (record k { near = []; far = [] }) begun refl in
@@ -44,8 +44,8 @@ returns-in_err-write-2-clause-part g c =
 pub returns : goal.returns
 returns g c =
     let before = g.W.Write.contents c.args.out.now in
-    let count = length c.self.inside.near in
-    let k = claimed c.self.inside.level c.self.inside.links c.self.inside.near c.self.inside.far in
+    let count = length c.self.inside.distances.near in
+    let k = claimed c.self.inside.level c.self.inside.links c.self.inside.distances.near c.self.inside.distances.far in
     let same : c.end.new.self.0 ≡ c.out-2-1.given.0 = search rules in
     let begun = c.behind-writer.ensures.begun before count k (rw (c.len-count.ensures, c.self.invariant) at c.in_ok-begun.ensures.whole) in
     let near = c.in_ok-write.ensures.whole before count (record k { near = []; far = [] }) begun refl in

@@ -1,6 +1,0 @@
--- the rows so far
-use Rattle.std.proofs.Common.{◌≡◌, take}
-use Rattle.tcc_answer.proofs.copying.copied_rows.Given as goal
-
-abbrev pub invariant-loop-row : goal.invariant-loop-row
-invariant-loop-row l = l.copy.items ≡ take l.row-index l.rows
