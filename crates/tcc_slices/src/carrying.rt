@@ -1,5 +1,5 @@
 //! Whether a map of numbers carries the links of a small history into a large one.
-ghost use Rattle.std.specs.Prelude.{◌≡◌, ◌<◌, ◌^◌, ℕ, List, IsTrue, length, slice_index};
+ghost use Rattle.std.specs.Prelude.{◌≡◌, ◌↔◌, ◌<◌, ◌^◌, ℕ, List, IsTrue, length, slice_index};
 ghost use Rattle.tcc_reads.specs.History.{count};
 ghost use Rattle.tcc_graph.specs.Relations.{IsReadsPair, IsSessionPair};
 ghost use Rattle.tcc_slices.specs.Slices.{IsCarried};
@@ -20,8 +20,7 @@ pub(crate) fn carried(numbers: &[u32], number: u32) -> u32
 /// Whether all that is read from a transaction is read from it in the large history too.
 fn keeps_reads(small: &Graph, large: &LargeGraph, numbers: &[u32], source: u32) -> bool
     requires { source < count small.now }
-    ensures told { IsTrue result → KeepsReads numbers.now small.now large.now source }
-    ensures kept { KeepsReads numbers.now small.now large.now source → IsTrue result }
+    ensures { IsTrue result ↔ KeepsReads numbers.now small.now large.now source }
 {
     let (readers, keys) = small.readings(source);
     for (index, reader) in readers.iter().enumerate() {
@@ -40,16 +39,13 @@ fn keeps_reads(small: &Graph, large: &LargeGraph, numbers: &[u32], source: u32) 
 /// Whether a transaction stands before all those in the large history too that it stands before in session order.
 fn keeps_sessions(small: &Graph, large: &LargeGraph, numbers: &[u32], first: u32) -> bool
     requires { first < count small.now }
-    ensures told { IsTrue result → KeepsSessions numbers.now small.now large.now first }
-    ensures kept { KeepsSessions numbers.now small.now large.now first → IsTrue result }
+    ensures { IsTrue result ↔ KeepsSessions numbers.now small.now large.now first }
 {
+    let from = carried(numbers, first);
     let (low, high) = small.later(first);
     for later in low..high {
-        let link = Link::Session {
-            from: carried(numbers, first),
-            to: carried(numbers, later),
-        };
-        if !large.is_link(Level::Causal, &link) {
+        let to = carried(numbers, later);
+        if !large.is_link(Level::Causal, &Link::Session { from, to }) {
             return false;
         }
     }
@@ -59,8 +55,7 @@ fn keeps_sessions(small: &Graph, large: &LargeGraph, numbers: &[u32], first: u32
 /// Whether all that a transaction writes it writes in the large history too.
 fn keeps_writes(small: &Graph, large: &LargeGraph, numbers: &[u32], writer: u32) -> bool
     requires { writer < count small.now }
-    ensures told { IsTrue result → KeepsWrites numbers.now small.now large.now writer }
-    ensures kept { KeepsWrites numbers.now small.now large.now writer → IsTrue result }
+    ensures { IsTrue result ↔ KeepsWrites numbers.now small.now large.now writer }
 {
     for key in small.writes(writer) {
         if !large.is_writer(carried(numbers, writer), key) {
@@ -73,16 +68,11 @@ fn keeps_writes(small: &Graph, large: &LargeGraph, numbers: &[u32], writer: u32)
 /// Whether all three are so of a transaction.
 fn keeps(small: &Graph, large: &LargeGraph, numbers: &[u32], number: u32) -> bool
     requires { number < count small.now }
-    ensures told { IsTrue result → Keeps numbers.now small.now large.now number }
-    ensures kept { Keeps numbers.now small.now large.now number → IsTrue result }
+    ensures { IsTrue result ↔ Keeps numbers.now small.now large.now number }
 {
-    if !keeps_reads(small, large, numbers, number) {
-        return false;
-    }
-    if !keeps_sessions(small, large, numbers, number) {
-        return false;
-    }
-    keeps_writes(small, large, numbers, number)
+    keeps_reads(small, large, numbers, number)
+        && keeps_sessions(small, large, numbers, number)
+        && keeps_writes(small, large, numbers, number)
 }
 
 /// Whether the numbers, which rise, are one for each transaction of the small history, from 0 on.

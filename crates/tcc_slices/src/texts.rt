@@ -60,16 +60,11 @@ fn add_transaction(
 }
 
 /// The records of a session, at the end of a text.
-fn add_session(
-    alloc: Global,
-    text: &mut Vec<u8>,
-    session: &Name,
-    transactions: &[Txn],
-) -> Result<(), NoMemory>
-    ensures { OnOk result (text.new.items ≡ text.old.items ++ flat_map (transaction_text session.now) transactions.now) }
+fn add_session(alloc: Global, text: &mut Vec<u8>, part: &(Name, Vec<Txn>)) -> Result<(), NoMemory>
+    ensures { OnOk result (text.new.items ≡ text.old.items ++ flat_map (transaction_text part.now.0) part.now.1.items) }
 {
-    for transaction in transactions {
-        add_transaction(alloc, text, session, transaction)?;
+    for transaction in &part.1 {
+        add_transaction(alloc, text, &part.0, transaction)?;
     }
     Ok(())
 }
@@ -80,7 +75,7 @@ pub fn records(alloc: Global, snapshot: &Snapshot) -> Result<Vec<u8>, NoMemory>
 {
     let mut text = Vec::new(alloc);
     for part in snapshot.parts() {
-        add_session(alloc, &mut text, &part.0, &part.1)?;
+        add_session(alloc, &mut text, part)?;
     }
     Ok(text)
 }

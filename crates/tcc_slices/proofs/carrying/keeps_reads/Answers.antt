@@ -1,5 +1,6 @@
-use Rattle.std.proofs.Common.{◌≡◌, ◌<◌, ℕ, List, [], get_or, length, arith, sym, ◌∙◌}
+use Rattle.std.proofs.Common.{◌≡◌, ◌<◌, ℕ, List, [], get_or, length, arith, refl}
 use Rattle.std.specs.Prelude.{◌↔◌}
+use Rattle.std.proofs.lemmas.Bool.{false≢true, iff_false}
 use Rattle.std.proofs.lemmas.List.{get_or_read}
 use Rattle.tcc_reads.specs.History.{History}
 use Rattle.tcc_graph.specs.Relations.{IsReadsPair}
@@ -24,13 +25,16 @@ loop-index-preserved c =
     kept_more c.args.numbers.now c.args.large.now c.args.source c.readings.result.0.now c.readings.result.1.now c.loop-index.index c.loop-index.invariant
     (same.0 (c.is_link.ensures.0 c.if-not-is_link.false))
 
-pub returns-clause-told : goal.returns-clause-told
-returns-clause-told c = λ is.
-    kept_all c.args.numbers.now c.args.small.now c.args.large.now c.args.source c.readings.result.0.now c.readings.result.1.now c.loop-index.index
-    (omega (arith, c.loop-index-test.false, c.loop-index.auto.index-end)) c.readings.ensures.each c.loop-index.invariant
+pub returns : goal.returns
+returns c = (
+  λ is.
+      kept_all c.args.numbers.now c.args.small.now c.args.large.now c.args.source c.readings.result.0.now c.readings.result.1.now c.loop-index.index
+      (omega (arith, c.loop-index-test.false, c.loop-index.auto.index-end)) c.readings.ensures.each c.loop-index.invariant,
+  λ kept. refl,
+)
 
-pub returns-then-not-is_link-clause-kept : goal.returns-then-not-is_link-clause-kept
-returns-then-not-is_link-clause-kept c = λ kept.
+pub returns-then-not-is_link : goal.returns-then-not-is_link
+returns-then-not-is_link c =
     let index = c.loop-index.index in
     let rs = c.readings.result.0.now in
     let ks = c.readings.result.1.now in
@@ -38,4 +42,4 @@ returns-then-not-is_link-clause-kept c = λ kept.
     looked_for c.args.numbers.now c.args.large.now c.args.source rs ks index c.carried.result c.carried-in-loop-index.result c.index-keys-index.result
     c.carried.ensures c.carried-in-loop-index.ensures c.index-keys-index.is c.loop-index-test.true c.readings.ensures.long in
     let there = (c.readings.ensures.each (get_or rs index 0) (get_or ks index [])).0 (zip_in rs ks index c.loop-index-test.true c.readings.ensures.long) in
-    sym c.if-not-is_link.true ∙ c.is_link.ensures.1 (same.1 (kept (get_or rs index 0) (get_or ks index []) there))
+    (λ is. absurd (false≢true is), λ kept. absurd (iff_false c.is_link.ensures c.if-not-is_link.true (same.1 (kept (get_or rs index 0) (get_or ks index []) there))))

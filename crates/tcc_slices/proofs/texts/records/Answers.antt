@@ -11,6 +11,5 @@ loop-part-preserved c =
     let i = c.loop-part.part-index in
     let part = c.part-item.result in
     let here : part ≡ get_or parts i part = get_or_read parts i part c.loop-part-test.true c.part-item.is part in
-    let added : c.add_session.new.text.items ≡ c.loop-part.text.items ++ flat_map (transaction_text part.0) part.1.items
-    = rw c.deref.ensures.value at c.in_ok-add_session.ensures in
+    let added : c.add_session.new.text.items ≡ c.loop-part.text.items ++ flat_map (transaction_text part.0) part.1.items = c.in_ok-add_session.ensures in
     rw (added, c.loop-part.invariant, ← c.parts-part-items.ensures.value) (sym (part_more parts i part c.loop-part-test.true here))
