@@ -90,16 +90,18 @@ pub(crate) struct Findings {
     pub faults: Vec<ReadFault>,
 }
 
-/// The initial transaction.
-pub(crate) fn initial_transaction(alloc: Global) -> Transaction
-    ensures { result ≡ initial }
+/// The initial transaction alone.
+pub(crate) fn with_initial(alloc: Global) -> Result<Vec<Transaction>, AllocError>
+    ensures { IfOk result (λ transactions. transactions.items ≡ initial ∷ []) }
 {
-    Transaction {
+    let mut transactions = Vec::new(alloc);
+    transactions.push(Transaction {
         owner: 0,
         place: 0,
         writes: Vec::new(alloc),
         reads: Vec::new(alloc),
-    }
+    })?;
+    Ok(transactions)
 }
 
 pub(crate) fn examine<B: Bounds>(
@@ -114,11 +116,10 @@ pub(crate) fn examine<B: Bounds>(
         ≡ initial ∷ entries_found (writers_in first.now.writers) (numbered snapshot.now places.now)) }
     ensures faults { IfOk result (λ found. found.faults.items ≡ flat_map (faults_found (writers_in first.now.writers)) (numbered snapshot.now places.now)) }
 {
-    let mut transactions = Vec::new(alloc);
+    let mut transactions = with_initial(alloc)?;
     let mut faults = Vec::new(alloc);
     let mut own = BTreeMap::new(alloc);
     let mut ops = Vec::new(alloc);
-    transactions.push(initial_transaction(alloc))?;
     for place in places {
         let standing = visit(snapshot, place, &mut ops)?;
         examine_one(

@@ -8,7 +8,7 @@ ghost use Rattle.tcc_reads.specs.Traced.{is_duplicate, is_rewrite, is_unique, tr
 
 use crate::judging::trace;
 use crate::numbering::{self, session_names, visit};
-use crate::resolver::{Findings, examine, initial_transaction, places, transaction};
+use crate::resolver::{Findings, examine, places, transaction, with_initial};
 use crate::standing::{Place, Standing};
 use crate::writers::{FirstWrites, first_writes};
 use crate::{LargeResolved, ReadFault, ReadFaultKind, Transaction};
@@ -72,10 +72,9 @@ fn trace_all<B: Bounds>(
     ensures { IfOk result (λ traced. traced.items
         ≡ initial ∷ entries_traced (writers_in first.now.writers) (is_outside rewrites.now) (numbered snapshot.now places.now)) }
 {
-    let mut transactions = Vec::new(alloc);
+    let mut transactions = with_initial(alloc)?;
     let mut own = BTreeMap::new(alloc);
     let mut ops = Vec::new(alloc);
-    transactions.push(initial_transaction(alloc))?;
     for place in places {
         let standing = visit(snapshot, place, &mut ops)?;
         if standing.txn.committed() {

@@ -146,20 +146,11 @@ fn push_packed(keys: &mut SymbolTable, txns: &mut PackedTxns, txn: &Txn) -> Resu
     }
 }
 
-/// The first transaction of a session, whose part goes to the index.
-fn insert_packed(
-    keys: &mut SymbolTable,
-    parts: &mut Vec<(Name, PackedTxns)>,
-    alloc: Global,
-    at: usize,
-    session: Name,
-    txn: &Txn,
-) -> Result<(), GrowFault>
-    requires within { at ≤ length parts.old.items }
-    requires packed { AllPacked keys.old parts.old.items }
-    ensures inserted { OnOk result (sessions_in keys.new parts.new.items ≡ insert (sessions_in keys.old parts.old.items) at (session, txn.now ∷ [])) }
-    ensures kept { OnErr result (sessions_in keys.new parts.new.items ≡ sessions_in keys.old parts.old.items) }
-    ensures packed { AllPacked keys.new parts.new.items }
+/// The transactions of a session that has this one alone.
+fn first_packed(keys: &mut SymbolTable, alloc: Global, txn: &Txn) -> Result<PackedTxns, GrowFault>
+    ensures first { IfOk result (λ txns. txns_in keys.new txns ≡ txn.now ∷ []) }
+    ensures packed { IfOk result (λ txns. ArePacked keys.new txns) }
+    ensures more { IsPrefix keys.old keys.new }
     ensures refused { IfErr result (λ k. k ≡ GrowFault.NoMemory) }
 {
     let mut txns = PackedTxns {
@@ -167,8 +158,7 @@ fn insert_packed(
         spans: Vec::new(alloc),
     };
     push_packed(keys, &mut txns, txn)?;
-    parts.insert(at, (session, txns))?;
-    Ok(())
+    Ok(txns)
 }
 
 /// The session has one more transaction.
@@ -197,7 +187,9 @@ fn add_packed(
             if parts.len() >= limits.sessions() {
                 return Err(GrowFault::TooManySessions);
             }
-            insert_packed(keys, parts, alloc, at, session, txn)
+            let first = first_packed(keys, alloc, txn)?;
+            parts.insert(at, (session, first))?;
+            Ok(())
         }
     }
 }

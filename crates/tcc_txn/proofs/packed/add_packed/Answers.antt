@@ -1,11 +1,12 @@
 use Rattle.std.proofs.Common.{◌≡◌, ◌<◌, ◌++◌, ◌∷◌, [], List, ℕ, get_or, length, ap, inr, sym, subst, ◌∙◌, arith}
 use Rattle.std.proofs.lemmas.List.Elements.{All-set}
+use Rattle.std.specs.List.{insert}
 use Rattle.tcc_txn.specs.Transactions.{Transaction}
-use Rattle.tcc_txn.specs.private.Packing.{AllPacked, ArePacked, Names, txns_in}
-use Rattle.tcc_txn.proofs.Growing.{err-then, found-here, inserted, missing, ok-always, ok-then, index_in-within, unwritten, written}
+use Rattle.tcc_txn.specs.private.Packing.{AllPacked, ArePacked, Names, sessions_in, txns_in}
+use Rattle.tcc_txn.proofs.Growing.{err-always, err-then, found-here, inserted, missing, ok-always, ok-then, index_in-within, seen-insert, unwritten, written}
 use Rattle.tcc_txn.proofs.GrownSnapshot.{grown}
-use Rattle.tcc_txn.proofs.PackedOps.{Part, all-on, sessions-on, txns-on}
-use Rattle.tcc_txn.proofs.packed.add_packed.Goals.{After-push_packed}
+use Rattle.tcc_txn.proofs.PackedOps.{Part, all-insert, all-on, sessions-on, txns-on}
+use Rattle.tcc_txn.proofs.packed.add_packed.Goals.{After-first_packed, After-push_packed}
 use Rattle.tcc_txn.proofs.packed.add_packed.Goals as goal
 
 part_packed : (keys : Names) (parts : List Part) (at : ℕ) (part : Part) → AllPacked keys parts → at < length parts → part ≡ get_or parts at part
@@ -25,8 +26,8 @@ returns-then-len-sessions-clause-refused c =
       missing (txns_in c.args.keys.now) c.args.parts.now.items c.args.session c.in-Err.at absent.0 c.requires.sorted absent.1,
     )
 
-pub insert_packed-requires-clause-within : goal.insert_packed-requires-clause-within
-insert_packed-requires-clause-within c =
+pub insert-requires : goal.insert-requires
+insert-requires c =
     let absent = rw c.deref.ensures.value at c.in-Err.ensures in
     omega (arith, absent.0, index_in-within c.args.session c.args.parts.now.items)
 
@@ -72,9 +73,45 @@ returns-in-Ok-clause-packed c =
     All-set (λ (p : Part). ArePacked all p.1) parts c.in-Ok.at (part.0, c.push_packed.new.txns) c.push_packed.ensures.packed
     (all-on c.args.keys.now all c.push_packed.ensures.more parts c.requires.packed)
 
-pub returns-else-len-sessions-clause-added : goal.returns-else-len-sessions-clause-added
-returns-else-len-sessions-clause-added c =
+-- with the names that there are now the sessions have the transactions that they had
+same_parts : (c : After-first_packed) → sessions_in c.first_packed.new.keys c.args.parts.now.items ≡ sessions_in c.args.keys.now c.args.parts.now.items
+same_parts c = sessions-on c.args.keys.now c.first_packed.new.keys c.first_packed.ensures.more c.args.parts.now.items c.requires.packed
+
+all_parts : (c : After-first_packed) → AllPacked c.first_packed.new.keys c.args.parts.now.items
+all_parts c = all-on c.args.keys.now c.first_packed.new.keys c.first_packed.ensures.more c.args.parts.now.items c.requires.packed
+
+pub returns-in_err-first-in-Err-clause-kept : goal.returns-in_err-first-in-Err-clause-kept
+returns-in_err-first-in-Err-clause-kept c =
+    err-always _ (same_parts (goal.at.returns-in_err-first-in-Err-clause-kept c).After-first_packed)
+
+pub returns-in_err-first-in-Err-clause-packed : goal.returns-in_err-first-in-Err-clause-packed
+returns-in_err-first-in-Err-clause-packed c = all_parts (goal.at.returns-in_err-first-in-Err-clause-packed c).After-first_packed
+
+pub returns-in_err-insert-in-Err-clause-kept : goal.returns-in_err-insert-in-Err-clause-kept
+returns-in_err-insert-in-Err-clause-kept c =
+    err-always _ (ap (sessions_in c.first_packed.new.keys) c.in_err-insert-in-Err.ensures.items
+    ∙ same_parts (goal.at.returns-in_err-insert-in-Err-clause-kept c).After-first_packed)
+
+pub returns-in_err-insert-in-Err-clause-packed : goal.returns-in_err-insert-in-Err-clause-packed
+returns-in_err-insert-in-Err-clause-packed c =
+    subst (AllPacked c.first_packed.new.keys) (sym c.in_err-insert-in-Err.ensures.items)
+    (all_parts (goal.at.returns-in_err-insert-in-Err-clause-packed c).After-first_packed)
+
+pub returns-in_ok-insert-in-Err-clause-added : goal.returns-in_ok-insert-in-Err-clause-added
+returns-in_ok-insert-in-Err-clause-added c =
+    let all = c.first_packed.new.keys in
+    let parts = c.args.parts.now.items in
+    let at = c.in-Err.at in
+    let same = same_parts (goal.at.returns-in_ok-insert-in-Err-clause-added c).After-first_packed in
     let absent = rw c.deref.ensures.value at c.in-Err.ensures in
-    ok-then c.insert_packed.result (λ new.
-    new ∙ inserted (txns_in c.args.keys.now) c.args.parts.now.items c.args.session c.in-Err.at c.args.txn.now absent.0 c.requires.sorted absent.1)
-    c.insert_packed.ensures.inserted
+    ap (sessions_in all) c.in_ok-insert-in-Err.ensures.items ∙ seen-insert (txns_in all) parts at c.args.session c.in_ok-first-in-Err.first
+    ∙ (λ i. insert (same i) at (c.args.session, c.in_ok-first-in-Err.ensures.first i))
+    ∙ inserted (txns_in c.args.keys.now) parts c.args.session at c.args.txn.now absent.0 c.requires.sorted absent.1
+
+pub returns-in_ok-insert-in-Err-clause-packed : goal.returns-in_ok-insert-in-Err-clause-packed
+returns-in_ok-insert-in-Err-clause-packed c =
+    let all = c.first_packed.new.keys in
+    let all_old = all_parts (goal.at.returns-in_ok-insert-in-Err-clause-packed c).After-first_packed in
+    subst (AllPacked all) (sym c.in_ok-insert-in-Err.ensures.items)
+    (all-insert (λ (part : Part). ArePacked all part.1) c.args.parts.now.items c.in-Err.at (c.args.session, c.in_ok-first-in-Err.first)
+    c.in_ok-first-in-Err.ensures.packed all_old)
