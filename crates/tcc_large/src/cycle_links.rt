@@ -1,7 +1,7 @@
 //! From transactions in a circle to the links between them: of each two a pair where there is one, else a derived link with a
 //! shortest walk, which takes a search (`shortest_walks`).
 use crate::pairs::Pairs;
-use crate::shortest_walks::ShortestWalks;
+use crate::shortest_walks::{ShortestWalks, Sought};
 use crate::work::{Halt, Work};
 use std::alloc::{AllocError, Global};
 use tcc_graph::{Level, Link, Step, Walk};
@@ -126,9 +126,12 @@ impl Linker {
         for (reader, _key_index) in readers {
             ends.push(*reader)?;
         }
-        let most = most.saturating_sub(1).min(self.longest);
-        let steps = self.walks.walk(alloc, work, pairs, wanted, &ends, most)?;
-        match steps {
+        let sought = Sought {
+            starts: wanted,
+            ends: &ends,
+            most: most.saturating_sub(1).min(self.longest),
+        };
+        match self.walks.walk(alloc, work, pairs, &sought)? {
             Some(steps) => Ok(derived_by(pairs, Walk::new(steps), to, readers)),
             None => Ok(None),
         }
@@ -140,10 +143,10 @@ impl Linker {
         alloc: Global,
         work: &mut Work,
         pairs: &Pairs<'_>,
-        ends: (u32, u32),
+        from: u32,
+        to: u32,
         most: usize,
     ) -> Result<Option<Link>, Halt> {
-        let (from, to) = ends;
         if let Some(step) = step(pairs, from, to) {
             return Ok(Some(Link::of(step)));
         }
@@ -169,7 +172,7 @@ impl Linker {
             let Some(to) = following(&circle, index) else {
                 return Ok(None);
             };
-            let Some(link) = self.link(alloc, work, pairs, (*from, to), most)? else {
+            let Some(link) = self.link(alloc, work, pairs, *from, to, most)? else {
                 return Ok(None);
             };
             let more = (link.cost() as usize).saturating_sub(1);

@@ -303,9 +303,9 @@ impl<'a> Finder<'a> {
             .cost()
             .saturating_add(behind.cost())
             .saturating_sub(1);
-        let past = (before.from(), behind.to());
+        let (from, to) = (before.from(), behind.to());
         let work = &mut self.work;
-        let link = self.linker.link(alloc, work, self.pairs, past, most)?;
+        let link = self.linker.link(alloc, work, self.pairs, from, to, most)?;
         if link.is_none() {
             return Ok(false);
         }

@@ -12,6 +12,17 @@ use tcc_txn::NoMemory;
 /// By a session pair, where other steps have the index of a key.
 const BY_SESSION: u32 = u32::MAX;
 
+/// What walk is looked for.
+#[derive(Clone, Copy)]
+pub(crate) struct Sought<'a> {
+    /// Where it may begin, in ascending order.
+    pub starts: &'a [u32],
+    /// Where it may end.
+    pub ends: &'a [u32],
+    /// How many steps it may have.
+    pub most: usize,
+}
+
 /// Searches backwards by pairs, with what each transaction leads on by.
 #[derive(Drop)]
 pub(crate) struct ShortestWalks {
@@ -22,32 +33,30 @@ pub(crate) struct ShortestWalks {
 impl ShortestWalks {
     /// Before the first search.
     pub(crate) fn new(alloc: Global, pairs: &Pairs<'_>) -> Result<ShortestWalks, NoMemory> {
-        let reverse = ReverseSearch::new(alloc, pairs)?;
-        let by = Cells::new(alloc, pairs.count() as usize, 0)?;
-        Ok(ShortestWalks { reverse, by })
+        Ok(ShortestWalks {
+            reverse: ReverseSearch::new(alloc, pairs)?,
+            by: Cells::new(alloc, pairs.count() as usize, 0)?,
+        })
     }
 
-    /// A shortest walk from one of the wanted transactions, which ascend, to one of these ends; none where there is none of so many
-    /// steps at most.
+    /// A shortest one of the walks that are looked for; none where there is none.
     pub(crate) fn walk(
         &mut self,
         alloc: Global,
         work: &mut Work,
         pairs: &Pairs<'_>,
-        wanted: &[u32],
-        ends: &[u32],
-        most: usize,
+        sought: &Sought<'_>,
     ) -> Result<Option<Vec<Step>>, Halt> {
-        self.reverse.begin(most);
-        work.take(ends.len())?;
-        for end in ends {
+        self.reverse.begin(sought.most);
+        work.take(sought.ends.len())?;
+        for end in sought.ends {
             self.meet(*end, *end, BY_SESSION)?;
         }
         for _turn in 0..pairs.count() {
             let Some(number) = self.reverse.take() else {
                 break;
             };
-            if let Some((start, by)) = self.search(work, pairs, wanted, number)? {
+            if let Some((start, by)) = self.search(work, pairs, sought.starts, number)? {
                 return Ok(Some(self.steps(alloc, pairs, start, number, by)?));
             }
         }
