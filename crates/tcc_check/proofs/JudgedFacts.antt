@@ -1,6 +1,6 @@
 -- The verdict on the whole text.
 use Rattle.std.proofs.Common.{◌≡◌, ◌↔◌, ℕ, Bool, true, false, List, [], ◌∷◌, ◌++◌, Option, None, Some, Result, Ok, Err, inl, refl, sym, ap, subst, ◌∙◌}
-use Rattle.std.specs.Prelude.{IsTrue, MatchOption, map}
+use Rattle.std.specs.Prelude.{IsErrAnd, IsTrue, MatchOption, map}
 use Rattle.std.proofs.lemmas.Bool.{false≢true}
 use Rattle.tcc_reads.specs.History.{History}
 use Rattle.tcc_cert.specs.CycleRules.{HasRightSizes}
@@ -8,6 +8,7 @@ use Rattle.tcc_cert.specs.Parts.{Parts, after_part, cycle_head, order_head, part
 use Rattle.tcc_cert.specs.declared.certificate.Certificate.{Certificate}
 use Rattle.tcc_cert.specs.declared.certificate.Certificate.TheVariants as certificate
 use Rattle.tcc_cert.specs.declared.certificate.CycleClaim.{CycleClaim}
+use Rattle.tcc_cert.specs.declared.certificate.OrderClaim.{OrderClaim}
 use Rattle.tcc_cert.specs.declared.part.CycleHead.{CycleHead}
 use Rattle.tcc_cert.specs.declared.part.OrderHead.{OrderHead}
 use Rattle.tcc_cert.specs.declared.part.Part.{Part}
@@ -23,7 +24,7 @@ use Rattle.tcc_check.specs.declared.verdict.Rule.TheVariants.{Sizes}
 use Rattle.tcc_check.specs.declared.verdict.Rule.{Rule}
 use Rattle.tcc_check.specs.declared.verdict.Verdict.{Verdict}
 use Rattle.tcc_check.specs.private.Coming.{FailsAs, Finishes, sized}
-use Rattle.tcc_check.specs.private.Judged.{IsClaimJudged, IsCycleJudged, IsOrderJudged, claim_rules}
+use Rattle.tcc_check.specs.private.Judged.{IsClaimJudged, IsCycleJudged, claim_rules}
 use Rattle.tcc_check.specs.Streams.{IsClaimed, IsJudged, IsStreamFault, claim_of}
 use Rattle.tcc_check.specs.Verdicts.{IsVerdict, cycle_rules, order_rules}
 use Rattle.tcc_check.specs.Asked.{IsVerdictOf, as_whole}
@@ -35,8 +36,14 @@ pub stream-fault : (bytes : List ℕ) (fault : StreamFault) → FailsAs (parts_r
 stream-fault bytes (Text fault) fails = (ends-read bytes fault fails.0, fails.1)
 stream-fault bytes NoMemory fails = tt
 
+-- what is answered in the place of a fault is that fault
+pub faulted : {X : Type 0} (Is : Result X StreamFault → Type 0) (fault : StreamFault) (o : Result X StreamFault) → IsErrAnd o (λ why. why ≡ fault)
+    → Is (Err fault) → Is o
+faulted Is fault (Ok x) fails is = absurd fails
+faulted Is fault (Err why) fails is = subst (λ w. Is (Err w)) (sym fails) is
+
 -- how the parts behind the first end is how the whole text does
-fault-behind : (bytes : List ℕ) (given : Part) (rest : Parts) (fault : StreamFault) → parts_read bytes ≡ after_part given rest → FailsAs rest fault
+pub fault-behind : (bytes : List ℕ) (given : Part) (rest : Parts) (fault : StreamFault) → parts_read bytes ≡ after_part given rest → FailsAs rest fault
     → IsStreamFault bytes fault
 fault-behind bytes given rest fault is fails =
     stream-fault bytes fault (fails-back (parts_read bytes) rest fault (sym (ap (λ p. p.line) is)) (sym (ap (λ p. p.fault) is)) fails)
@@ -61,6 +68,11 @@ sized-answer h k rest (Some answer) true judged end =
     answer_later (as_whole Sizes (HasRightSizes h k) ∷ []) (claim_rules h k) answer (right.0, tt) right.1
 sized-answer h k rest (Some answer) false judged end = inl (refl, (refl, λ right. false≢true (end.1 (judged.more right))))
 sized-answer h k rest None at_once wrong end = inl (refl, (refl, wrong))
+
+-- all rules say so of a claim that a list is a commit order, with the clocks that come
+record IsOrderJudged (h : History) (head : OrderHead) (ahead : Parts) (judgement : Judgement) : Type 0 where
+  same : judgement.claim ≡ claim.Order
+  answer : (clocks : List (List ℕ)) → ahead.parts ≡ map part.Clocks clocks → IsVerdictOf (order_rules h (with_clocks head clocks)) judgement.verdict
 
 -- the verdict on the parts of a certificate is that on the certificate
 order-judged : (h : History) (c : Certificate) (head : OrderHead) (rest : Parts) (judgement : Judgement)
@@ -90,9 +102,19 @@ cycle-judged h (certificate.Cycle k) head rest judgement is said =
     )
 
 -- what is said of a claim and the parts behind it is said of the text
-pub order-behind : (h : History) (bytes : List ℕ) (head : OrderHead) (rest : Parts) (o : Result Judgement StreamFault)
-    → parts_read bytes ≡ after_part (part.Order head) rest → Finishes rest (IsOrderJudged h head rest) o → IsJudged h bytes o
-order-behind h bytes head rest o is = judged-behind h bytes (part.Order head) rest (IsOrderJudged h head rest) o is (λ k. order-judged h k head rest)
+pub order-behind : (h : History) (bytes : List ℕ) (head : OrderHead) (rest : Parts) (k : OrderClaim) (verdict : Verdict Rule)
+    → parts_read bytes ≡ after_part (part.Order head) rest → rest.fault ≡ None
+    → ((clocks : List (List ℕ)) → rest.parts ≡ map part.Clocks clocks → k ≡ with_clocks head clocks) → IsVerdictOf (order_rules h k) verdict
+    → IsJudged h bytes (Ok (record { claim = claim.Order; verdict = verdict }))
+order-behind h bytes head rest k verdict is whole same said =
+    judged-behind h bytes (part.Order head) rest (IsOrderJudged h head rest) (Ok (record { claim = claim.Order; verdict = verdict })) is
+    (λ c. order-judged h c head rest) (
+      whole,
+      record {
+        same = refl;
+        answer = λ clocks come. subst (λ (k : OrderClaim). IsVerdictOf (order_rules h k) verdict) (same clocks come) said;
+      },
+    )
 
 pub cycle-behind : (h : History) (bytes : List ℕ) (head : CycleHead) (rest : Parts) (o : Result Judgement StreamFault)
     → parts_read bytes ≡ after_part (part.Cycle head) rest → Finishes rest (IsCycleJudged h head rest) o → IsJudged h bytes o

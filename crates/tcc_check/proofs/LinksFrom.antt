@@ -13,7 +13,7 @@ use Rattle.std.proofs.lemmas.Slice.Zip.{get_or-zip, length-zip}
 use Rattle.std.proofs.Math.Nat.{min-zero}
 use Rattle.tcc_reads.specs.History.{History, count}
 use Rattle.tcc_graph.specs.Relations.{IsCausalPair, IsReadsPair, IsSessionPair}
-use Rattle.tcc_graph.specs.Keys.{keys, key_at}
+use Rattle.tcc_graph.specs.Keys.{key_at}
 use Rattle.tcc_graph.specs.Readings.{AreReadingsByIndex}
 use Rattle.tcc_graph.proofs.WriterLemmas.{key_place}
 use Rattle.tcc_check.specs.private.Pairs.{AreOrderly}

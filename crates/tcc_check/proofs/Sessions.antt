@@ -14,12 +14,12 @@ use Rattle.std.proofs.lemmas.List.{get_or_default}
 use Rattle.tcc_txn.proofs.Lists.{in_filter, from_filter, in_map, from_map}
 use Rattle.tcc_reads.specs.History.{History, IsBySession, count, entry_at, owner, place}
 use Rattle.tcc_graph.specs.Numbers.{at}
-use Rattle.tcc_graph.specs.Relations.{IsSessionPair, session_pair, IsReadsPair}
+use Rattle.tcc_graph.specs.Relations.{IsReadsPair}
 use Rattle.tcc_graph.specs.Keys.{key_at, keys, writers, writes, is_key, numbers}
 use Rattle.tcc_graph.specs.declared.level.Level.{Level}
 use Rattle.tcc_graph.specs.declared.level.Level.TheVariants.{Causal}
 use Rattle.tcc_cert.specs.Tables.{row_of, entry}
-use Rattle.tcc_graph.proofs.Pairs.{PairParts, pair_parts, lower_first, initial_pair}
+use Rattle.tcc_graph.proofs.Pairs.{lower_first, initial_pair}
 use Rattle.tcc_cert.specs.OrderRules.{MayReach}
 use Rattle.tcc_check.specs.private.Latest.{is_within, IsCountWithin, IsLastWithin, AreSessionsKept, AreOwned, AreApart, AreRising}
 use Rattle.tcc_check.specs.private.Latest.{KeepsSessions}

@@ -21,15 +21,7 @@ use Rattle.tcc_check.specs.declared.verdict.Verdict.TheVariants as verdict
 use Rattle.tcc_graph.specs.Levels.{judged}
 
 abbrev pub rule_number : Rule → ℕ
-rule_number Sizes = 1
-rule_number Links = 2
-rule_number NearPairs = 3
-rule_number NearSteps = 4
-rule_number FarLinks = 5
-rule_number FarSteps = 6
-rule_number Returns = 7
-rule_number Pairs = 8
-rule_number Axiom = 9
+rule_number = elim [ Sizes ↦ 1 | Links ↦ 2 | NearPairs ↦ 3 | NearSteps ↦ 4 | FarLinks ↦ 5 | FarSteps ↦ 6 | Returns ↦ 7 | Pairs ↦ 8 | Axiom ↦ 9 ]
 
 -- the rules on the tables of a claim that a cycle is least, in order
 abbrev pub bounds_rules : History → CycleClaim → List (Asked Rule)

@@ -54,15 +54,15 @@ pub(crate) fn stands_before(
     graph: &LargeGraph,
     positions: &[u32],
     writers: &[u32],
-    session: u32,
-    place: u32,
+    at: (u32, u32),
     source: u32,
 ) -> bool
     requires positions { KeepsSessions graph.now positions.now }
     requires writers { AreRising graph.now writers.now }
     requires source { source < count graph.now }
-    ensures { IsTrue result → StandBefore graph.now positions.now writers.now session place source }
+    ensures { IsTrue result → StandBefore graph.now positions.now writers.now at.0 at.1 source }
 {
+    let (session, place) = at;
     let Some(last) = last_within(graph, writers, session, place) else {
         return true;
     };
@@ -90,7 +90,7 @@ fn stand_before(
     ensures { IsTrue result → StandAllBefore graph.now positions.now clock.now writers.now source }
 {
     for (session, place) in clock.iter().enumerate() {
-        if !stands_before(graph, positions, writers, session as u32, *place, source) {
+        if !stands_before(graph, positions, writers, (session as u32, *place), source) {
             return false;
         }
     }

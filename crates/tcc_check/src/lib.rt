@@ -29,5 +29,5 @@ pub use judgement::{Claim, Judgement};
 pub use links::first_wrong_link;
 pub use sizes::are_links_below;
 pub use stream_fault::StreamFault;
-pub use streaming::{check_stream, claim_in, judge_parts, judge_stream};
+pub use streaming::{Judging, check_stream, claim_in, judge_parts, judge_stream};
 pub use verdict::{Rule, Verdict};

@@ -48,9 +48,7 @@ pub(crate) fn readings_of(
 {
     let mut readings = Vec::new(alloc);
     for key_index in 0..graph.keys().len() {
-        let Ok(key_index) = u32::try_from(key_index) else {
-            return Err(NoMemory);
-        };
+        let key_index = u32::try_from(key_index).map_err(|_| NoMemory)?;
         readings.push(readings_at(alloc, graph, key_index)?)?;
     }
     Ok(readings)

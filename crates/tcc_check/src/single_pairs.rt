@@ -88,7 +88,7 @@ fn session_stands(
     if place == 0 {
         return true;
     }
-    stands_before(graph, positions, writers, session, place - 1, source)
+    stands_before(graph, positions, writers, (session, place - 1), source)
 }
 
 /// Whether none of its session stands behind what `c` reads, at a key that it writes too.

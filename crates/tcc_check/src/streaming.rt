@@ -1,13 +1,13 @@
 //! The judgement of a certificate as its text comes.
 ghost use Rattle.std.specs.Prelude.{◌≡◌, ◌≤◌, ◌++◌, IfSome, List, MatchOption, false, true, length, map, ℕ};
-ghost use Rattle.tcc_txn.specs.declared.limits.TheConstants.{MAX_COUNT, MAX_SESSIONS};
+ghost use Rattle.tcc_txn.specs.declared.limits.TheConstants.{MAX_COUNT};
 ghost use Rattle.tcc_reads.specs.History.{count};
 ghost use Rattle.tcc_cert.specs.{Ahead.IsAhead, Ahead.is_new, CycleRules.HasRightSizes};
 ghost use Rattle.tcc_cert.specs.Parts.{Parts, parts_read, with_tables};
 ghost use Rattle.tcc_cert.specs.declared.part.Part.TheVariants as part;
 ghost use Rattle.tcc_graph.specs.declared.link.Link.{Link};
 ghost use Rattle.tcc_check.specs.private.Coming.{Finishes, Leaves, sized};
-ghost use Rattle.tcc_check.specs.private.Judged.{IsClaimJudged, IsCycleJudged, IsOrderJudged};
+ghost use Rattle.tcc_check.specs.private.Judged.{IsClaimJudged, IsCycleJudged};
 ghost use Rattle.tcc_check.specs.Streams.{IsClaimed, IsJudged, IsStreamed};
 
 use crate::coming::{clock_rows, ends, next_part};
@@ -19,8 +19,11 @@ use crate::verdict::{Rule, first_rejected, rejected};
 use crate::{Claim, Judgement, StreamFault, Verdict};
 use std::alloc::Global;
 use std::io::Read;
-use tcc_cert::{CertReader, CycleHead, OrderHead, Part};
+use tcc_cert::{CertReader, CycleHead, Part};
 use tcc_graph::{Graph, LargeGraph};
+
+/// A claim and the verdict on it, or why there is none.
+pub type Judging = Result<Judgement, StreamFault>;
 
 /// What the rules behind that on sizes say of a claim that a cycle is least, whose links and tables come; none where the
 /// rule on sizes is broken.
@@ -75,7 +78,7 @@ fn judge_cycle<R: Read>(
     graph: &LargeGraph,
     parts: &mut CertReader<R>,
     head: CycleHead,
-) -> Result<Judgement, StreamFault>
+) -> Judging
     requires { count graph.now ≤ MAX_COUNT }
     ensures { (ahead : Parts) → IsAhead R.remaining parts.old ahead → Finishes ahead (IsCycleJudged graph.now head ahead) result }
 {
@@ -86,35 +89,18 @@ fn judge_cycle<R: Read>(
     Ok(Judgement { claim, verdict })
 }
 
-/// Judges a claim that a list is a commit order, whose clocks come.
-fn judge_order<R: Read>(
-    alloc: Global,
-    graph: &LargeGraph,
-    parts: &mut CertReader<R>,
-    head: OrderHead,
-) -> Result<Judgement, StreamFault>
-    requires few { count graph.now ≤ MAX_COUNT }
-    requires few_sessions { length graph.now.sessions ≤ MAX_SESSIONS }
-    requires begun { is_new parts.old ≡ false }
-    ensures { (ahead : Parts) → IsAhead R.remaining parts.old ahead → Finishes ahead (IsOrderJudged graph.now head ahead) result }
-{
-    let clocks = clock_rows(alloc, parts)?;
-    let verdict = order_verdict(alloc, graph, &head.with_clocks(clocks))?;
-    let claim = Claim::Order;
-    Ok(Judgement { claim, verdict })
-}
-
 /// Judges the certificate whose parts a new reader gives, as `judge_stream` does that of a text.
-pub fn judge_parts<R: Read>(
-    alloc: Global,
-    graph: &Graph,
-    parts: &mut CertReader<R>,
-) -> Result<Judgement, StreamFault>
+pub fn judge_parts<R: Read>(alloc: Global, graph: &Graph, parts: &mut CertReader<R>) -> Judging
     requires { is_new parts.old ≡ true }
     ensures { (bytes : List ℕ) → IsAhead R.remaining parts.old (parts_read bytes) → IsJudged graph.now bytes result }
 {
     match next_part(alloc, parts)? {
-        Part::Order(head) => judge_order(alloc, graph, parts, head),
+        Part::Order(head) => {
+            let clocks = clock_rows(alloc, parts)?;
+            let verdict = order_verdict(alloc, graph, &head.with_clocks(clocks))?;
+            let claim = Claim::Order;
+            Ok(Judgement { claim, verdict })
+        }
         Part::Cycle(head) => judge_cycle(alloc, graph, parts, head),
         Part::Link(_) | Part::Clocks(_) | Part::Near(_) | Part::Far(_) | Part::End => {
             unreachable!()
@@ -151,11 +137,7 @@ pub fn claim_in<R: Read>(alloc: Global, parts: &mut CertReader<R>) -> Result<Cla
 
 /// Judges the certificate whose text the reader gives, as it comes: what it claims, and the verdict of the rules on it,
 /// or the fault of the text. One link is held at a time, and of each table one row.
-pub fn judge_stream<R: Read + Drop>(
-    alloc: Global,
-    graph: &Graph,
-    reader: R,
-) -> Result<Judgement, StreamFault>
+pub fn judge_stream<R: Read + Drop>(alloc: Global, graph: &Graph, reader: R) -> Judging
     ensures { IfSome (R.remaining reader) (λ bytes. IsJudged graph.now bytes result) }
 {
     judge_parts(alloc, graph, &mut CertReader::new(reader))

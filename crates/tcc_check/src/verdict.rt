@@ -8,24 +8,24 @@ ghost use Rattle.tcc_check.specs.declared.verdict.Verdict.TheVariants as verdict
 #[derive(Clone, Copy, Debug, PartialEq, Eq)]
 pub enum Rule {
     /// The tables have the sizes of the history, and no number is out of its range.
-    Sizes,
+    Sizes = 1,
     /// The links are those of the history at the level, one at least, close a cycle, and cost what is claimed.
-    Links,
+    Links = 2,
     /// Causal pairs are no farther than 1.
-    NearPairs,
+    NearPairs = 3,
     /// One more causal pair takes no more than one more step; not asked at `Atomic`.
-    NearSteps,
+    NearSteps = 4,
     /// A single link takes no more than it costs.
-    FarLinks,
+    FarLinks = 5,
     /// One more link takes no more than it costs.
-    FarSteps,
+    FarSteps = 6,
     /// No way back is cheaper than the cycle.
-    Returns,
+    Returns = 7,
     /// Each number stands in the order once, and every causal pair is kept; at `Causal` by the clocks too.
-    Pairs,
+    Pairs = 8,
     /// What is contradicted stands behind what contradicts it: at `Causal` as far as the clocks tell, at `Atomic` by a
     /// single pair.
-    Axiom,
+    Axiom = 9,
 }
 
 impl Rule {
@@ -33,17 +33,7 @@ impl Rule {
     pub fn number(&self) -> u32
         ensures { result ≡ rule_number self.now }
     {
-        match self {
-            Rule::Sizes => 1,
-            Rule::Links => 2,
-            Rule::NearPairs => 3,
-            Rule::NearSteps => 4,
-            Rule::FarLinks => 5,
-            Rule::FarSteps => 6,
-            Rule::Returns => 7,
-            Rule::Pairs => 8,
-            Rule::Axiom => 9,
-        }
+        *self as u32
     }
 }
 

@@ -80,67 +80,32 @@ fn a_stale_read(rt: HostRuntime) {
     let smaller = "cycle 2 2 3\nS 0 1\nD 1 0 x 2 1\nS 1 2\n";
     let outside = "cycle 3 2 3\nS 0 1\nD 1 0 x 2 1\nS 1 3\n";
     let near = "3 1 1\n3 3 1\n3 3 3\n";
+    let few = "3 1\n3 3\n";
     let below = "3 1 1\n0 3 1\n3 3 3\n";
+    let distant = "3 2 1\n3 3 1\n3 3 3\n";
     let far = "3 1 1\n2 3 1\n3 3 3\n";
+    let less = "3 1\n2 3\n";
+    let above = "3 1 1\n2 4 1\n3 3 3\n";
+    let cheap = "3 1 1\n2 3 1\n3 3 2\n";
     let upward = "3 1 1\n3 1\n3\n";
+    let dear_up = "3 1 1\n3 2\n3\n";
+    let cheap_up = "3 1 1\n3 1\n2\n";
     let rows: &[Row] = &[
         ("1", links, near, far, None),
-        (
-            "1",
-            smaller,
-            "3 1\n3 3\n",
-            "3 1\n2 3\n",
-            Some((Sizes, 0, 0)),
-        ),
+        ("1", smaller, few, less, Some((Sizes, 0, 0))),
         ("1", outside, near, far, Some((Sizes, 0, 0))),
-        (
-            "1",
-            links,
-            near,
-            "3 1 1\n2 4 1\n3 3 3\n",
-            Some((Sizes, 0, 0)),
-        ),
+        ("1", links, near, above, Some((Sizes, 0, 0))),
         ("1", elsewhere, near, far, Some((Links, 2, 0))),
-        (
-            "1",
-            links,
-            "3 2 1\n3 3 1\n3 3 3\n",
-            far,
-            Some((NearPairs, 0, 1)),
-        ),
+        ("1", links, distant, far, Some((NearPairs, 0, 1))),
         ("1", links, below, far, Some((NearSteps, 1, 1))),
-        (
-            "1",
-            links,
-            near,
-            "3 1 1\n3 3 1\n3 3 3\n",
-            Some((FarLinks, 1, 0)),
-        ),
-        (
-            "1",
-            links,
-            near,
-            "3 1 1\n2 3 1\n3 3 2\n",
-            Some((Returns, 2, 2)),
-        ),
+        ("1", links, near, near, Some((FarLinks, 1, 0))),
+        ("1", links, near, cheap, Some((Returns, 2, 2))),
         ("1 atomic", links, near, far, None),
         ("1 atomic", links, below, far, None),
         ("2 causal", links, near, upward, None),
         ("2 causal", links, below, upward, Some((NearSteps, 1, 1))),
-        (
-            "2 causal",
-            links,
-            near,
-            "3 1 1\n3 2\n3\n",
-            Some((FarLinks, 1, 2)),
-        ),
-        (
-            "2 causal",
-            links,
-            near,
-            "3 1 1\n3 1\n2\n",
-            Some((Returns, 2, 2)),
-        ),
+        ("2 causal", links, near, dear_up, Some((FarLinks, 1, 2))),
+        ("2 causal", links, near, cheap_up, Some((Returns, 2, 2))),
         ("2 atomic", links, near, upward, None),
     ];
     assert_cycles(&rt, rt.alloc(), STALE, rows);
@@ -185,12 +150,15 @@ fn a_session_of_three(rt: HostRuntime) {
     use Rule::{FarSteps, NearSteps};
     let links = "cycle 4 2 3\nS 0 1\nD 1 0 x 2 1\nS 1 2\n";
     let near = "3 1 1 1\n3 3 1 1\n3 3 3 1\n3 3 3 3\n";
-    let skipped = "3 1 1 1\n3 3 1 1\n3 3 3 1\n3 0 1 2\n";
     let far = "3 1 1 1\n2 3 1 1\n3 3 3 1\n3 3 3 3\n";
-    let leapt = "3 1 1 1\n2 3 1 1\n3 3 3 1\n2 0 1 2\n";
     let rows: &[Row] = &[
         ("1", links, near, far, None),
         ("2 causal", links, near, "3 1 1 1\n3 1 1\n3 1\n3\n", None),
+    ];
+    assert_cycles(&rt, rt.alloc(), LONGER, rows);
+    let skipped = "3 1 1 1\n3 3 1 1\n3 3 3 1\n3 0 1 2\n";
+    let leapt = "3 1 1 1\n2 3 1 1\n3 3 3 1\n2 0 1 2\n";
+    let rows: &[Row] = &[
         ("1", links, skipped, far, Some((NearSteps, 3, 3))),
         ("1", links, near, leapt, Some((FarSteps, 3, 3))),
     ];

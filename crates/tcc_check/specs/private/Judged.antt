@@ -5,11 +5,10 @@ use Rattle.tcc_graph.specs.Levels.{judged as judged_at}
 use Rattle.tcc_graph.specs.declared.level.Level.{Level}
 use Rattle.tcc_graph.specs.declared.link.Link.{Link}
 use Rattle.tcc_cert.specs.CycleRules.{HasRightSizes, IsLinkBelow, BreaksNearPair, BreaksNearStep, BreaksFarLink, BreaksFarStep, BreaksReturn}
-use Rattle.tcc_cert.specs.Parts.{Parts, with_clocks, with_tables}
+use Rattle.tcc_cert.specs.Parts.{Parts, with_tables}
 use Rattle.tcc_cert.specs.Tables.{row_of}
 use Rattle.tcc_cert.specs.declared.certificate.CycleClaim.{CycleClaim}
 use Rattle.tcc_cert.specs.declared.part.CycleHead.{CycleHead}
-use Rattle.tcc_cert.specs.declared.part.OrderHead.{OrderHead}
 use Rattle.tcc_cert.specs.declared.part.Part.{Part}
 use Rattle.tcc_cert.specs.declared.part.Part.TheVariants as part
 use Rattle.tcc_cert.specs.declared.version.Version.{Version}
@@ -24,7 +23,7 @@ use Rattle.tcc_check.specs.declared.verdict.Verdict.{Verdict}
 use Rattle.tcc_check.specs.private.Coming.{IsFarRight, IsNearFoundTo, near_verdict}
 use Rattle.tcc_check.specs.private.Pairs.{AreOrderly}
 use Rattle.tcc_check.specs.private.Runs.{AreRuns}
-use Rattle.tcc_check.specs.Verdicts.{bounds_rules, cycle_rules, order_rules}
+use Rattle.tcc_check.specs.Verdicts.{bounds_rules, cycle_rules}
 use Rattle.tcc_check.specs.Asked.{Asked, IsVerdictOf, at_each, of_links}
 use Rattle.tcc_check.specs.private.WeightsFrom.{AreAllEnds, AreEndsTo, WeighsFrom}
 
@@ -93,8 +92,3 @@ pub record IsCycleJudged (h : History) (head : CycleHead) (ahead : Parts) (judge
   pub answer : (links : List Link) (near far : List (List ℕ)) → length links ≡ head.links → length near ≡ head.count
       → ahead.parts ≡ map part.Link links ++ (map part.Near near ++ map part.Far far)
       → IsVerdictOf (cycle_rules h (with_tables head links near far)) judgement.verdict
-
--- and of a claim that a list is a commit order, with the clocks that come
-pub record IsOrderJudged (h : History) (head : OrderHead) (ahead : Parts) (judgement : Judgement) : Type 0 where
-  pub same : judgement.claim ≡ claim.Order
-  pub answer : (clocks : List (List ℕ)) → ahead.parts ≡ map part.Clocks clocks → IsVerdictOf (order_rules h (with_clocks head clocks)) judgement.verdict

@@ -1,5 +1,4 @@
-use Rattle.std.proofs.Common.{◌<◌, [], arith}
-use Rattle.tcc_reads.specs.History.{count}
+use Rattle.std.proofs.Common.{arith}
 use Rattle.tcc_check.proofs.LinksFrom.{no-source, readers-below, readers-of, one-source, all-sources}
 use Rattle.tcc_check.proofs.links_from.lower_sources.Goals as goal
 

@@ -1,5 +1,5 @@
 -- Where nothing is linked, who reads from the start is marked.
-use Rattle.std.proofs.Common.{◌≡◌, ◌<◌, [], length, rules, ap, ◌∙◌}
+use Rattle.std.proofs.Common.{◌≡◌, length, rules, ap, ◌∙◌}
 use Rattle.std.proofs.lemmas.List.{length-replicate}
 use Rattle.tcc_reads.specs.History.{count}
 use Rattle.tcc_txn.proofs.Lists.{whole}

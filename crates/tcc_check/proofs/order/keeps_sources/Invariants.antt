@@ -1,4 +1,4 @@
-use Rattle.std.proofs.Common.{◌<◌, ℕ, List, get_or}
+use Rattle.std.proofs.Common.{◌<◌, ℕ, get_or}
 use Rattle.tcc_check.specs.private.Positions.{IsKept}
 use Rattle.tcc_check.proofs.order.keeps_sources.Given as goal
 

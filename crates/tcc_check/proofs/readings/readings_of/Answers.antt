@@ -13,7 +13,7 @@ pub loop-key_index-preserved : goal.loop-key_index-preserved
 loop-key_index-preserved c =
     let h = c.args.graph.now in
     let made = c.in_ok-readings_at.field-0 in
-    let same : c.in-Ok.key_index ≡ c.loop-key_index.key_index = search rules in
+    let same : c.in_ok-key_index.key_index ≡ c.loop-key_index.key_index = search rules in
     let here : IfSome made (AreReadingsAt h c.loop-key_index.key_index) = rw same at c.in_ok-readings_at.ensures in
     let pushed : c.push.new.self.items ≡ c.loop-key_index.readings.items ++ made ∷ [] = search rules in
     rw pushed (more-readings c.loop-key_index.key_index h c.loop-key_index.readings.items made here c.loop-key_index.invariant)

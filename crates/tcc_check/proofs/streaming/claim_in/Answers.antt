@@ -1,13 +1,11 @@
 -- The claim, and then the end.
-use Rattle.std.proofs.lemmas.Result.{err_from_is_err_and}
 use Rattle.tcc_cert.specs.Parts.{parts_read}
-use Rattle.tcc_check.proofs.JudgedFacts.{cycle-told, order-told, stream-fault}
+use Rattle.tcc_check.specs.Streams.{IsClaimed}
+use Rattle.tcc_check.proofs.JudgedFacts.{cycle-told, faulted, order-told, stream-fault}
 use Rattle.tcc_check.proofs.streaming.claim_in.Goals as goal
 
 pub returns-in_err-_head : goal.returns-in_err-_head
-returns-in_err-_head g c bytes is =
-    let p = err_from_is_err_and c.from_residual.result c.from_residual.ensures.1 in
-    rw (p.1, p.2) (stream-fault bytes _ (c.in_err-_head.ensures.parts (parts_read bytes) is))
+returns-in_err-_head g c bytes is = faulted (IsClaimed bytes) _ c.from_residual.result c.from_residual.ensures.1 (stream-fault bytes _ (c.in_err-_head.ensures.parts (parts_read bytes) is))
 
 pub returns-in-Order : goal.returns-in-Order
 returns-in-Order g c bytes is =
