@@ -121,7 +121,6 @@ pub fn put_row(
     numbers: &[u32],
     c: u32,
 ) -> Result<(), NoMemory>
-    requires numbered { IsBySession graph.now.entries }
     requires owners { AreOwners graph.now owners.now }
     requires inside { All (λ p. p < count graph.now) numbers.now }
     requires long { length table.old ≡ count graph.now }
@@ -134,6 +133,7 @@ pub fn put_row(
         table.share(c, other);
         return Ok(());
     }
+    graph.numbered();
     let row = row_with(side, graph, owners, from, table, numbers);
     table.put_like(c, &row, numbers)
 }

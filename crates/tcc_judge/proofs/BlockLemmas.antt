@@ -1,5 +1,5 @@
 -- What is known at a place of a pass.
-use Rattle.std.proofs.Common.{ℕ, ◌≡◌, ◌<◌, ◌+◌, ◌-◌, List, length, subst, arith}
+use Rattle.std.proofs.Common.{ℕ, ◌≡◌, List, length}
 use Rattle.tcc_reads.specs.History.{History, count}
 use Rattle.tcc_graph.specs.Keys.{keys}
 use Rattle.tcc_judge.specs.declared.blocks.Block.{Block}
@@ -10,15 +10,6 @@ wide_at h order place block at = record {
   clocks = record { long = at.clocks.long; wide = λ k l. (at.clocks.each k l l).wide };
   next = record { long = at.next.long; wide = at.next.wide };
 }
-
--- so many places from the end
-pub at_place : (h : History) (order : List ℕ) (behind : ℕ) (block : Block) → behind < length order → IsAt h order (length order - behind) block
-    → IsAt h order (length order - 1 - behind + 1) block
-at_place h order behind block inside at = subst (λ (p : ℕ). IsAt h order p block) (omega arith) at
-
-pub at_next : (h : History) (order : List ℕ) (behind : ℕ) (block : Block) → IsAt h order (length order - 1 - behind) block
-    → IsAt h order (length order - (behind + 1)) block
-at_next h order behind block at = subst (λ (p : ℕ). IsAt h order p block) (omega arith) at
 
 -- with other clocks and next writers it is ready too
 pub still_ready : (h : History) (order : List ℕ) (old new : Block) → IsReady h order old → new.owners ≡ old.owners → new.steps ≡ old.steps

@@ -94,16 +94,8 @@ module _ (key_indices : List ℕ) (i session number : ℕ) (old table : List (Li
 -- a next writer behind one place is one behind each that it stands at or behind
 from_place : (h : History) (order x : List ℕ) (session b place other : ℕ) → (w : IsNextWriter h order x session place b) → other ≤ w.index
     → IsNextWriter h order x session other b
-from_place h order x session b place other w behind = record {
-  committed = w.committed;
-  below = w.below;
-  owned = w.owned;
-  writes = w.writes;
-  index = w.index;
-  behind = behind;
-  inside = w.inside;
-  here = w.here;
-}
+from_place h order x session b place other w behind =
+    record { committed = w.committed; below = w.below; owned = w.owned; writes = w.writes; index = w.index; behind = behind; inside = w.inside; here = w.here }
 
 module _ (h : History) (order : List ℕ) (from place : ℕ) (inside : place < length order) where
   still_next : (x : List ℕ) (session b : ℕ) → IsNextWriter h order x session (place + 1) b → IsNextWriter h order x session place b

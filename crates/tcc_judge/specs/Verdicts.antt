@@ -18,15 +18,7 @@ use Rattle.tcc_judge.specs.declared.verdict.Rule.{Rule}
 use Rattle.tcc_judge.specs.declared.verdict.Rule.TheVariants.{Sizes, Links, ShortPairs, ShortLinks, Onward, Limits, Cheaper, Pairs, Axiom}
 
 abbrev pub rule_number : Rule → ℕ
-rule_number Sizes = 1
-rule_number Links = 2
-rule_number ShortPairs = 3
-rule_number ShortLinks = 4
-rule_number Onward = 5
-rule_number Limits = 6
-rule_number Cheaper = 7
-rule_number Pairs = 8
-rule_number Axiom = 9
+rule_number = elim [ Sizes ↦ 1 | Links ↦ 2 | ShortPairs ↦ 3 | ShortLinks ↦ 4 | Onward ↦ 5 | Limits ↦ 6 | Cheaper ↦ 7 | Pairs ↦ 8 | Axiom ↦ 9 ]
 
 -- the sizes are those of the history, and the runs of each session come to its committed transactions
 pub record HasOrderSizes (h : History) (k : RunsClaim) : Type 0 where

@@ -83,8 +83,7 @@ fn first_of_block(
     ensures found { IfOk result (IsFoundFirst (IsBrokenIn graph.now order.now block.old.from)) }
 {
     let mut found = None;
-    for behind in 0..order.len() {
-        let place = order.len() - 1 - behind;
+    for place in (0..order.len()).rev() {
         let b = least_behind(graph, block, order, place);
         found = first_with(found, b, order[place]);
         block.go_back(graph, order, place)?;

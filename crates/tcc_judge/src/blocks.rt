@@ -1,11 +1,12 @@
 //! Blocks of 64 sessions, one after the other, and for each of them a pass back along an order of the causal pairs: with the vector
 //! clocks of the block, and of each key and each of its sessions the next writer behind a place. For N transactions, R reads, W writes
 //! and S sessions that takes some 64 (N + 2 R) + W steps a block, all of them maxima and comparisons of rows.
-ghost use Rattle.std.specs.Prelude.{◌≡◌, ◌<◌, ◌+◌, ◌*◌, length, IfOk, OnOk};
-ghost use Rattle.tcc_clocks.specs.{Clocks.LeadsOnward, declared.latest.TheConstants.WIDE};
-ghost use Rattle.tcc_judge.specs.{private.Blocks.IsAt, private.Blocks.IsReady, private.Decoding.IsOrdered};
+ghost use Rattle.std.specs.Prelude.{◌≡◌, ◌<◌, ◌+◌, ◌*◌, length, IfOk, MatchOption, OnOk};
+ghost use Rattle.tcc_clocks.specs.{Clocks.IsOutside, Clocks.LeadsOnward, declared.latest.TheConstants.WIDE};
+ghost use Rattle.tcc_judge.specs.private.Decoding.{IsOrdered};
+ghost use Rattle.tcc_judge.specs.private.Blocks.{IsAt, IsInLane, IsReady};
 
-use crate::next_writers::{NextWriters, note_writer};
+use crate::next_writers::{NextWriters, lower_all};
 use std::alloc::Global;
 use tcc_clocks::{SharedRows, Steps, WIDE, find_clocks, owners, previous_of_each, steps_along};
 use tcc_graph::LargeGraph;
@@ -74,6 +75,21 @@ impl Block {
         Ok(())
     }
 
+    /// The index of a transaction's session in the block; none of one that is outside.
+    fn lane_of(&self, a: u32) -> Option<usize>
+        requires { a < length self.now.owners.items }
+        ensures { MatchOption result
+            (IsOutside self.now.owners.items self.now.from a)
+            (IsInLane self.now.owners.items self.now.from a) }
+    {
+        let lane = self.owners[a as usize].checked_sub(self.from)? as usize;
+        if a > 0 && lane < WIDE {
+            Some(lane)
+        } else {
+            None
+        }
+    }
+
     /// Goes back to a place.
     pub(crate) fn go_back(
         &mut self,
@@ -86,7 +102,11 @@ impl Block {
         ensures from { self.new.from ≡ self.old.from }
         ensures at { OnOk result (IsAt graph.now order.now place self.new) }
     {
-        note_writer(&mut self.next, graph, &self.owners, self.from, order, place)?;
+        let a = order[place];
+        let Some(lane) = self.lane_of(a) else {
+            return Ok(());
+        };
+        lower_all(&mut self.next, graph.writes_at(a), lane, a)?;
         Ok(())
     }
 }

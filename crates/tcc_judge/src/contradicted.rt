@@ -141,8 +141,7 @@ fn note_block(
     ensures stale_same { length stale.new ≡ length stale.old }
     ensures noted { OnOk result (AreContradictedTo graph.now order.now positions.now (block.old.from + WIDE) lasts.new stale.new) }
 {
-    for behind in 0..order.len() - 1 {
-        let place = order.len() - 1 - behind;
+    for place in (1..order.len()).rev() {
         let last = last_contradicted(graph, block, positions, order, place);
         lasts[place] = last.max(lasts[place]);
         block.go_back(graph, order, place)?;

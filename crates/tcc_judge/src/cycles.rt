@@ -8,8 +8,8 @@ ghost use Rattle.tcc_check.specs.Asked.{IsVerdictOf};
 use crate::decoding::told;
 use crate::links::judge_links;
 use crate::onward::onward_verdict;
-use crate::verdict::rejected;
-use crate::{Rule, Verdict};
+use crate::verdict::{rejected, rejected_at};
+use crate::{Judging, Rule, Verdict};
 use std::alloc::Global;
 use tcc_cert::{LinksClaim, Run};
 use tcc_check::are_links_below;
@@ -65,18 +65,8 @@ fn short_verdict(graph: &LargeGraph, cost: u32) -> Verdict
     ensures { (level : Level) (runs : List Run) → IsVerdictOf (least_rules graph.now level cost runs) result }
 {
     match short_cycle(graph, u64::from(cost)) {
-        Some(ShortCycle::Round { from, to }) => {
-            Verdict::Rejected {
-                rule: Rule::ShortPairs,
-                at: (from, to),
-            }
-        }
-        Some(ShortCycle::Return { from, to }) => {
-            Verdict::Rejected {
-                rule: Rule::ShortLinks,
-                at: (from, to),
-            }
-        }
+        Some(ShortCycle::Round { from, to }) => rejected_at(Rule::ShortPairs, (from, to)),
+        Some(ShortCycle::Return { from, to }) => rejected_at(Rule::ShortLinks, (from, to)),
         None => Verdict::Accepted,
     }
 }
@@ -88,7 +78,7 @@ fn least_verdict(
     level: Level,
     cost: u32,
     runs: &[Run],
-) -> Result<Verdict, NoMemory>
+) -> Judging
     requires { AreNeeded graph.now cost runs.now }
     ensures { IfOk result (IsVerdictOf (least_rules graph.now level cost runs.now)) }
 {
@@ -105,11 +95,7 @@ fn least_verdict(
 /// Accepts the claim exactly where the links are a cycle of its cost and its level, and, where that is claimed, no cycle costs
 /// less; otherwise names the first broken rule and where. That no cycle costs less is decided up to a cost of 4 at once, and past that
 /// within the limits of its rule, with the runs of an order that keeps all pairs.
-pub fn judge_cycle(
-    alloc: Global,
-    graph: &LargeGraph,
-    claim: &LinksClaim,
-) -> Result<Verdict, NoMemory>
+pub fn judge_cycle(alloc: Global, graph: &LargeGraph, claim: &LinksClaim) -> Judging
     ensures { IfOk result (IsVerdictOf (cycle_rules graph.now claim.now)) }
 {
     if !has_links_sizes(alloc, graph, claim)? {

@@ -24,4 +24,4 @@ pub use claims::judge;
 pub use cycles::judge_cycle;
 pub use links::judge_links;
 pub use ordering::judge_order;
-pub use verdict::{Rule, Verdict};
+pub use verdict::{Judging, Rule, Verdict};

@@ -3,24 +3,19 @@ ghost use Rattle.std.specs.Prelude.{IfOk};
 ghost use Rattle.tcc_judge.specs.Verdicts.{links_rules};
 ghost use Rattle.tcc_check.specs.Asked.{IsVerdictOf};
 
-use crate::{Rule, Verdict};
+use crate::verdict::rejected_at;
+use crate::{Judging, Rule, Verdict};
 use tcc_cert::LinksClaim;
 use tcc_check::first_wrong_link;
 use tcc_graph::LargeGraph;
-use tcc_txn::NoMemory;
 
 /// Accepts the links exactly where they are a cycle of the level and cost what is claimed; otherwise names the first wrong one.
-pub fn judge_links(graph: &LargeGraph, claim: &LinksClaim) -> Result<Verdict, NoMemory>
+pub fn judge_links(graph: &LargeGraph, claim: &LinksClaim) -> Judging
     ensures { IfOk result (IsVerdictOf (links_rules graph.now claim.now)) }
 {
     let links = claim.links.as_slice();
     match first_wrong_link(graph, claim.level, claim.cost, links)? {
-        Some(at) => {
-            Ok(Verdict::Rejected {
-                rule: Rule::Links,
-                at: (at, 0),
-            })
-        }
+        Some(at) => Ok(rejected_at(Rule::Links, (at, 0))),
         None => Ok(Verdict::Accepted),
     }
 }

@@ -1,16 +1,13 @@
 //! Of each key and each session of a block the next writer behind a place of an order, along the order backwards.
-ghost use Rattle.std.specs.Prelude.{◌≡◌, ◌<◌, ◌+◌, ℕ, List, length, set, All, IfOk, OnOk, replicate};
+ghost use Rattle.std.specs.Prelude.{◌≡◌, ◌<◌, ℕ, List, length, set, All, IfOk, OnOk, replicate};
 ghost use Rattle.tcc_graph.specs.Tables.{row_of};
-ghost use Rattle.tcc_judge.specs.declared.least.TheConstants.{NONE};
-ghost use Rattle.tcc_judge.specs.private.NextWriters.{AreLowered, AreNextWriters, lowered};
-ghost use Rattle.tcc_clocks.specs.{declared.latest.TheConstants.WIDE, Clocks.AreOwners};
-ghost use Rattle.tcc_reads.specs.History.{count};
+ghost use Rattle.tcc_judge.specs.{declared.least.TheConstants.NONE, private.NextWriters.AreLowered, private.NextWriters.lowered};
+ghost use Rattle.tcc_clocks.specs.declared.latest.TheConstants.{WIDE};
 
 use crate::least::NONE;
 use std::alloc::{AllocError, Global};
 use std::marker::Model;
 use tcc_clocks::{Clock, WIDE};
-use tcc_graph::LargeGraph;
 use tcc_txn::NoMemory;
 
 /// A row for each key, which contracts see as a list of lists. One row, held once, is that of all keys that nobody was noted for.
@@ -88,7 +85,7 @@ impl NextWriters {
 }
 
 /// Lowers the number of these keys and a session to this one.
-fn lower_all(
+pub(crate) fn lower_all(
     next: &mut NextWriters,
     key_indices: &[u32],
     session: usize,
@@ -102,33 +99,5 @@ fn lower_all(
     for key_index in key_indices {
         next.lower(*key_index, session, number)?;
     }
-    Ok(())
-}
-
-/// Notes the transaction at a place of the order as the next writer of its keys, where it is of a session of the block.
-pub(crate) fn note_writer(
-    next: &mut NextWriters,
-    graph: &LargeGraph,
-    owners: &[u32],
-    from: u32,
-    order: &[u32],
-    place: usize,
-) -> Result<(), NoMemory>
-    requires owners { AreOwners graph.now owners.now }
-    requires inside { place < length order.now }
-    requires below { All (λ a. a < count graph.now) order.now }
-    requires next { AreNextWriters graph.now order.now from (place + 1) next.old }
-    ensures { OnOk result (AreNextWriters graph.now order.now from place next.new) }
-{
-    let a = order[place];
-    let owner = owners[a as usize];
-    if a == 0 || owner < from {
-        return Ok(());
-    }
-    let session = (owner - from) as usize;
-    if session >= WIDE {
-        return Ok(());
-    }
-    lower_all(next, graph.writes_at(a), session, a)?;
     Ok(())
 }

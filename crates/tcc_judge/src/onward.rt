@@ -10,8 +10,8 @@ ghost use Rattle.tcc_check.specs.Asked.{IsVerdictOf};
 use crate::contradicted::contradicted_along;
 use crate::members::{marked, marked_under};
 use crate::turned::kept_positions;
-use crate::verdict::rejected;
-use crate::{Rule, Verdict};
+use crate::verdict::{rejected, rejected_at};
+use crate::{Judging, Rule, Verdict};
 use std::alloc::Global;
 use tcc_graph::{LargeGraph, Level};
 use tcc_lanes::{MOST_MEMBERS, MOST_STEPS, has_cheaper_among, has_cheaper_into_init};
@@ -87,18 +87,13 @@ pub(crate) fn onward_verdict(
     level: Level,
     most: u32,
     order: &[u32],
-) -> Result<Verdict, NoMemory>
+) -> Judging
     requires { IsOrdered graph.now order.now }
     ensures { IfOk result (IsVerdictOf (onward_rules (judged graph.now level) order.now most)) }
 {
     let positions = match kept_positions(alloc, graph, order)? {
         Ok(positions) => positions,
-        Err(at) => {
-            return Ok(Verdict::Rejected {
-                rule: Rule::Onward,
-                at,
-            });
-        }
+        Err(at) => return Ok(rejected_at(Rule::Onward, at)),
     };
     let Some(narrowed) = narrow_down(alloc, graph, order, &positions, most)? else {
         return Ok(rejected(Rule::Limits));

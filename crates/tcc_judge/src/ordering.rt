@@ -9,8 +9,8 @@ use crate::behind::first_behind;
 use crate::decoding::told;
 use crate::singles::first_single;
 use crate::turned::kept_positions;
-use crate::verdict::rejected;
-use crate::{Rule, Verdict};
+use crate::verdict::{rejected, rejected_at};
+use crate::{Judging, Rule, Verdict};
 use std::alloc::Global;
 use tcc_cert::RunsClaim;
 use tcc_graph::{LargeGraph, Level};
@@ -40,24 +40,16 @@ pub(crate) fn pairs_verdict(
     graph: &LargeGraph,
     level: Level,
     order: &[u32],
-) -> Result<Verdict, NoMemory>
+) -> Judging
     requires { IsOrdered graph.now order.now }
     ensures { IfOk result (IsVerdictOf (pair_rules (judged graph.now level) order.now)) }
 {
     let positions = match kept_positions(alloc, graph, order)? {
         Ok(positions) => positions,
-        Err(at) => {
-            return Ok(Verdict::Rejected {
-                rule: Rule::Pairs,
-                at,
-            });
-        }
+        Err(at) => return Ok(rejected_at(Rule::Pairs, at)),
     };
     match first_broken(alloc, graph, level, order, &positions)? {
-        Some(at) => Ok(Verdict::Rejected {
-            rule: Rule::Axiom,
-            at,
-        }),
+        Some(at) => Ok(rejected_at(Rule::Axiom, at)),
         None => Ok(Verdict::Accepted),
     }
 }
@@ -84,11 +76,7 @@ fn claimed_order(
 
 /// Accepts the claim exactly where the runs come to the sizes of the sessions and tell a commit order of the level; otherwise
 /// names the first broken rule and where.
-pub fn judge_order(
-    alloc: Global,
-    graph: &LargeGraph,
-    claim: &RunsClaim,
-) -> Result<Verdict, NoMemory>
+pub fn judge_order(alloc: Global, graph: &LargeGraph, claim: &RunsClaim) -> Judging
     ensures { IfOk result (IsVerdictOf (order_rules graph.now claim.now)) }
 {
     let Some(order) = claimed_order(alloc, graph, claim)? else {

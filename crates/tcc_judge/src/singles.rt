@@ -1,8 +1,8 @@
 //! The first transaction that stands behind another and has to stand before it, at `Atomic`, where single pairs alone are asked of:
 //! for each reading the writers of its key in the reader's session, by halving, and the reader's other sources. For R reads, each
 //! of a transaction with D of them at most, and W writers of a key at most that takes some R D log W steps.
-ghost use Rattle.std.specs.Prelude.{◌≡◌, ◌≤◌, ◌<◌, ◌↔◌, ℕ, length, slice_index, Contains, IfOk, IsTrue, nat_lt, true, false};
-ghost use Rattle.std.specs.List.Sorted.{IsNonDecreasing, IsPartitionPoint};
+ghost use Rattle.std.specs.Prelude.{◌≡◌, ◌≤◌, ◌<◌, ◌↔◌, ℕ, length, slice_index, Contains, IfOk, IsTrue};
+ghost use Rattle.std.specs.List.Sorted.{IsNonDecreasing};
 ghost use Rattle.tcc_reads.specs.History.{IsBySession, count};
 ghost use Rattle.tcc_graph.specs.{Levels.atomically, Relations.IsSessionPair};
 ghost use Rattle.tcc_graph.specs.Keys.{keys, key_at, writers};
@@ -62,25 +62,12 @@ fn first_in_session(
     if writer < reader { writer } else { NONE }
 }
 
-/// How many of ascending numbers are less than `low`.
-fn count_below(numbers: &[u32], low: u32) -> usize
-    requires { IsNonDecreasing numbers.now }
-    ensures bound { result ≤ length numbers.now }
-    ensures point { IsPartitionPoint (λ n. nat_lt n low ≡ true) (λ n. nat_lt n low ≡ false) numbers.now result }
-{
-    numbers.partition_point(|number| *number < low)
-}
-
 /// Whether a transaction is one of these, which ascend.
 fn is_among(numbers: &[u32], number: u32) -> bool
     requires { IsNonDecreasing numbers.now }
     ensures { IsTrue result ↔ Contains numbers.now number }
 {
-    let index = count_below(numbers, number);
-    if index >= numbers.len() {
-        return false;
-    }
-    numbers[index] == number
+    numbers.binary_search(&number).is_ok()
 }
 
 /// The least source of the reader that is one of these writers and stands behind a position.

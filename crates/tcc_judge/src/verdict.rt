@@ -3,12 +3,14 @@ ghost use Rattle.std.specs.Prelude.{◌≡◌};
 ghost use Rattle.tcc_check.specs.declared.verdict.Verdict.TheVariants as verdict;
 ghost use Rattle.tcc_judge.specs.Verdicts.{rule_number};
 
+use tcc_txn::NoMemory;
+
 /// The rules, in the order in which they are judged. Of a claim that runs tell a commit order the first and the last two are
 /// asked, of a claim of a cycle the first two, and where it is claimed to be a least one the first seven.
 #[derive(Clone, Copy, Debug, PartialEq, Eq)]
 pub enum Rule {
     /// The sizes are those of the history, no number is out of its range, and the runs of each session come to its size.
-    Sizes,
+    Sizes = 1,
     /// The links are those of the history at the level, one at least, close a cycle, and cost what is claimed.
     Links,
     /// No two pairs lead round, and where the cost is 4, no three.
@@ -33,26 +35,26 @@ impl Rule {
     pub fn number(&self) -> u32
         ensures { result ≡ rule_number self.now }
     {
-        match self {
-            Rule::Sizes => 1,
-            Rule::Links => 2,
-            Rule::ShortPairs => 3,
-            Rule::ShortLinks => 4,
-            Rule::Onward => 5,
-            Rule::Limits => 6,
-            Rule::Cheaper => 7,
-            Rule::Pairs => 8,
-            Rule::Axiom => 9,
-        }
+        *self as u32
     }
 }
 
 /// What the rules say of a claim.
 pub type Verdict = tcc_check::Verdict<Rule>;
 
+/// A verdict, unless memory ran out.
+pub type Judging = Result<Verdict, NoMemory>;
+
+/// The verdict that this rule is the first broken one, there.
+pub(crate) fn rejected_at(rule: Rule, at: (u32, u32)) -> Verdict
+    ensures { result ≡ verdict.Rejected rule at }
+{
+    Verdict::Rejected { rule, at }
+}
+
 /// The verdict that this rule is the first broken one, of a rule that names nothing.
 pub(crate) fn rejected(rule: Rule) -> Verdict
     ensures { result ≡ verdict.Rejected rule (0, 0) }
 {
-    Verdict::Rejected { rule, at: (0, 0) }
+    rejected_at(rule, (0, 0))
 }

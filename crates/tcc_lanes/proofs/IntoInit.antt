@@ -18,7 +18,7 @@ use Rattle.tcc_lanes.specs.private.Marks.{HasLane, IsAt, AreMarksOf}
 use Rattle.tcc_lanes.specs.private.Walks.{AreWalked}
 use Rattle.tcc_lanes.specs.private.IntoInit.{AreBegun, HasIntoInit, IsIntoInit, IsMetByInit, IsReadOfInit, IsWrittenBy}
 use Rattle.tcc_lanes.proofs.MarkLemmas.{key_of_read}
-use Rattle.tcc_lanes.proofs.Tiles.{IsTile}
+use Rattle.tcc_lanes.specs.private.Tiles.{IsTile}
 use Rattle.tcc_lanes.proofs.WordLemmas.{AreJoined, zeros_nowhere}
 
 -- ---- the lanes of the keys that a transaction writes

@@ -1,5 +1,5 @@
 pub mod WordLemmas
-pub mod Tiles
+pub mod TileLemmas
 pub mod Spread
 pub mod Walked
 pub mod MarkLemmas

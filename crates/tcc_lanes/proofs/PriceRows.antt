@@ -14,7 +14,7 @@ use Rattle.tcc_graph.proofs.Linking.{derived_cost, pair_link, some_cost}
 use Rattle.tcc_graph.proofs.Pairs.{pair_kinds, pair_from_kinds}
 use Rattle.tcc_lanes.specs.declared.pricing.TheConstants.{NONE}
 use Rattle.tcc_lanes.specs.private.Pricing.{ArePriceRows, ArePrices, AreRowsOn, IsPriceRow, IsRowOf, cell}
-use Rattle.tcc_lanes.proofs.Tiles.{IsTile}
+use Rattle.tcc_lanes.specs.private.Tiles.{IsTile}
 
 module _ (h : History) (level : Level) (members starts table : List ℕ) (longest most : ℕ) (prices : ArePrices (judged h level) members starts longest table)
     (far : (walk : List Step) → IsAllowed level walk → length walk + 1 < most → length walk ≤ longest) where

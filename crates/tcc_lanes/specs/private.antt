@@ -4,3 +4,4 @@ pub mod Walking
 pub mod Walks
 pub mod IntoInit
 pub mod Pricing
+pub mod Tiles

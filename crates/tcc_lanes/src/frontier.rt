@@ -5,10 +5,10 @@ ghost use Rattle.tcc_graph.specs.Levels.{judged};
 ghost use Rattle.tcc_clocks.specs.Parents.{ArePrevious};
 ghost use Rattle.tcc_lanes.specs.{declared.words.TheConstants.LANES, private.Marks.IsAt, private.Walking.IsWalkedOn, private.Walking.underway_at, private.Walks.AreWalked};
 
+use crate::marking::Marking;
 use crate::spreading::spread;
 use std::alloc::Global;
 use tcc_graph::{LargeGraph, Level};
-use tcc_txn::NoMemory;
 
 /// The lanes that start at a transaction and, where the level allows longer walks, those that have come to it.
 fn underway_at(level: Level, starts: u64, reached: u64) -> u64
@@ -64,7 +64,7 @@ pub(crate) fn walked(
     parent_of: &[u32],
     begun: &[u64],
     most: u32,
-) -> Result<Vec<u64>, NoMemory>
+) -> Marking
     requires numbered { IsBySession graph.now.entries }
     requires parents { ArePrevious graph.now parent_of.now }
     requires begun { length begun.now ≡ count graph.now }

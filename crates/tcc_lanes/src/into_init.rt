@@ -8,7 +8,8 @@ ghost use Rattle.tcc_lanes.specs.{declared.words.TheConstants.LANES, Among.HasCh
 ghost use Rattle.tcc_lanes.specs.private.IntoInit.{AreBegun, HasIntoInit, IsMetByInit, IsReadOfInit, IsWrittenBy};
 
 use crate::frontier::walked;
-use crate::marking::marks_of;
+use crate::marking::{Marking, marks_of};
+use crate::tiles::tile_at;
 use crate::words::{LANES, shares};
 use std::alloc::Global;
 use tcc_clocks::previous_of_each;
@@ -30,11 +31,7 @@ fn lanes_written(graph: &LargeGraph, key_lanes: &[u64], v: u32) -> u64
 }
 
 /// Each lane at who writes its key.
-fn begun_at_writers(
-    alloc: Global,
-    graph: &LargeGraph,
-    key_lanes: &[u64],
-) -> Result<Vec<u64>, NoMemory>
+fn begun_at_writers(alloc: Global, graph: &LargeGraph, key_lanes: &[u64]) -> Marking
     requires lanes { length key_lanes.now ≡ length (keys graph.now) }
     ensures { IfOk result (λ begun. AreBegun graph.now key_lanes.now begun.items) }
 {
@@ -96,6 +93,7 @@ fn has_into_init(
 
 /// Whether a derived link into `init`, by a reader of one of these keys, and a pair that leads on from there cost less than `most`.
 /// Each key is told by its index.
+#[tactic(auto, using(crate::proofs::TileLemmas::all_in_tile))]
 pub fn has_cheaper_into_init(
     alloc: Global,
     graph: &LargeGraph,
@@ -111,9 +109,7 @@ pub fn has_cheaper_into_init(
     let parent_of = previous_of_each(alloc, graph)?;
     let longest = most.saturating_sub(3);
     for block in 0..key_indices.len().div_ceil(LANES) {
-        let from = block * LANES;
-        let end = key_indices.len().min(from + LANES);
-        let tile = &key_indices[from..end];
+        let tile = tile_at(key_indices, block);
         if has_into_init(alloc, graph, level, &parent_of, tile, longest)? {
             return Ok(true);
         }

@@ -13,6 +13,7 @@ mod price_rows;
 mod pricing;
 mod settling;
 mod spreading;
+mod tiles;
 mod words;
 
 pub use among::has_cheaper_among;

@@ -9,6 +9,9 @@ use std::alloc::Global;
 use tcc_graph::LargeGraph;
 use tcc_txn::NoMemory;
 
+/// A word of marks for each index, unless memory ran out.
+pub(crate) type Marking = Result<Vec<u64>, NoMemory>;
+
 /// Marks a lane at one more index.
 fn mark_at(marks: &mut [u64], index: u32, lane: usize)
     requires inside { index < length marks.old }
@@ -34,7 +37,7 @@ fn mark_each(marks: &mut [u64], indices: &[u32], lane: usize)
 }
 
 /// Each lane at its index alone.
-pub(crate) fn marks_of(alloc: Global, count: usize, indices: &[u32]) -> Result<Vec<u64>, NoMemory>
+pub(crate) fn marks_of(alloc: Global, count: usize, indices: &[u32]) -> Marking
     requires inside { All (λ index. index < count) indices.now }
     requires lanes { length indices.now ≤ LANES }
     ensures { IfOk result (λ marks. AreMarksOf count indices.now (length indices.now) marks.items) }
@@ -47,11 +50,7 @@ pub(crate) fn marks_of(alloc: Global, count: usize, indices: &[u32]) -> Result<V
 }
 
 /// Of each key the lanes whose transaction writes it.
-pub(crate) fn writer_marks(
-    alloc: Global,
-    graph: &LargeGraph,
-    writers: &[u32],
-) -> Result<Vec<u64>, NoMemory>
+pub(crate) fn writer_marks(alloc: Global, graph: &LargeGraph, writers: &[u32]) -> Marking
     requires inside { All (λ b. b < count graph.now) writers.now }
     requires some { All (λ b. 0 < b) writers.now }
     requires lanes { length writers.now ≤ LANES }

@@ -7,6 +7,7 @@ ghost use Rattle.tcc_lanes.specs.private.Pricing.{ArePriceRows, AreRowsOn, IsRow
 
 use crate::meeting::columns_of;
 use crate::pricing::prices_from;
+use crate::tiles::tile_at;
 use crate::words::LANES;
 use std::alloc::Global;
 use tcc_bits::Row;
@@ -82,6 +83,7 @@ fn push_rows(
 }
 
 /// What links among members cost that cost less than `most`: a row for each.
+#[tactic(auto, using(crate::proofs::TileLemmas::all_in_tile))]
 pub(crate) fn price_rows(
     alloc: Global,
     graph: &LargeGraph,
@@ -103,9 +105,7 @@ pub(crate) fn price_rows(
     let longest = longest_walk(level, most);
     let mut rows = Vec::new(alloc);
     for block in 0..members.len().div_ceil(LANES) {
-        let from = block * LANES;
-        let end = members.len().min(from + LANES);
-        let starts = &members[from..end];
+        let starts = tile_at(members, block);
         let table = prices_from(
             alloc, graph, level, &parent_of, &columns, members, starts, longest,
         )?;

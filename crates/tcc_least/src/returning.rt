@@ -145,11 +145,7 @@ fn is_among(numbers: &[u32], number: u32) -> bool
     requires { IsNonDecreasing numbers.now }
     ensures { IsTrue result ↔ Contains numbers.now number }
 {
-    let index = count_below(numbers, number);
-    if index >= numbers.len() {
-        return false;
-    }
-    numbers[index] == number
+    numbers.binary_search(&number).is_ok()
 }
 
 /// Whether a source of a reader overwrites what it reads from another source, and a pair leads there from that one.

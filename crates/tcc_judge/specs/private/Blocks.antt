@@ -1,14 +1,19 @@
 -- What is known of a block of sessions, as a pass goes back along an order.
-use Rattle.std.specs.Prelude.{ℕ, ◌<◌, ◌≡◌, List, length}
+use Rattle.std.specs.Prelude.{ℕ, ◌<◌, ◌≡◌, ◌+◌, List, length, slice_index}
 use Rattle.tcc_reads.specs.History.{History, count}
 use Rattle.tcc_graph.specs.Keys.{keys}
 use Rattle.tcc_clocks.specs.Clocks.{AreClocks, AreOwners, LeadsOnward}
 use Rattle.tcc_clocks.specs.Parents.{AreSteps}
+use Rattle.tcc_clocks.specs.declared.latest.TheConstants.{WIDE}
 use Rattle.tcc_judge.specs.declared.blocks.Block.{Block}
 use Rattle.tcc_judge.specs.declared.least.TheConstants.{NONE}
 use Rattle.tcc_judge.specs.private.Behind.{AreWide}
 use Rattle.tcc_judge.specs.private.Decoding.{IsOrdered}
 use Rattle.tcc_judge.specs.private.NextWriters.{AreNextWriters}
+
+-- a is a committed transaction of this session of the block that begins at `from`
+abbrev pub IsInLane : List ℕ → ℕ → ℕ → ℕ → Type 0
+IsInLane owners from a lane = (lane < WIDE) × (0 < a) × (slice_index owners a ≡ from + lane)
 
 -- a block can begin
 pub record IsReady (h : History) (order : List ℕ) (block : Block) : Type 0 where

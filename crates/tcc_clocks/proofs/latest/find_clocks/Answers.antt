@@ -53,7 +53,5 @@ loop-position-preserved c =
 pub returns : goal.returns
 returns c =
     let h = c.args.graph.now in
-    let from = c.args.from in
-    let order = c.args.order.now in
-    table_whole h (λ c row. AreLatestOf h (IsBefore h c) from row) c.loop-position.table order (λ x l. c.requires.numbering.each x l)
-    (rw (take_all c.loop-position.position order c.loop-position-test.false) at c.loop-position.invariant)
+    table_whole h (λ k row. AreLatestOf h (IsBefore h k) c.args.from row) c.loop-position.table c.args.order.now (λ x l. c.requires.numbering.each x l)
+    (rw (take_all c.loop-position.position c.args.order.now c.loop-position-test.false) at c.loop-position.invariant)

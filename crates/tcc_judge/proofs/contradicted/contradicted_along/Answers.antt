@@ -1,4 +1,4 @@
-use Rattle.std.proofs.Common.{rules, ◌≡◌, ◌≤◌, ◌+◌, ◌*◌, ◌∙◌, ℕ, length, ap, sym, subst, arith}
+use Rattle.std.proofs.Common.{rules, ◌≡◌, ◌≤◌, ◌+◌, ◌*◌, ◌∙◌, length, ap, sym, arith}
 use Rattle.tcc_clocks.specs.declared.latest.TheConstants.{WIDE}
 use Rattle.tcc_judge.specs.private.Contradicted.{AreContradictedTo}
 use Rattle.tcc_judge.proofs.BehindLemmas.{blocks_cover}
@@ -14,23 +14,17 @@ note_block-requires-clause-so_far c = let so_far = c.loop-number.invariant.so_fa
 
 pub loop-number-preserved : goal.loop-number-preserved
 loop-number-preserved c =
-    let h = c.args.graph.now in
-    let order = c.args.order.now in
-    let positions = c.args.positions.now in
-    let inv = c.loop-number.invariant in
-    let from = c.loop-number.number * WIDE in
+    let before = c.loop-number.invariant.so_far in
     let lasts = c.note_block.new.lasts in
     let stale = c.note_block.new.stale in
-    let noted : AreContradictedTo h order positions (from + WIDE) lasts stale = rw c.in_ok-begin.ensures.from at c.in_ok-note_block.ensures.noted in
-    let on : from + WIDE ≡ (c.loop-number.number + 1) * WIDE = omega arith in
-    let as_many : length lasts ≡ length c.loop-number.lasts.items = noted.long ∙ sym inv.so_far.long in
-    let as_many_keys : length stale ≡ length c.loop-number.stale.items = noted.keys_long ∙ sym inv.so_far.keys_long in
+    let on : (c.loop-number.number + 1) * WIDE ≡ c.loop-number.number * WIDE + WIDE = omega arith in
+    let noted : AreContradictedTo c.args.graph.now c.args.order.now c.args.positions.now ((c.loop-number.number + 1) * WIDE) lasts stale
+    = rw (on, ← c.in_ok-begin.ensures.from) c.in_ok-note_block.ensures.noted in
+    let as_many : length lasts ≡ length c.loop-number.lasts.items = noted.long ∙ sym before.long in
+    let as_many_keys : length stale ≡ length c.loop-number.stale.items = noted.keys_long ∙ sym before.keys_long in
     let first = whole lasts c.loop-number.lasts.items c.loop-number.lasts.len as_many c.loop-number.lasts.ok.0 in
     let second = whole stale c.loop-number.stale.items c.loop-number.stale.len as_many_keys c.loop-number.stale.ok.0 in
-    record {
-      ready = c.in_ok-note_block.ensures.ready;
-      so_far = rw (first, second) (subst (λ (f : ℕ). AreContradictedTo h order positions f lasts stale) on noted);
-    }
+    record { ready = c.in_ok-note_block.ensures.ready; so_far = rw (first, second) noted }
 
 pub returns : goal.returns
 returns c =

@@ -9,16 +9,16 @@ use Rattle.tcc_judge.proofs.cycles.short_verdict.Goals as goal
 pub returns-in-Some-Round : goal.returns-in-Some-Round
 returns-in-Some-Round c = λ level runs.
     let place = rw (c.in-Some-Round.is, c.in-Some-Round.field-0-is, c.from.ensures) at c.short_cycle.ensures.place in
-    inl (refl, first_round c.args.graph.now c.args.cost c.requires c.in-Some-Round.from c.in-Some-Round.to place)
+    rw c.rejected_at.ensures (inl (refl, first_round c.args.graph.now c.args.cost c.requires c.in-Some-Round.from c.in-Some-Round.to place))
 
 pub returns-in-Some-Return : goal.returns-in-Some-Return
 returns-in-Some-Return c = λ level runs.
     let place = rw (c.in-Some-Return.is, c.in-Some-Return.field-0-is, c.from.ensures) at c.short_cycle.ensures.place in
     let h = c.args.graph.now in
-    inr (
+    rw c.rejected_at-in-Some-Return.ensures (inr (
       no_round h c.args.cost c.requires place.0,
       inl (refl, first_return h c.args.cost c.requires c.in-Some-Return.from c.in-Some-Return.to place.1 place.2),
-    )
+    ))
 
 pub returns-in-None : goal.returns-in-None
 returns-in-None c = λ level runs.

@@ -4,7 +4,7 @@ use Rattle.tcc_judge.proofs.Leastness.{are_narrowed, none_cheaper, some_cheaper}
 use Rattle.tcc_judge.proofs.onward.onward_verdict.Goals as goal
 
 pub returns-in-Err : goal.returns-in-Err
-returns-in-Err c = inl (refl, rw c.in-Err.is at c.in_ok-positions.ensures)
+returns-in-Err c = rw c.rejected_at.ensures (inl (refl, rw c.in-Err.is at c.in_ok-positions.ensures))
 
 pub narrow_down-requires-clause-kept : goal.narrow_down-requires-clause-kept
 narrow_down-requires-clause-kept c = rw c.deref.ensures.value (rw c.in-Ok.is at c.in_ok-positions.ensures)

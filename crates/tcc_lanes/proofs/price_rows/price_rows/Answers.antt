@@ -1,10 +1,8 @@
-use Rattle.std.proofs.Common.{◌≡◌, ◌≤◌, ◌+◌, ◌*◌, ◌-◌, ℕ, List, length, take, drop, arith}
-use Rattle.std.specs.Prelude.{min}
+use Rattle.std.proofs.Common.{◌≤◌, ◌+◌, ◌*◌, ℕ, length, arith}
 use Rattle.tcc_graph.specs.Levels.{judged}
 use Rattle.tcc_lanes.specs.declared.words.TheConstants.{LANES}
 use Rattle.tcc_lanes.specs.private.Pricing.{ArePrices, AreRowsOn}
 use Rattle.tcc_lanes.proofs.PriceRows.{rows_more}
-use Rattle.tcc_lanes.proofs.Tiles.{tile_of}
 use Rattle.tcc_lanes.proofs.price_rows.price_rows.Goals as goal
 
 pub loop-block-preserved : goal.loop-block-preserved
@@ -12,14 +10,12 @@ loop-block-preserved c =
     let h = c.args.graph.now in
     let members = c.args.members.now in
     let from : ℕ = c.loop-block.block * LANES in
-    let end : ℕ = c.min-end.result in
-    let last : ℕ = (c.loop-block.block + 1) * LANES in
-    let starts : List ℕ = take (end - from) (drop from members) in
+    let starts = c.tile_at-starts.result.now in
     let table = c.in_ok-table.table.items in
-    let least : end ≡ min (length members) last = omega (arith, c.min-end.ensures) in
-    let order : from ≤ end = omega (arith, least, c.div_ceil-block-end.ensures, c.loop-block-test.true) in
+    let order : from ≤ length members = omega (arith, c.div_ceil-block-end.ensures, c.loop-block-test.true) in
     let prices : ArePrices (judged h c.args.level) members starts c.longest_walk-longest.result table = c.in_ok-table.ensures in
     let rows : AreRowsOn h members table starts (length starts) c.loop-block.rows.items c.push_rows.new.rows.items
     = rw (c.deref-in-loop-block-2.ensures.value) at c.in_ok-push_rows.ensures in
-    rows_more h c.args.level members starts table c.longest_walk-longest.result c.args.most prices c.longest_walk-longest.ensures.all from last
-    (tile_of members from end last least order) (omega (arith, least, order)) (omega (arith, least, order)) c.loop-block.rows.items c.push_rows.new.rows.items c.loop-block.invariant rows
+    rows_more h c.args.level members starts table c.longest_walk-longest.result c.args.most prices c.longest_walk-longest.ensures.all from
+    ((c.loop-block.block + 1) * LANES) c.tile_at-starts.ensures.tiled order (omega arith) c.loop-block.rows.items c.push_rows.new.rows.items
+    c.loop-block.invariant rows
