@@ -30,8 +30,7 @@ use Rattle.tcc_cert.specs.LargeReading.{large_header_line, large_order_sizes, la
 use Rattle.tcc_cert.specs.LargeReading.{one_word, run_line, run_of, runs_at, runs_claim_at, runs_of, tail_line}
 use Rattle.tcc_cert.proofs.Items.{flat_map-map, flat_map-flat_map}
 use Rattle.tcc_cert.proofs.OneText.{allowed_parts, by_word-parts, choice, count, IsReadFrom, link-from, mark, next-text, number-text}
-use Rattle.tcc_cert.proofs.OneText.{repeated-text, same-bytes, same_ok, same_pair, then_parts, three_equal, three_parts, two_parts, words-text}
-use Rattle.tcc_cert.proofs.OneClaim.{no-bytes}
+use Rattle.tcc_cert.proofs.OneText.{repeated-text, same-bytes, same_ok, same_pair, then_parts, three_equal, three_parts, two_parts, whole-text, words-text}
 use Rattle.tcc_cert.proofs.LargeOnward.{links_claim}
 
 small : (most : ℕ) → most ≤ 4294967295 → most < 2 ^ 64
@@ -279,20 +278,17 @@ header-line line level e = go (choice (same line (codes "tcc-certificate 3 causa
 pub large-one : (bytes : List ℕ) (certificate : LargeCertificate) → large_certificate_read bytes ≡ Ok certificate
     → HasLargeText certificate × (bytes ≡ large_certificate_text certificate)
 large-one bytes certificate e =
-    let read = then_parts (large_certificate_at (start_of bytes)) _ certificate e in
-    let last = allowed_parts (eqb (length read.0.1.bytes) 0) (record { line = read.0.1.line; kind = Trailing }) (Ok read.0.0) certificate read.2 in
-    let header = then_parts (next MAX_HEADER_BYTES large_header_line (start_of bytes)) large_behind_header read.0 read.1 in
-    let level = header.0.0 in
-    let sizes = then_parts (words Large large_sizes_line header.0.1) _ read.0 header.2 in
-    let line = words-text Large large_sizes_line header.0.1 sizes.0.1 sizes.0.0 sizes.1 in
+    let read = whole-text large_header_line large_behind_header bytes certificate e in
+    let level = read.header.0 in
+    let sizes = then_parts (words Large large_sizes_line read.header.1) _ (certificate, read.after) read.rest in
+    let line = words-text Large large_sizes_line read.header.1 sizes.0.1 sizes.0.0 sizes.1 in
     let whole =
-    claim-whole level sizes.0.0 line.0 header.0.1.bytes sizes.0.1 read.0.1 read.0.0 (sizes-text line.0 sizes.0.0 line.1) line.2 sizes.2 in
-    let first = next-text MAX_HEADER_BYTES large_header_line (start_of bytes) header.0.1 level header.1 in
-    let top : bytes ≡ line_text (large_header_words level) ++ header.0.1.bytes =
-    first.2 ∙ sym (append_assoc first.0 (10 ∷ []) header.0.1.bytes) ∙ ap (λ l. l ++ header.0.1.bytes) (header-line first.0 level first.1) in
-    let none = no-bytes read.0.1.bytes last.0 in
-    let rest : header.0.1.bytes ≡ lines_text (large_claim_lines read.0.0) =
-    whole.2 ∙ ap (λ t. lines_text (large_claim_lines read.0.0) ++ t) none ∙ append-nil (lines_text (large_claim_lines read.0.0)) in
-    let text : bytes ≡ large_certificate_text read.0.0 =
-    top ∙ ap (λ t. line_text (large_header_words level) ++ t) rest ∙ ap (λ ws. line_text ws ++ lines_text (large_claim_lines read.0.0)) (sym whole.1) in
-    subst (λ c. HasLargeText c × (bytes ≡ large_certificate_text c)) (same_ok last.1) (whole.0, text)
+    claim-whole level sizes.0.0 line.0 read.header.1.bytes sizes.0.1 read.after certificate (sizes-text line.0 sizes.0.0 line.1) line.2 sizes.2 in
+    let first = next-text MAX_HEADER_BYTES large_header_line (start_of bytes) read.header.1 level read.first in
+    let top : bytes ≡ line_text (large_header_words level) ++ read.header.1.bytes =
+    first.2 ∙ sym (append_assoc first.0 (10 ∷ []) read.header.1.bytes) ∙ ap (λ l. l ++ read.header.1.bytes) (header-line first.0 level first.1) in
+    let rest : read.header.1.bytes ≡ lines_text (large_claim_lines certificate) =
+    whole.2 ∙ ap (λ t. lines_text (large_claim_lines certificate) ++ t) read.none ∙ append-nil (lines_text (large_claim_lines certificate)) in (
+      whole.0,
+      top ∙ ap (λ t. line_text (large_header_words level) ++ t) rest ∙ ap (λ ws. line_text ws ++ lines_text (large_claim_lines certificate)) (sym whole.1),
+    )

@@ -1,5 +1,7 @@
 -- Reading of version 3 goes on from line to line, and never back.
 use Rattle.std.proofs.Common.{ℕ, List, Option, None, Some, Ok, Err, ◌≡◌, ◌≤◌, ◌∙◌, arith, codes, Result}
+use Rattle.std.proofs.lemmas.Result.{err_from_is_err_and}
+use Rattle.std.specs.Result.{IsErrAnd}
 use Rattle.tcc_graph.specs.declared.level.Level.{Level}
 use Rattle.tcc_graph.specs.declared.link.Link.{Link}
 use Rattle.tcc_cert.specs.declared.fault.CertFault.{CertFault}
@@ -13,6 +15,7 @@ use Rattle.tcc_cert.specs.declared.reading.large_forms.LargeSizes.{LargeSizes}
 use Rattle.tcc_cert.specs.declared.reading.large_forms.LargeSizes.TheVariants.{Order, Cycle}
 use Rattle.tcc_cert.specs.declared.reading.large_forms.Tail.{Tail}
 use Rattle.tcc_cert.specs.declared.reading.large_forms.Tail.TheVariants.{Least, End}
+use Rattle.tcc_cert.specs.InputBytes.{IsAt}
 use Rattle.tcc_cert.specs.private.Inputs.{Gives}
 use Rattle.tcc_cert.specs.Reading.{◌>>=◌, Position, Reads, link_at, next, repeated, word_line, words}
 use Rattle.tcc_cert.specs.LargeReading.{large_behind_header, large_certificate_at, large_claim_at, large_header_line, large_sizes_line}
@@ -20,14 +23,30 @@ use Rattle.tcc_cert.specs.LargeReading.{least_at, links_claim_at, run_line, runs
 use Rattle.tcc_cert.proofs.LinesBack.{then_ok}
 use Rattle.tcc_cert.specs.private.Onward.{IsOnward}
 use Rattle.tcc_cert.proofs.OnwardFacts.{onward-link, onward-next, onward-numbered, onward-ok, onward-then, onward-words}
-use Rattle.tcc_cert.proofs.StepFacts.{later-faults}
+use Rattle.tcc_cert.proofs.StepFacts.{first-faults, later-faults, onward-at}
 
--- a part was read, and what comes behind it was given
-pub gives-then : {R A B : Type 0} (remaining : R → Option (List ℕ)) (at after : Position) (read : Reads A) (go : A × Position → Reads B) (x : A)
+-- the first part was not read
+pub first-fails : {R A B : Type 0} (remaining : R → Option (List ℕ)) (at : Position) (read : Reads A) (go : A × Position → Reads B) {fault : CertFault}
+    (result : Result B CertFault) (new : Input R)
+    → ((x : A × Position) → IsOnward x.1 (go x)) → IsErrAnd result (λ e. e ≡ fault) → Gives remaining at read (Err fault) new
+    → Gives remaining at (read >>= go) result new
+first-fails remaining at read go result new later passed faults =
+    let p = err_from_is_err_and result passed in
+    rw (p.1, p.2) (first-faults read go _ later faults)
+
+given-behind : {R A B : Type 0} (remaining : R → Option (List ℕ)) (at after : Position) (read : Reads A) (go : A × Position → Reads B) (x : A)
     (result : Result B CertFault) (new : Input R)
     → read ≡ Ok (x, after) → at.line ≤ after.line → Gives remaining after (go (x, after)) result new → Gives remaining at (read >>= go) result new
-gives-then remaining at after read go x (Ok y) new is on (end, shown, there) = (end, then_ok go is ∙ shown, there)
-gives-then remaining at after read go x (Err fault) new is on faults = later-faults read go fault is on faults
+given-behind remaining at after read go x (Ok y) new is on (end, shown, there) = (end, then_ok go is ∙ shown, there)
+given-behind remaining at after read go x (Err fault) new is on faults = later-faults read go fault is on faults
+
+-- a part was read, and what comes behind it was given
+pub gives-then : {R A B : Type 0} (remaining : R → Option (List ℕ)) (at : Position) (read : Reads A) (go : A × Position → Reads B) (x : A) (between : Input R)
+    (result : Result B CertFault) (new : Input R)
+    → IsOnward at read → Gives remaining at read (Ok x) between → ((after : Position) → IsAt remaining between after → Gives remaining after (go (x, after)) result new)
+    → Gives remaining at (read >>= go) result new
+gives-then remaining at read go x between result new on (after, is, there) later =
+    given-behind remaining at after read go x result new is (onward-at read on is) (later after there)
 
 pub onward-lines : (count : ℕ) (at : Position) → IsOnward at (repeated (words Large run_line) count at)
 onward-lines count at = onward-numbered (λ i. words Large run_line) 0 count (λ i position. onward-words Large run_line position) at

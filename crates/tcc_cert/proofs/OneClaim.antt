@@ -36,7 +36,7 @@ use Rattle.tcc_cert.proofs.Numbered.{each-one, from-widths, same-each}
 use Rattle.tcc_cert.proofs.ClaimsBack.{order_text, cycle_text}
 use Rattle.tcc_cert.proofs.OneText.{then_parts, allowed_parts, same_ok, same_pair, number-text, count, same-bytes, two_parts, three_parts, by_word-parts}
 use Rattle.tcc_cert.proofs.OneText.{two_equal, three_equal, choice, mark, row-text, next-text, words-text, IsReadFrom, numbered-text}
-use Rattle.tcc_cert.proofs.OneText.{repeated-text, link-from}
+use Rattle.tcc_cert.proofs.OneText.{repeated-text, link-from, whole-text}
 
 -- ---- tables
 
@@ -307,25 +307,18 @@ claim-whole v level (Order n s) at after ws text certificate sizes is e end =
 claim-whole v level (Cycle n m l) at after ws text certificate sizes is e end =
     cycle-whole v level n m l at ws text certificate sizes is (cycle-read v level n m l at after certificate e end)
 
-pub no-bytes : (bytes : List ℕ) → eqb (length bytes) 0 ≡ true → bytes ≡ []
-no-bytes [] e = refl
-no-bytes (byte ∷ bytes) e = absurd (grind (arith, nat_tests))
-
 -- what was read has one text, that from which it was read
 pub one-text : (bytes : List ℕ) (certificate : Certificate) → certificate_read bytes ≡ Ok certificate
     → HasText certificate × (bytes ≡ certificate_text certificate)
 one-text bytes certificate e =
-    let read = then_parts (certificate_at (start_of bytes)) _ certificate e in
-    let last = allowed_parts (eqb (length read.0.1.bytes) 0) (record { line = read.0.1.line; kind = Trailing }) (Ok read.0.0) certificate read.2 in
-    let header = then_parts (next MAX_HEADER_BYTES header_line (start_of bytes)) behind_header read.0 read.1 in
-    let v = header.0.0.0 in
-    let level = header.0.0.1 in
-    let sizes = then_parts (words (Small v) (sizes_line (Small v)) header.0.1) _ read.0 header.2 in
-    let line = words-text (Small v) (sizes_line (Small v)) header.0.1 sizes.0.1 sizes.0.0 sizes.1 in
+    let read = whole-text header_line behind_header bytes certificate e in
+    let v = read.header.0.0 in
+    let level = read.header.0.1 in
+    let sizes = then_parts (words (Small v) (sizes_line (Small v)) read.header.1) _ (certificate, read.after) read.rest in
+    let line = words-text (Small v) (sizes_line (Small v)) read.header.1 sizes.0.1 sizes.0.0 sizes.1 in
     let whole =
-    claim-whole v level sizes.0.0 sizes.0.1 read.0.1 line.0 header.0.1.bytes read.0.0 (sizes-text v line.0 sizes.0.0 line.1) line.2 sizes.2
-    (no-bytes read.0.1.bytes last.0) in
-    let text : bytes ≡ certificate_text read.0.0 =
-    header-read (start_of bytes) header.0.1 header.0.0 header.1 ∙ ap (λ t. line_text (header_words v level) ++ t) whole.2
-    ∙ ap (λ words. line_text words ++ lines_text (claim_lines read.0.0)) (sym whole.1) in
-    subst (λ c. HasText c × (bytes ≡ certificate_text c)) (same_ok last.1) (whole.0, text)
+    claim-whole v level sizes.0.0 sizes.0.1 read.after line.0 read.header.1.bytes certificate (sizes-text v line.0 sizes.0.0 line.1) line.2 sizes.2 read.none in (
+      whole.0,
+      header-read (start_of bytes) read.header.1 read.header.0 read.first ∙ ap (λ t. line_text (header_words v level) ++ t) whole.2
+          ∙ ap (λ words. line_text words ++ lines_text (claim_lines certificate)) (sym whole.1),
+    )

@@ -4,6 +4,7 @@ use Rattle.std.proofs.Common.{eqb, ltb, List, [], ◌∷◌, ◌++◌, length, g
 use Rattle.std.proofs.Common.{None, Some, Result, Ok, Err, inl, inr, refl, sym, ap, subst, ◌∙◌, arith, append_assoc}
 use Rattle.std.proofs.Common.{append-nil, codes, decimal}
 use Rattle.tcc_cert.specs.declared.ranges.Scale.{Scale}
+use Rattle.tcc_cert.specs.declared.ranges.TheConstants.{MAX_HEADER_BYTES}
 use Rattle.tcc_cert.specs.Ranges.{ranges_at}
 use Rattle.std.specs.Prelude.{is_some}
 use Rattle.std.specs.List.{AllByRecursion, join_with_byte}
@@ -25,7 +26,7 @@ use Rattle.tcc_graph.specs.declared.step.Step.TheVariants as step
 use Rattle.tcc_graph.specs.declared.link.Link.{Link}
 use Rattle.tcc_graph.specs.declared.link.Link.TheVariants as link
 use Rattle.tcc_cert.specs.declared.fault.CertFaultKind.{CertFaultKind}
-use Rattle.tcc_cert.specs.declared.fault.CertFaultKind.TheVariants.{Word, Number, Count, TooLarge, Truncated}
+use Rattle.tcc_cert.specs.declared.fault.CertFaultKind.TheVariants.{Word, Number, Count, TooLarge, Truncated, Trailing}
 use Rattle.tcc_cert.specs.declared.reading.forms.Head.{Head}
 use Rattle.tcc_cert.specs.Texts.{Words, words_text, line_text, lines_text, numbers_words}
 use Rattle.tcc_cert.specs.Texts.{step_words, link_lines, IsNumber, IsCount, IsKey, HasStepText}
@@ -33,7 +34,7 @@ use Rattle.tcc_cert.specs.Texts.{HasLinkText}
 use Rattle.tcc_cert.specs.Reading.{◌>>=◌, words_of, parted, is_decimal, number_of, transaction_of, count_of, key_of, word_line}
 use Rattle.tcc_cert.specs.Reading.{numbers_of, numbers_line, two_words, three_words, five_words, by_word, session_of, reads_of, step_line}
 use Rattle.tcc_cert.specs.Reading.{head_of_step, derived_of, head_line, Position, Reads, judged, line_length, line_of, behind, next}
-use Rattle.tcc_cert.specs.Reading.{words, numbered, repeated, walk_of, link_at}
+use Rattle.tcc_cert.specs.Reading.{words, numbered, repeated, walk_of, link_at, ended, start_of}
 use Rattle.tcc_cert.proofs.RangeFacts.{numbers, counts}
 use Rattle.tcc_cert.proofs.Numbered.{EachFrom, same-each}
 use Rattle.tcc_cert.proofs.Items.{flat_map-map}
@@ -59,6 +60,32 @@ pub same_pair : {A B E : Type 0} {a c : A} {b d : B} → ◌≡◌ {A = Result (
 same_pair {A} {B} {E} {a} {c} {b} {d} e =
     let pair : (a, b) ≡ (c, d) = same_ok e in
     (ap (λ p. p.0) pair, ap (λ p. p.1) pair)
+
+-- the first line of a text that was read, what comes behind it, and that nothing stands behind that
+pub record IsWholeText {H X : Type 0} (form : List ℕ → Result H CertFaultKind) (behind : H × Position → Reads X) (bytes : List ℕ) (x : X) : Type 0 where
+  pub header : H × Position
+  pub after : Position
+  pub first : next MAX_HEADER_BYTES form (start_of bytes) ≡ Ok header
+  pub rest : behind header ≡ Ok (x, after)
+  pub none : after.bytes ≡ []
+
+no-bytes : (bytes : List ℕ) → eqb (length bytes) 0 ≡ true → bytes ≡ []
+no-bytes [] e = refl
+no-bytes (byte ∷ bytes) e = absurd (grind (arith, nat_tests))
+
+pub whole-text : {H X : Type 0} (form : List ℕ → Result H CertFaultKind) (behind : H × Position → Reads X) (bytes : List ℕ) (x : X)
+    → ((next MAX_HEADER_BYTES form (start_of bytes) >>= behind) >>= λ read. ended read.0 read.1) ≡ Ok x → IsWholeText form behind bytes x
+whole-text form behind bytes x e =
+    let read = then_parts (next MAX_HEADER_BYTES form (start_of bytes) >>= behind) _ x e in
+    let last = allowed_parts (eqb (length read.0.1.bytes) 0) (record { line = read.0.1.line; kind = Trailing }) (Ok read.0.0) x read.2 in
+    let header = then_parts (next MAX_HEADER_BYTES form (start_of bytes)) behind read.0 read.1 in
+    record {
+      header = header.0;
+      after = read.0.1;
+      first = header.1;
+      rest = header.2 ∙ ap (λ y. Ok (y, read.0.1)) (same_ok last.1);
+      none = no-bytes read.0.1.bytes last.0;
+    }
 
 -- ---- numbers
 

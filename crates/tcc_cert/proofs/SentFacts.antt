@@ -40,6 +40,10 @@ pub failed : {X E : Type 0} (r : Result X E) (a b : Option (List ℕ)) (f g t : 
 failed (Ok x) a b f g t h stops = absurd cc
 failed (Err e) a b f g t h stops = stops
 
+-- the first of two calls failed
+pub failed-early : {X E : Type 0} (r : Result X E) (a b : Option (List ℕ)) (f g s t : List ℕ) → IsErr r → Stops a f b s → IsSent r a f b g (s ++ t)
+failed-early r a b f g s t h stops = failed r a b f g (s ++ t) h (Stops-early t stops)
+
 -- a last call
 pub IsSent-then : {X E : Type 0} (r : Result X E) (a b c : Option (List ℕ)) (f g h s t : List ℕ) → Sends a f b g s → IsSent r b g c h t
     → IsSent r a f c h (s ++ t)

@@ -29,8 +29,9 @@ faulty-whole bytes fault none = by none.kind
     )
 
 -- the first line says it
-pub named : (bytes line : List ℕ) (said : Bool) → line_of MAX_HEADER_BYTES bytes ≡ Ok line → is_ok (large_header_line line) ≡ said → is_large bytes ≡ said
-named bytes line said is e = rw is e
+pub named : (bytes line ahead : List ℕ) (said : Bool) → line_of MAX_HEADER_BYTES bytes ≡ Ok line → ahead ≡ line → is_ok (large_header_line ahead) ≡ said
+    → is_large bytes ≡ said
+named bytes line ahead said is same e = rw (is, ← same) e
 
 -- there is none
 pub none-there : {R : Type 0} (bytes : List ℕ) (kind : CertFaultKind) (new : Input R) (line : ℕ) → line ≡ 1

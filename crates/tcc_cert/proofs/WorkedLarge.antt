@@ -1,15 +1,16 @@
 -- Worked texts of version 3 are written and read as the definitions say.
-use Rattle.std.proofs.Common.{◌≡◌, ℕ, true, false, List, [], ◌∷◌, ◌++◌, Option, None, Some, Ok, refl, codes}
+use Rattle.std.proofs.Common.{◌≡◌, ℕ, true, false, List, [], ◌∷◌, ◌++◌, Option, None, Some, Result, Ok, refl, codes}
 use Rattle.tcc_graph.specs.declared.level.Level.TheVariants.{Causal, Atomic}
 use Rattle.tcc_graph.specs.declared.link.Link.TheVariants as link
 use Rattle.tcc_graph.specs.declared.step.Step.TheVariants as step
+use Rattle.tcc_cert.specs.declared.fault.CertFault.{CertFault}
 use Rattle.tcc_cert.specs.declared.fault.CertFaultKind.TheVariants.{Header, Word, Number, Count, TooLarge, Truncated, Trailing}
 use Rattle.tcc_cert.specs.declared.large.LargeCertificate.{LargeCertificate}
 use Rattle.tcc_cert.specs.declared.large.LargeCertificate.TheVariants as claim
 use Rattle.tcc_cert.specs.declared.large.Run.{Run}
 use Rattle.tcc_cert.specs.LargeTexts.{large_certificate_text}
 use Rattle.tcc_cert.specs.LargeReading.{is_large, large_certificate_read}
-use Rattle.tcc_cert.proofs.WorkedReading.{HaveFaults}
+use Rattle.tcc_cert.proofs.WorkedReading.{HaveFault}
 use Rattle.tcc_cert.proofs.OneDigit.{digit}
 
 abbrev run : ℕ → ℕ → Run
@@ -63,25 +64,36 @@ none_read : large_certificate_read (codes "tcc-certificate 3 atomic\norder 1 0 0
     ≡ Ok (claim.Order (record { level = Atomic; transactions = 1; sessions = 0; runs = [] }))
 none_read = refl
 
-faulty_texts : HaveFaults large_certificate_read
-    ((codes "tcc-certificate 3\norder 1 0 0\n", record { line = 1; kind = Header })
-    ∷ (codes "tcc-certificate 3 causal\nring 5 4 4\n", record { line = 2; kind = Word })
-    ∷ (codes "tcc-certificate 3 causal\norder 5 4\n", record { line = 2; kind = Count })
-    ∷ (codes "tcc-certificate 3 causal\norder 05 4 4\n", record { line = 2; kind = Number })
-    ∷ (codes "tcc-certificate 3 causal\norder 0 4 4\n", record { line = 2; kind = Number })
-    ∷ (codes "tcc-certificate 3 causal\norder 5 65536 4\n", record { line = 2; kind = TooLarge })
-    ∷ (codes "tcc-certificate 3 causal\norder 5 4 4\n0 0\n", record { line = 3; kind = Number })
-    ∷ (codes "tcc-certificate 3 causal\norder 5 4 4\n\n", record { line = 3; kind = Count })
-    ∷ (codes "tcc-certificate 3 causal\norder 5 4 4\n65535 1\n", record { line = 3; kind = TooLarge })
-    ∷ (codes "tcc-certificate 3 causal\norder 5 4 1\n0 1\n1 1\n", record { line = 4; kind = Word })
-    ∷ (five_steps_text (codes "0 1\n"), record { line = 8; kind = Word })
-    ∷ (five_steps_text (codes "least\n"), record { line = 8; kind = Count })
-    ∷ (five_steps_text (codes "least 1\nend\n"), record { line = 9; kind = Count })
-    ∷ (five_steps_text (codes "end end\n"), record { line = 8; kind = Count })
-    ∷ (five_steps_text (codes "end"), record { line = 8; kind = Truncated })
-    ∷ (five_steps_text (codes "end\n\n"), record { line = 9; kind = Trailing })
-    ∷ [])
-faulty_texts = (refl, (refl, (refl, (refl, (refl, (refl, (refl, (refl, (refl, (refl, (refl, (refl, (refl, (refl, (refl, (refl, tt))))))))))))))))
+-- a first line without a level
+no_level : HaveFault large_certificate_read 1 Header (codes "tcc-certificate 3\norder 1 0 0\n" ∷ [])
+no_level = (refl, tt)
+
+-- what is read behind the first line
+abbrev behind_first : List ℕ → Result LargeCertificate CertFault
+behind_first rest = large_certificate_read (codes "tcc-certificate 3 causal\n" ++ rest)
+
+faulty_sizes : HaveFault behind_first 2 Word (codes "ring 5 4 4\n" ∷ [])
+    × HaveFault behind_first 2 Count (codes "order 5 4\n" ∷ [])
+    × HaveFault behind_first 2 Number (codes "order 05 4 4\n" ∷ codes "order 0 4 4\n" ∷ [])
+    × HaveFault behind_first 2 TooLarge (codes "order 5 65536 4\n" ∷ [])
+faulty_sizes = ((refl, tt), (refl, tt), (refl, (refl, tt)), (refl, tt))
+
+faulty_runs : HaveFault behind_first 3 Number (codes "order 5 4 4\n0 0\n" ∷ [])
+    × HaveFault behind_first 3 Count (codes "order 5 4 4\n\n" ∷ [])
+    × HaveFault behind_first 3 TooLarge (codes "order 5 4 4\n65535 1\n" ∷ [])
+    × HaveFault behind_first 4 Word (codes "order 5 4 1\n0 1\n1 1\n" ∷ [])
+faulty_runs = ((refl, tt), (refl, tt), (refl, tt), (refl, tt))
+
+-- what is read behind the links
+abbrev behind_links : List ℕ → Result LargeCertificate CertFault
+behind_links tail = large_certificate_read (five_steps_text tail)
+
+faulty_tails : HaveFault behind_links 8 Word (codes "0 1\n" ∷ [])
+    × HaveFault behind_links 8 Count (codes "least\n" ∷ codes "end end\n" ∷ [])
+    × HaveFault behind_links 9 Count (codes "least 1\nend\n" ∷ [])
+    × HaveFault behind_links 8 Truncated (codes "end" ∷ [])
+    × HaveFault behind_links 9 Trailing (codes "end\n\n" ∷ [])
+faulty_tails = ((refl, tt), (refl, (refl, tt)), (refl, tt), (refl, tt), (refl, tt))
 
 -- the version is that of the first line
 told_by_the_first_line : (is_large fork_text ≡ true) × (is_large (codes "tcc-certificate 2 causal\n") ≡ false)

@@ -9,7 +9,7 @@ ghost use Rattle.tcc_cert.specs.Texts.{line_text, lines_text, step_words, link_l
 use crate::cycle_writer::write_cycle;
 use crate::lines::{Word, line, number_line, table};
 use crate::outgoing::Outgoing;
-use crate::{CertWriteFault, Certificate, Links, OrderClaim, Table, Version};
+use crate::{CertWriteFault, Certificate, Links, OrderClaim, Version};
 use std::io::{self, Write};
 use tcc_graph::{Level, Link, Step};
 use tcc_txn::Name;
@@ -59,7 +59,7 @@ fn steps<W: Write>(outgoing: &mut Outgoing, out: &mut W, steps: &[Step]) -> io::
     Ok(())
 }
 
-/// `D b a KEY c W`
+/// `D b a KEY c W`, and a line for each of the W steps.
 fn derived<W: Write>(
     outgoing: &mut Outgoing,
     out: &mut W,
@@ -67,38 +67,35 @@ fn derived<W: Write>(
     to: u32,
     key: &Name,
     reader: u32,
-    steps: usize,
+    walk: &[Step],
 ) -> io::Result<()>
     ensures { IsSent result (W.contents out.old) outgoing.old (W.contents out.new) outgoing.new
-        (line_text (codes "D" ∷ decimal from ∷ decimal to ∷ key.now ∷ decimal reader ∷ decimal steps ∷ [])) }
+        (lines_text (link_lines (link.Derived from to key.now reader walk.now))) }
 {
     let words = [
         Word::Number(from as usize),
         Word::Number(to as usize),
         Word::Text(key.bytes()),
         Word::Number(reader as usize),
-        Word::Number(steps),
+        Word::Number(walk.len()),
     ];
-    line(outgoing, out, b"D", &words)
+    line(outgoing, out, b"D", &words)?;
+    steps(outgoing, out, walk)
 }
 
 fn link<W: Write>(outgoing: &mut Outgoing, out: &mut W, link: &Link) -> io::Result<()>
     ensures { IsSent result (W.contents out.old) outgoing.old (W.contents out.new) outgoing.new (lines_text (link_lines link.now)) }
 {
-    let (from, to) = (link.from(), link.to());
     match link {
-        Link::Session { .. } => session(outgoing, out, from, to),
-        Link::Reads { key, .. } => reads(outgoing, out, from, to, key),
+        Link::Session { from, to } => session(outgoing, out, *from, *to),
+        Link::Reads { from, to, key } => reads(outgoing, out, *from, *to, key),
         Link::Derived {
+            from,
+            to,
             key,
             reader,
             walk,
-            ..
-        } => {
-            let taken = walk.as_slice();
-            derived(outgoing, out, from, to, key, *reader, taken.len())?;
-            steps(outgoing, out, taken)
-        }
+        } => derived(outgoing, out, *from, *to, key, *reader, walk.as_slice()),
     }
 }
 
@@ -117,18 +114,13 @@ pub(crate) fn link_lines<W: Write>(
 }
 
 /// The clocks behind their mark, and nothing where the level has none.
-fn clocks<W: Write>(
-    outgoing: &mut Outgoing,
-    out: &mut W,
-    level: Level,
-    clocks: &Table,
-) -> io::Result<()>
-    ensures { IsSent result (W.contents out.old) outgoing.old (W.contents out.new) outgoing.new (lines_text (clocks_lines level clocks.now)) }
+fn clocks<W: Write>(outgoing: &mut Outgoing, out: &mut W, claim: &OrderClaim) -> io::Result<()>
+    ensures { IsSent result (W.contents out.old) outgoing.old (W.contents out.new) outgoing.new (lines_text (clocks_lines claim.now.level claim.now.clocks)) }
 {
-    match level {
+    match claim.level {
         Level::Causal => {
             line(outgoing, out, b"clocks", &[])?;
-            table(outgoing, out, clocks)
+            table(outgoing, out, &claim.clocks)
         }
         Level::Atomic => Ok(()),
     }
@@ -145,7 +137,7 @@ fn order<W: Write>(outgoing: &mut Outgoing, out: &mut W, claim: &OrderClaim) -> 
     ];
     line(outgoing, out, b"order", &sizes)?;
     number_line(outgoing, out, order)?;
-    clocks(outgoing, out, claim.level, &claim.clocks)?;
+    clocks(outgoing, out, claim)?;
     line(outgoing, out, b"end", &[])
 }
 

@@ -3,13 +3,12 @@ use Rattle.std.proofs.Common.{flat_map}
 use Rattle.std.proofs.lemmas.Grind.{flat_map-append}
 use Rattle.tcc_cert.specs.Texts.{line_text, link_lines}
 use Rattle.tcc_cert.specs.LargeTexts.{least_lines}
-use Rattle.tcc_cert.proofs.SentFacts.{failed, IsSent-then, Stops-early, Stops-then}
+use Rattle.tcc_cert.proofs.SentFacts.{failed, failed-early, IsSent-then, Stops-early, Stops-then}
 use Rattle.tcc_cert.proofs.large_writing.cycle.Goals as goal
 
 pub returns-in_err-cycle_sizes : goal.returns-in_err-cycle_sizes
 returns-in_err-cycle_sizes g c =
-    failed c.from_residual.result _ _ _ _ _ c.from_residual.ensures.0
-    (Stops-early _ (rw c.as_slice-many.ensures at c.in_err-cycle_sizes.ensures))
+    failed-early c.from_residual.result _ _ _ _ _ _ c.from_residual.ensures.0 (rw c.as_slice-many.ensures at c.in_err-cycle_sizes.ensures)
 
 pub returns-in_err-link_lines : goal.returns-in_err-link_lines
 returns-in_err-link_lines g c =

@@ -1,11 +1,10 @@
 -- The sizes go out, and then the runs.
-use Rattle.tcc_cert.proofs.SentFacts.{failed, IsSent-then, Stops-early}
+use Rattle.tcc_cert.proofs.SentFacts.{failed-early, IsSent-then}
 use Rattle.tcc_cert.proofs.large_writing.order.Goals as goal
 
 pub returns-in_err-line : goal.returns-in_err-line
 returns-in_err-line g c =
-    failed c.from_residual.result _ _ _ _ _ c.from_residual.ensures.0
-    (Stops-early _ (rw c.as_slice.ensures at c.in_err-line.ensures))
+    failed-early c.from_residual.result _ _ _ _ _ _ c.from_residual.ensures.0 (rw c.as_slice.ensures at c.in_err-line.ensures)
 
 pub returns : goal.returns
 returns g c =

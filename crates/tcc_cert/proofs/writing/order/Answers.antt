@@ -2,13 +2,12 @@
 use Rattle.std.proofs.Common.{[], ◌∷◌, codes}
 use Rattle.std.proofs.lemmas.Grind.{flat_map-append}
 use Rattle.tcc_cert.specs.Texts.{line_text, clocks_lines}
-use Rattle.tcc_cert.proofs.SentFacts.{failed, IsSent-then, Stops-early, Stops-then}
+use Rattle.tcc_cert.proofs.SentFacts.{failed, failed-early, IsSent-then, Stops-early, Stops-then}
 use Rattle.tcc_cert.proofs.writing.order.Goals as goal
 
 pub returns-in_err-line : goal.returns-in_err-line
 returns-in_err-line g c =
-    failed c.from_residual.result _ _ _ _ _ c.from_residual.ensures.0
-    (Stops-early _ (rw c.as_slice-order.ensures at c.in_err-line.ensures))
+    failed-early c.from_residual.result _ _ _ _ _ _ c.from_residual.ensures.0 (rw c.as_slice-order.ensures at c.in_err-line.ensures)
 
 pub returns-in_err-number_line : goal.returns-in_err-number_line
 returns-in_err-number_line g c =

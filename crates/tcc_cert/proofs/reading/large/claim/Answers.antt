@@ -32,6 +32,6 @@ returns-in_ok-runs-in-Order-clause-gives g c at before =
 
 pub returns-in-Cycle-clause-gives : goal.returns-in-Cycle-clause-gives
 returns-in-Cycle-clause-gives g c at before =
-    let sizes = c.in_ok-transactions.ensures.gives at before in
-    gives-then g.R.Read.remaining at sizes.0 (words Large large_sizes_line at) _ _ c.cycle.result c.cycle.new.input sizes.1
-    (onward-at _ (onward-words Large large_sizes_line at) sizes.1) (rw c.in-Cycle.is (c.cycle.ensures.gives sizes.0 sizes.2))
+    gives-then g.R.Read.remaining at (words Large large_sizes_line at) _ _ _ c.cycle.result c.cycle.new.input
+    (onward-words Large large_sizes_line at) (c.in_ok-transactions.ensures.gives at before)
+    (λ after there. rw c.in-Cycle.is (c.cycle.ensures.gives after there))

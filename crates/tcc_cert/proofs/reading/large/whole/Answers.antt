@@ -1,13 +1,12 @@
 -- The certificate was read, and nothing stands behind it.
 use Rattle.std.proofs.lemmas.Result.{err_from_is_err_and}
 use Rattle.tcc_cert.specs.Reading.{start_of}
-use Rattle.tcc_cert.proofs.LargeReads.{end-read, faults-read, whole-read}
+use Rattle.tcc_cert.proofs.LargeReads.{end-read, read-fails, whole-read}
 use Rattle.tcc_cert.proofs.reading.large.whole.Goals as goal
 
 pub returns-in_err-certificate : goal.returns-in_err-certificate
 returns-in_err-certificate g c bytes before =
-    let p = err_from_is_err_and c.from_residual.result c.from_residual.ensures.1 in
-    rw (p.1, p.2) (faults-read bytes _ (c.in_err-certificate.ensures.gives (start_of bytes) before))
+    read-fails bytes c.from_residual.result c.from_residual.ensures.1 (c.in_err-certificate.ensures.gives (start_of bytes) before)
 
 pub returns-in_err-end : goal.returns-in_err-end
 returns-in_err-end g c bytes before =

@@ -1,27 +1,23 @@
 -- The first line says which version it is, and is not taken.
-use Rattle.std.proofs.Common.{true, false, refl, sym, ap, ◌∙◌}
-use Rattle.std.specs.Prelude.{is_ok}
+use Rattle.std.proofs.Common.{true, false, refl, sym, ◌∙◌}
 use Rattle.std.proofs.lemmas.Option.{IfSome_then}
 use Rattle.tcc_cert.specs.Reading.{start_of}
-use Rattle.tcc_cert.specs.LargeReading.{large_header_line}
 use Rattle.tcc_cert.proofs.VersionFacts.{named, none-there}
 use Rattle.tcc_cert.proofs.reading.versions.reader_of.Goals as goal
 
 pub returns-then-is_header-clause-version : goal.returns-then-is_header-clause-version
 returns-then-is_header-clause-version g c =
-    let said = ap (λ line. is_ok (large_header_line line)) (sym c.ahead.ensures) ∙ sym c.is_header.ensures ∙ c.if-is_header.true in
     IfSome_then (g.R.Read.remaining c.args.reader) c.new-input.ensures.start
     (λ bytes before. (
-      named bytes _ true (c.in-Ok.ensures.found (start_of bytes) before) said,
+      named bytes _ _ true (c.in-Ok.ensures.found (start_of bytes) before) c.ahead.ensures (sym c.is_header.ensures ∙ c.if-is_header.true),
       c.limit.ensures.same (start_of bytes) (c.in-Ok.ensures.stays (start_of bytes) before),
     ))
 
 pub returns-else-is_header-clause-version : goal.returns-else-is_header-clause-version
 returns-else-is_header-clause-version g c =
-    let said = ap (λ line. is_ok (large_header_line line)) (sym c.ahead.ensures) ∙ sym c.is_header.ensures ∙ c.if-is_header.false in
     IfSome_then (g.R.Read.remaining c.args.reader) c.new-input.ensures.start
     (λ bytes before. (
-      named bytes _ false (c.in-Ok.ensures.found (start_of bytes) before) said,
+      named bytes _ _ false (c.in-Ok.ensures.found (start_of bytes) before) c.ahead.ensures (sym c.is_header.ensures ∙ c.if-is_header.false),
       rw (c.over.ensures.input, c.over.ensures.stage) (start_of bytes, c.in-Ok.ensures.stays (start_of bytes) before, refl),
     ))
 
