@@ -112,6 +112,28 @@ pub closing_some : (near prices : List (List ℕ)) (n : ℕ) → n ≢ NONE → 
 closing_some near prices n some (inl none) = absurd (some none)
 closing_some near prices n some (inr is) = is
 
+-- ---- one more transaction that walks lead back from
+
+module _ (near prices : List (List ℕ)) (others : List (List (ℕ × ℕ))) (few at from to : ℕ) where
+  -- n is what such a cycle costs, or none; and of those before `end` with many others none makes a cheaper one
+  abbrev pub IsLeastOfMany : ℕ → ℕ → Type 0
+  IsLeastOfMany end n = IsClosingOrNone near prices n × ((b : ℕ) → b < end → HasMany few others b → NoneCheaper near (row_of prices b) b from to n)
+
+  -- one with many
+  pub many_more : (least found n : ℕ) → at < length near → n ≡ min least found → IsBackOrNone near (row_of prices at) at found
+      → NoneCheaper near (row_of prices at) at from to found → IsLeastOfMany at least → IsLeastOfMany (at + 1) n
+  many_more least found n below is back none so_far = (
+    lesser (IsClosingOrNone near prices) least found n is so_far.0 (closing_back near prices at found below back),
+    up_to_next (λ b. HasMany few others b → NoneCheaper near (row_of prices b) b from to n) at
+        (λ b before many. still_cheaper near (row_of prices b) b from to least n (omega (arith, is)) (so_far.1 b before many))
+        (λ many. still_cheaper near (row_of prices at) at from to found n (omega (arith, is)) none),
+  )
+
+  -- one with few
+  pub many_passed : (least : ℕ) → (HasMany few others at → ⊥) → IsLeastOfMany at least → IsLeastOfMany (at + 1) least
+  many_passed least few_of so_far =
+      (so_far.0, up_to_next (λ b. HasMany few others b → NoneCheaper near (row_of prices b) b from to least) at so_far.1 (λ many. absurd (few_of many)))
+
 -- so many blocks have room for all
 pub blocks_cover : (n blocks : ℕ) → div_ceil n 32 ≤ blocks → n ≤ blocks * 32
 blocks_cover n blocks enough = omega (arith, enough)

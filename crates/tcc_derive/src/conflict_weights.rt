@@ -101,6 +101,9 @@ fn price_row(
     Ok(Row::new(costs))
 }
 
+/// What derived links cost, a row for each transaction that they lead from; or that there is no room for it.
+pub(crate) type PriceRows = Result<Vec<Row<u16>>, NoMemory>;
+
 /// What derived links cost, a row for each transaction that they lead from, by the reads of each key and the keys that
 /// each transaction writes.
 pub(crate) fn price_rows(
@@ -111,7 +114,7 @@ pub(crate) fn price_rows(
     sources: &[Sources],
     written: &[Row<usize>],
     near: &Near,
-) -> Result<Vec<Row<u16>>, NoMemory>
+) -> PriceRows
     requires near { IsNearOf (judged graph.now near.now.level) near.now }
     requires reads { IsReadsOf graph.now reads.now }
     requires sources { HaveSources (count graph.now) reads.now sources.now }
@@ -134,5 +137,5 @@ pub(crate) fn price_rows(
             },
         )
         .with_min_len(ROWS_A_THREAD)
-        .collect::<Result<Vec<Row<u16>>, NoMemory>>(rt, alloc)?
+        .collect::<PriceRows>(rt, alloc)?
 }

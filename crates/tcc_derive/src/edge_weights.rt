@@ -9,7 +9,7 @@ ghost use Rattle.tcc_graph.specs.Levels.{judged};
 
 use crate::Prices;
 use crate::by_class::by_class_rows;
-use crate::conflict_weights::price_rows;
+use crate::conflict_weights::{PriceRows, price_rows};
 use crate::cost_limit::{are_within, cost_limit};
 use crate::others::{other_rows, session_ends};
 use crate::read_table::read_table;
@@ -17,18 +17,12 @@ use crate::sources::source_table;
 use crate::write_table::write_table;
 use std::alloc::Global;
 use std::thread::Threads;
-use tcc_bits::Row;
 use tcc_graph::Graph;
 use tcc_near::Near;
 use tcc_txn::NoMemory;
 
 /// What derived links cost, a row for each transaction that they lead from, by who reads and who writes each key.
-fn all_prices(
-    rt: &(impl Threads + Sync),
-    alloc: Global,
-    graph: &Graph,
-    near: &Near,
-) -> Result<Vec<Row<u16>>, NoMemory>
+fn all_prices(rt: &(impl Threads + Sync), alloc: Global, graph: &Graph, near: &Near) -> PriceRows
     requires { IsNearOf (judged graph.now near.now.level) near.now }
     ensures rows { IfOk result (λ rows. HasRows graph.now (IsPriceRow (judged graph.now near.now.level)) rows.items) }
     ensures few { IfOk result (λ rows. length rows.items ≤ MAX_COUNT) }
@@ -39,15 +33,13 @@ fn all_prices(
     price_rows(rt, alloc, graph, &reads, &sources, &written, near)
 }
 
+/// The prices of a graph, or that there is no room for them.
+pub type MadePrices = Result<Prices, NoMemory>;
+
 /// The prices of a graph, by its lengths and at their level.
 /// Between each two transactions they are the least cost of a derived link, over all its reasons, and that of a link of
 /// whatever kind; none where there is no such link.
-pub fn derive(
-    rt: &(impl Threads + Sync),
-    alloc: Global,
-    graph: &Graph,
-    near: &Near,
-) -> Result<Prices, NoMemory>
+pub fn derive(rt: &(impl Threads + Sync), alloc: Global, graph: &Graph, near: &Near) -> MadePrices
     requires { IsNearOf (judged graph.now near.now.level) near.now }
     ensures prices { IfOk result (IsPricesOf (judged graph.now near.now.level)) }
     ensures limit { IfOk result (λ prices. IsLimit near.now.rows prices.prices prices.limit) }

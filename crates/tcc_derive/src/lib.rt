@@ -21,7 +21,7 @@ mod sources;
 mod write_table;
 
 pub use by_class::{ByClass, Class};
-pub use edge_weights::derive;
+pub use edge_weights::{MadePrices, derive};
 pub use first_reason::reason;
 pub use first_walk::first_name;
 pub use prices::Prices;

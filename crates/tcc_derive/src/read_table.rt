@@ -12,11 +12,14 @@ use tcc_graph::LargeGraph;
 use tcc_txn::NoMemory;
 
 /// The reads of the key at an index.
-fn reads_at(alloc: Global, graph: &LargeGraph, key_index: u32) -> Result<Row<Read>, NoMemory>
+fn reads_at(alloc: Global, graph: &LargeGraph, key_index: usize) -> Result<Row<Read>, NoMemory>
     requires key_index { key_index < length (keys graph.now) }
     requires few { count graph.now ≤ MAX_COUNT }
     ensures { IfOk result (AreReadsAt graph.now key_index) }
 {
+    let Ok(key_index) = u32::try_from(key_index) else {
+        return Err(NoMemory);
+    };
     let (sources, readers) = graph.readings_of(key_index);
     let mut reads = Vec::with_capacity(alloc, sources.len())?;
     for (number, source) in sources.iter().enumerate() {
@@ -35,9 +38,6 @@ pub(crate) fn read_table(alloc: Global, graph: &LargeGraph) -> Result<Vec<Row<Re
 {
     let mut reads = Vec::new(alloc);
     for key_index in 0..graph.keys().len() {
-        let Ok(key_index) = u32::try_from(key_index) else {
-            return Err(NoMemory);
-        };
         reads.push(reads_at(alloc, graph, key_index)?)?;
     }
     Ok(reads)

@@ -1,5 +1,5 @@
 -- Rows worked out one by one.
-use Rattle.std.proofs.Common.{◌≡◌, ◌<◌, ◌+◌, ◌-◌, ◌⊎◌, inl, inr, ℕ, zero, suc, List, [], ◌∷◌, ◌++◌, length, map, get_or, sym, ◌∙◌, ap, arith, subst, zero-add}
+use Rattle.std.proofs.Common.{◌≡◌, ◌<◌, ◌+◌, ◌-◌, ◌⊎◌, inl, inr, ℕ, zero, suc, List, [], ◌∷◌, ◌++◌, length, length-append, map, get_or, sym, ◌∙◌, ap, arith, subst, zero-add}
 use Rattle.std.specs.Prelude.{Ok, IfOk}
 use Rattle.std.specs.declared.result.Result.{Result}
 use Rattle.std.specs.List.{AllZip, range_with_len}
@@ -54,3 +54,8 @@ each_pushed P items v n long before here i d l = go (cases_eq i n)
     go (inr other) =
         let inside : i < length items = omega arith in
         rw (get_or_append_left items (v ∷ []) d i inside) (before i d (omega arith))
+
+-- the same, with how many there are
+pub rows_pushed : {V : Type 0} (P : ℕ → V → Type 0) (items : List V) (v : V) (n : ℕ) → (length items ≡ n) × ((i : ℕ) (d : V) → i < n → P i (get_or items i d))
+    → P n v → (length (items ++ v ∷ []) ≡ n + 1) × ((i : ℕ) (d : V) → i < n + 1 → P i (get_or (items ++ v ∷ []) i d))
+rows_pushed P items v n so_far here = (omega (arith, length-append items (v ∷ []), so_far.0), each_pushed P items v n so_far.0 so_far.1 here)

@@ -8,9 +8,10 @@ ghost use Rattle.tcc_graph.specs.{Levels.judged, Orders.IsNumbering};
 ghost use Rattle.tcc_clocks.specs.Clocks.{LeadsOnward};
 ghost use Rattle.tcc_survey.specs.private.Settled.{AreReads, AreFound};
 
+use crate::block::Block;
 use crate::external_reads::Reading;
 use crate::reverse_clocks::find_firsts;
-use crate::scanning::settle_block;
+use crate::scanning::Sweep;
 use std::alloc::{AllocError, Global};
 use tcc_clocks::{SharedRows, WIDE, find_clocks, owners, previous_of_each, steps_along};
 use tcc_graph::{LargeGraph, Level};
@@ -44,13 +45,21 @@ pub(crate) fn find_least(
     let mut clocks = SharedRows::new(alloc, graph.count())?;
     let mut firsts = SharedRows::new(alloc, graph.count())?;
     let mut found = vec![in alloc; 0; reads.len()]?;
-    for block in 0..sessions.div_ceil(WIDE) {
-        let from = (block * WIDE) as u32;
-        find_clocks(&mut clocks, graph, &owners, from, order, &steps)?;
-        find_firsts(alloc, &mut firsts, graph, &owners, from, &backward)?;
-        settle_block(
-            alloc, &mut found, level, graph, &owners, from, &firsts, &clocks, reads,
-        )?;
+    for number in 0..sessions.div_ceil(WIDE) {
+        let block = Block {
+            graph,
+            owners: &owners,
+            from: (number * WIDE) as u32,
+        };
+        find_clocks(&mut clocks, graph, &owners, block.from, order, &steps)?;
+        find_firsts(alloc, &mut firsts, &block, &backward)?;
+        let sweep = Sweep {
+            level,
+            block,
+            firsts: &firsts,
+            clocks: &clocks,
+        };
+        sweep.settle(alloc, &mut found, reads)?;
     }
     Ok(found)
 }

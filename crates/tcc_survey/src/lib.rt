@@ -2,6 +2,7 @@
 //! reader and is reached from what was read.
 #![tactic(auto)]
 
+mod block;
 mod circle;
 mod clock_sweep;
 mod contradicted;

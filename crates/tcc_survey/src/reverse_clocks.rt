@@ -4,9 +4,10 @@
 ghost use Rattle.std.specs.Prelude.{◌≡◌, ◌<◌, ◌+◌, MatchOption, ℕ, List, length, set, All, OnOk};
 ghost use Rattle.tcc_reads.specs.History.{IsBySession, count};
 ghost use Rattle.tcc_graph.specs.{Relations.IsSessionPair, Tables.row_of, Orders.IsNumbering};
-ghost use Rattle.tcc_clocks.specs.Clocks.{AreOwners, IsAfter};
-ghost use Rattle.tcc_survey.specs.private.Firsts.{AreFirstOf, AreFirsts, AreChildren, LeadsBackward};
+ghost use Rattle.tcc_clocks.specs.Clocks.{AreOwners};
+ghost use Rattle.tcc_survey.specs.private.Firsts.{AreFirsts, AreChildren, IsFirstRow, LeadsBackward};
 
+use crate::block::Block;
 use std::alloc::{AllocError, Global};
 use tcc_clocks::{SharedRows, Side, WIDE, put_row};
 use tcc_graph::LargeGraph;
@@ -46,24 +47,30 @@ fn find_children(found: &mut Vec<u32>, graph: &LargeGraph, a: u32) -> Result<(),
 /// Gives a transaction its row, once those of what stands behind it are known. From `init` all are reached.
 fn put_first(
     table: &mut SharedRows,
-    graph: &LargeGraph,
-    owners: &[u32],
-    from: u32,
+    block: &Block<'_>,
     children: &[u32],
     a: u32,
 ) -> Result<(), NoMemory>
-    requires numbered { IsBySession graph.now.entries }
-    requires owners { AreOwners graph.now owners.now }
-    requires children { AreChildren graph.now a children.now }
-    requires long { length table.old ≡ count graph.now }
-    requires firsts { All (λ p. AreFirstOf graph.now (IsAfter graph.now p) from (row_of table.old p)) children.now }
-    requires below { a < count graph.now }
-    ensures { OnOk result ((row : List ℕ) × (table.new ≡ set table.old a row) × AreFirstOf graph.now (IsAfter graph.now a) from row) }
+    requires numbered { IsBySession block.now.graph.now.entries }
+    requires owners { AreOwners block.now.graph.now block.now.owners.now }
+    requires children { AreChildren block.now.graph.now a children.now }
+    requires long { length table.old ≡ count block.now.graph.now }
+    requires firsts { All (λ p. IsFirstRow block.now.graph.now block.now.from p (row_of table.old p)) children.now }
+    requires below { a < count block.now.graph.now }
+    ensures { OnOk result ((row : List ℕ) × (table.new ≡ set table.old a row) × IsFirstRow block.now.graph.now block.now.from a row) }
 {
     if a == 0 {
         return table.put_like(a, &[0; WIDE], &[]);
     }
-    put_row(table, Side::Future, graph, owners, from, children, a)
+    put_row(
+        table,
+        Side::Future,
+        block.graph,
+        block.owners,
+        block.from,
+        children,
+        a,
+    )
 }
 
 /// Of each transaction and each session of the block the first number of the session that it reaches; by an order in which
@@ -71,23 +78,21 @@ fn put_first(
 pub(crate) fn find_firsts(
     alloc: Global,
     table: &mut SharedRows,
-    graph: &LargeGraph,
-    owners: &[u32],
-    from: u32,
+    block: &Block<'_>,
     backward: &[u32],
 ) -> Result<(), NoMemory>
-    requires numbered { IsBySession graph.now.entries }
-    requires owners { AreOwners graph.now owners.now }
-    requires numbering { IsNumbering (count graph.now) backward.now }
-    requires backward { LeadsBackward graph.now backward.now }
-    requires long { length table.old ≡ count graph.now }
-    ensures { OnOk result (AreFirsts graph.now from table.new) }
+    requires numbered { IsBySession block.now.graph.now.entries }
+    requires owners { AreOwners block.now.graph.now block.now.owners.now }
+    requires numbering { IsNumbering (count block.now.graph.now) backward.now }
+    requires backward { LeadsBackward block.now.graph.now backward.now }
+    requires long { length table.old ≡ count block.now.graph.now }
+    ensures { OnOk result (AreFirsts block.now.graph.now block.now.from table.new) }
 {
     table.clear();
     let mut children = Vec::new(alloc);
     for number in backward {
-        find_children(&mut children, graph, *number)?;
-        put_first(table, graph, owners, from, &children, *number)?;
+        find_children(&mut children, block.graph, *number)?;
+        put_first(table, block, &children, *number)?;
     }
     Ok(())
 }

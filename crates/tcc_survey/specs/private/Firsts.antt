@@ -10,9 +10,13 @@ use Rattle.tcc_clocks.specs.declared.side.Side.TheVariants.{Future}
 abbrev pub AreFirstOf : History → (ℕ → Type 0) → ℕ → List ℕ → Type 0
 AreFirstOf h Is from row = AreEntries Future h Is from row
 
+-- the row of a transaction says which is the first that it reaches
+abbrev pub IsFirstRow : History → ℕ → ℕ → List ℕ → Type 0
+IsFirstRow h from = λ a row. AreFirstOf h (IsAfter h a) from row
+
 -- the row of each transaction says what it reaches
 abbrev pub AreFirsts : History → ℕ → List (List ℕ) → Type 0
-AreFirsts h from table = HasRows h (λ a row. AreFirstOf h (IsAfter h a) from row) (λ a. a < count h) table
+AreFirsts h from table = HasRows h (IsFirstRow h from) (λ a. a < count h) table
 
 -- causal pairs lead backward in the order
 abbrev pub LeadsBackward : History → List ℕ → Type 0

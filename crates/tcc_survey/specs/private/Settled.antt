@@ -13,6 +13,7 @@ use Rattle.tcc_survey.specs.private.Firsts.{AreFirsts}
 use Rattle.tcc_clocks.specs.declared.latest.TheConstants.{WIDE}
 use Rattle.tcc_survey.specs.declared.external_reads.Reading.{Reading}
 use Rattle.tcc_survey.specs.declared.scanning.Scan.{Scan}
+use Rattle.tcc_survey.specs.declared.scanning.Sweep.{Sweep}
 use Rattle.tcc_survey.specs.Contradictions.{IsContradictedBy}
 
 -- the least number that is one of those meant, or 0 where there is none; 0 itself isn't meant
@@ -43,34 +44,34 @@ abbrev pub IsHitIn : Judged → List ℕ → ℕ → ℕ → ℕ → List ℕ �
 IsHitIn j owners session low high among c b =
     (0 < b) × Contains among b × (slice_index owners b ≡ session) × (low ≤ b) × (b ≤ high) × IsKnown j.level j.history b c
 
--- the block that begins at `from`, with the clocks of its sessions both ways
-pub record IsBlock (h : History) (owners : List ℕ) (from : ℕ) (firsts clocks : List (List ℕ)) : Type 0 where
-  pub numbered : IsBySession h.entries
-  pub room : from + WIDE < 2 ^ 32
-  pub acyclic : IsAcyclic h
-  pub owned : AreOwners h owners
-  pub first : AreFirsts h from firsts
-  pub clock : AreClocks h from clocks
+-- the transactions of the block's history are numbered by sessions and stand in no circle, and the clocks are those of its sessions
+pub record IsBlock (s : Sweep) : Type 0 where
+  pub numbered : IsBySession s.block.graph.now.entries
+  pub room : s.block.from + WIDE < 2 ^ 32
+  pub acyclic : IsAcyclic s.block.graph.now
+  pub owned : AreOwners s.block.graph.now s.block.owners.now
+  pub first : AreFirsts s.block.graph.now s.block.from s.firsts.now
+  pub clock : AreClocks s.block.graph.now s.block.from s.clocks.now
 
 -- the writers, which rise, are transactions, and so is the reader; the rows are as wide as a block
 pub record MayHit (s : Scan) : Type 0 where
-  pub numbered : IsBySession s.graph.now.entries
-  pub owned : AreOwners s.graph.now s.owners.now
-  pub room : s.from + WIDE < 2 ^ 32
-  pub inside : All (λ b. b < count s.graph.now) s.writers.now
+  pub numbered : IsBySession s.block.graph.now.entries
+  pub owned : AreOwners s.block.graph.now s.block.owners.now
+  pub room : s.block.from + WIDE < 2 ^ 32
+  pub inside : All (λ b. b < count s.block.graph.now) s.writers.now
   pub rising : IsNonDecreasing s.writers.now
   pub first_wide : length s.first.now ≡ WIDE
   pub clock_wide : length s.clock.now ≡ WIDE
-  pub reader : s.reader < count s.graph.now
+  pub reader : s.reader < count s.block.graph.now
 
 -- b is a hit of the scan
 abbrev pub IsHitOf : Scan → ℕ → Type 0
-IsHitOf s b = IsHit (judged s.graph.now s.level) s.owners.now s.from s.first.now s.clock.now s.writers.now s.reader b
+IsHitOf s b = IsHit (judged s.block.graph.now s.level) s.block.owners.now s.block.from s.first.now s.clock.now s.writers.now s.reader b
 
 -- b is a hit of the scan in one session of the block
 abbrev pub IsHitOnLane : Scan → ℕ → ℕ → Type 0
 IsHitOnLane s lane b =
-    IsHitIn (judged s.graph.now s.level) s.owners.now (s.from + lane) (slice_index s.first.now lane) (slice_index s.clock.now lane) s.writers.now s.reader b
+    IsHitIn (judged s.block.graph.now s.level) s.block.owners.now (s.block.from + lane) (slice_index s.first.now lane) (slice_index s.clock.now lane) s.writers.now s.reader b
 
 -- some writers of the key, and all that are of the block; they rise
 pub record AreWritersIn (h : History) (from : ℕ) (x : List ℕ) (among : List ℕ) : Type 0 where

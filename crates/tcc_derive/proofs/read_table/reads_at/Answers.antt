@@ -1,5 +1,5 @@
-use Rattle.std.proofs.Common.{rules, ◌≡◌, ℕ, [], ◌∷◌, ◌++◌, length, length-append, get_or, refl, arith}
-use Rattle.tcc_near.proofs.RowLemmas.{each_pushed}
+use Rattle.std.proofs.Common.{rules, ◌≡◌, ℕ, [], ◌∷◌, ◌++◌, length, get_or, refl, arith}
+use Rattle.tcc_near.proofs.RowLemmas.{rows_pushed}
 use Rattle.tcc_derive.specs.declared.read.Read.{Read}
 use Rattle.tcc_derive.proofs.TableLemmas.{reads_listed, reads_below}
 use Rattle.tcc_derive.proofs.read_table.reads_at.Goals as goal
@@ -20,13 +20,10 @@ loop-number-preserved c =
     let sources = c.readings_of.result.0.now in
     let readers = c.readings_of.result.1.now in
     let rows = c.loop-number.reads.items in
-    let inv = c.loop-number.invariant in
     let made : Read = record { source = get_or sources n 0; reader = get_or readers n 0 } in
     let pushed : c.push.new.self.items ≡ rows ++ made ∷ [] = search rules in
-    rw pushed (
-      omega (arith, length-append rows (made ∷ []), inv.0),
-      each_pushed (λ (i : ℕ) (r : Read). r ≡ record { source = get_or sources i 0; reader = get_or readers i 0 }) rows made n inv.0 inv.1 refl,
-    )
+    rw pushed
+    (rows_pushed (λ (i : ℕ) (r : Read). r ≡ record { source = get_or sources i 0; reader = get_or readers i 0 }) rows made n c.loop-number.invariant refl)
 
 pub returns : goal.returns
 returns c =
@@ -34,5 +31,6 @@ returns c =
     let sources = c.readings_of.result.0.now in
     let readers = c.readings_of.result.1.now in
     let all : c.loop-number.number ≡ length sources = search rules in
-    rw c.new.ensures (reads_listed c.args.graph.now c.args.key_index sources readers c.loop-number.reads.items c.readings_of.ensures.long
+    let same : c.in-Ok.key_index ≡ c.args.key_index = search rules in
+    rw (c.new.ensures, ← same) (reads_listed c.args.graph.now c.in-Ok.key_index sources readers c.loop-number.reads.items c.readings_of.ensures.long
     c.readings_of.ensures.each (omega (arith, inv.0, all)) (λ i d l. inv.1 i d (omega (arith, l, all))))

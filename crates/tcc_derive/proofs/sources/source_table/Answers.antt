@@ -1,6 +1,6 @@
-use Rattle.std.proofs.Common.{◌≡◌, ◌⊎◌, ℕ, List, [], ◌∷◌, length, length-append, ◌∙◌, arith}
+use Rattle.std.proofs.Common.{◌≡◌, ◌⊎◌, ℕ, List, [], length, ◌∙◌, arith}
 use Rattle.std.proofs.lemmas.List.{get_or_read}
-use Rattle.tcc_near.proofs.RowLemmas.{each_pushed}
+use Rattle.tcc_near.proofs.RowLemmas.{rows_pushed}
 use Rattle.tcc_derive.specs.private.Buckets.{bucket}
 use Rattle.tcc_derive.specs.private.Sources.{AreSources}
 use Rattle.tcc_derive.proofs.sources.source_table.Goals as goal
@@ -9,15 +9,13 @@ pub loop-bucket-preserved : goal.loop-bucket-preserved
 loop-bucket-preserved c =
     let k = c.loop-bucket.bucket-index in
     let rows = c.loop-bucket.table.items in
-    let inv = c.loop-bucket.invariant in
     let made = c.in_ok-sources_at.field-0 in
     let row : c.as_slice.result.now ≡ bucket c.args.reads.now k =
     c.as_slice.ensures ∙ get_or_read c.args.reads.now k c.bucket-item.result c.loop-bucket-test.true c.bucket-item.is [] in
     let here : (length made ≡ 0) ⊎ AreSources c.args.count (bucket c.args.reads.now k) made = rw row at c.in_ok-sources_at.ensures in
-    rw c.in_ok-push.ensures.items (
-      omega (arith, length-append rows (made ∷ []), inv.0),
-      each_pushed (λ (i : ℕ) (r : List (List ℕ)). (length r ≡ 0) ⊎ AreSources c.args.count (bucket c.args.reads.now i) r) rows made k inv.0 inv.1 here,
-    )
+    rw c.in_ok-push.ensures.items
+    (rows_pushed (λ (i : ℕ) (r : List (List ℕ)). (length r ≡ 0) ⊎ AreSources c.args.count (bucket c.args.reads.now i) r) rows made k
+    c.loop-bucket.invariant here)
 
 pub returns : goal.returns
 returns c =

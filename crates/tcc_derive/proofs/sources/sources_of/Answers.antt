@@ -1,6 +1,6 @@
-use Rattle.std.proofs.Common.{◌≡◌, ℕ, List, [], ◌∷◌, length-append, ◌∙◌, arith}
+use Rattle.std.proofs.Common.{◌≡◌, ℕ, List, [], ◌∙◌, arith}
 use Rattle.std.proofs.lemmas.List.{get_or_read}
-use Rattle.tcc_near.proofs.RowLemmas.{each_pushed}
+use Rattle.tcc_near.proofs.RowLemmas.{rows_pushed}
 use Rattle.tcc_derive.specs.private.Buckets.{bucket}
 use Rattle.tcc_derive.proofs.SourceLemmas.{IsRowFor, by_reader_below, sources_from}
 use Rattle.tcc_derive.proofs.sources.sources_of.Goals as goal
@@ -20,14 +20,11 @@ loop-bucket-preserved c =
     let buckets = c.deref-bucket-items.result.now in
     let rows = c.loop-bucket.rows.items in
     let made = c.in_ok-marks_of.field-0 in
-    let inv = c.loop-bucket.invariant in
     let row : c.as_slice.result.now ≡ bucket buckets k =
     c.as_slice.ensures ∙ get_or_read buckets k c.bucket-item.result c.loop-bucket-test.true c.bucket-item.is [] in
     let here : IsRowFor c.args.count (bucket buckets k) made = rw (← row) (record { wide = c.in_ok-marks_of.ensures.wide; each = c.in_ok-marks_of.ensures.each }) in
-    rw c.in_ok-push.ensures.items (
-      omega (arith, length-append rows (made ∷ []), inv.0),
-      each_pushed (λ (i : ℕ) (r : List ℕ). IsRowFor c.args.count (bucket buckets i) r) rows made k inv.0 inv.1 here,
-    )
+    rw c.in_ok-push.ensures.items
+    (rows_pushed (λ (i : ℕ) (r : List ℕ). IsRowFor c.args.count (bucket buckets i) r) rows made k c.loop-bucket.invariant here)
 
 pub returns : goal.returns
 returns c =

@@ -8,28 +8,35 @@ use Rattle.tcc_survey.proofs.clock_sweep.find_least.Goals as goal
 
 pub find_firsts-requires-clause-numbering : goal.find_firsts-requires-clause-numbering
 find_firsts-requires-clause-numbering c =
-    rw (c.deref-in-loop-block-3.ensures.value, c.in_ok-backward.ensures) (reversed_numbering c.args.graph.now c.args.order.now c.requires.numbering)
+    rw (c.deref-in-loop-number-3.ensures.value, c.in_ok-backward.ensures) (reversed_numbering c.args.graph.now c.args.order.now c.requires.numbering)
 
 pub find_firsts-requires-clause-backward : goal.find_firsts-requires-clause-backward
 find_firsts-requires-clause-backward c =
-    rw (c.deref-in-loop-block-3.ensures.value, c.in_ok-backward.ensures)
+    rw (c.deref-in-loop-number-3.ensures.value, c.in_ok-backward.ensures)
     (λ a b pair. reversed_before c.args.graph.now c.args.order.now c.requires.numbering a b (c.requires.onward a b pair))
 
-pub settle_block-requires-clause-acyclic : goal.settle_block-requires-clause-acyclic
-settle_block-requires-clause-acyclic c = acyclic c.args.graph.now c.args.order.now c.requires.numbering c.requires.onward
+pub settle-requires-clause-block : goal.settle-requires-clause-block
+settle-requires-clause-block c = record {
+  numbered = search rules;
+  room = search rules;
+  acyclic = acyclic c.args.graph.now c.args.order.now c.requires.numbering c.requires.onward;
+  owned = search rules;
+  first = search rules;
+  clock = search rules;
+}
 
-pub loop-block-preserved : goal.loop-block-preserved
-loop-block-preserved c =
+pub loop-number-preserved : goal.loop-number-preserved
+loop-number-preserved c =
     let j : Judged = judged c.args.graph.now c.args.level in
     let all = c.args.reads.now in
-    let new = c.settle_block.new.found in
-    let old = c.loop-block.found.items in
-    let inv = c.loop-block.invariant in
-    let same : length new ≡ length old = rw c.deref_mut.ensures.value at c.in_ok-settle_block.ensures.same in
-    let long : c.loop-block.found.len ≡ length old = search rules in
-    let bound : c.loop-block.block * WIDE + WIDE ≡ (c.loop-block.block + 1) * WIDE = omega arith in
-    let settled : AreSettled j all ((c.loop-block.block + 1) * WIDE) new = subst (λ (z : ℕ). AreSettled j all z new) bound c.in_ok-settle_block.ensures.settled in
-    rw (take_at new _ c.loop-block.found.len (same ∙ sym long)) (c.in_ok-find_clocks.ensures.long, c.in_ok-find_firsts.ensures.long, settled)
+    let new = c.settle.new.found in
+    let old = c.loop-number.found.items in
+    let inv = c.loop-number.invariant in
+    let same : length new ≡ length old = rw c.deref_mut.ensures.value at c.in_ok-settle.ensures.same in
+    let long : c.loop-number.found.len ≡ length old = search rules in
+    let bound : c.loop-number.number * WIDE + WIDE ≡ (c.loop-number.number + 1) * WIDE = omega arith in
+    let settled : AreSettled j all ((c.loop-number.number + 1) * WIDE) new = subst (λ (z : ℕ). AreSettled j all z new) bound c.in_ok-settle.ensures.settled in
+    rw (take_at new _ c.loop-number.found.len (same ∙ sym long)) (c.in_ok-find_clocks.ensures.long, c.in_ok-find_firsts.ensures.long, settled)
 
 pub returns : goal.returns
 returns c =
@@ -37,8 +44,8 @@ returns c =
     let j : Judged = judged h c.args.level in
     let all = c.args.reads.now in
     let sessions : ℕ = length c.sessions-sessions.result.now in
-    let cover : length c.sessions-sessions.result.now ≤ c.loop-block.block * WIDE
-    = blocks_cover (length c.sessions-sessions.result.now) c.loop-block.block (omega (arith, c.loop-block-test.false, c.div_ceil-block-end.ensures)) in
-    settled_found j all (c.loop-block.block * WIDE) (length c.sessions-sessions.result.now) c.loop-block.found.items c.loop-block.invariant.2 cover
+    let cover : length c.sessions-sessions.result.now ≤ c.loop-number.number * WIDE
+    = blocks_cover (length c.sessions-sessions.result.now) c.loop-number.number (omega (arith, c.loop-number-test.false, c.div_ceil-number-end.ensures)) in
+    settled_found j all (c.loop-number.number * WIDE) (length c.sessions-sessions.result.now) c.loop-number.found.items c.loop-number.invariant.2 cover
     c.sessions-sessions.ensures.owners
     (λ k l b w. against_some j (acyclic h c.args.order.now c.requires.numbering c.requires.onward) (reading_of all k) (c.requires.reads k l) b w)

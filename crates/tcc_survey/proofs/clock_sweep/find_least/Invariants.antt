@@ -5,8 +5,8 @@ use Rattle.tcc_clocks.specs.declared.latest.TheConstants.{WIDE}
 use Rattle.tcc_survey.specs.private.Settled.{AreSettled}
 use Rattle.tcc_survey.proofs.clock_sweep.find_least.Given as goal
 
-abbrev pub invariant-loop-block : goal.invariant-loop-block
-invariant-loop-block l =
+abbrev pub invariant-loop-number : goal.invariant-loop-number
+invariant-loop-number l =
     (length l.clocks ≡ count l.graph)
     × (length l.firsts ≡ count l.graph)
-    × AreSettled (judged l.graph l.level) l.reads (l.block * WIDE) l.found.items
+    × AreSettled (judged l.graph l.level) l.reads (l.number * WIDE) l.found.items

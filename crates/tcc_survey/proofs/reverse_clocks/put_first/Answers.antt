@@ -12,22 +12,22 @@ use Rattle.tcc_survey.proofs.reverse_clocks.put_first.Goals as goal
 
 pub returns-then-a-eq0 : goal.returns-then-a-eq0
 returns-then-a-eq0 c =
-    let h = c.args.graph.now in
+    let h = c.args.block.now.graph.now in
     let zeros : List ℕ = replicate WIDE 0 in
-    let all : AreFirstOf h (IsAfter h 0) c.args.from zeros =
-    first_all h c.args.from zeros (length-replicate {A = ℕ} WIDE 0) (λ k l. get_or-replicate {A = ℕ} WIDE k 0 0 (omega (arith, l, length-replicate {A = ℕ} WIDE 0))) in
-    let mine : AreFirstOf h (IsAfter h c.args.a) c.args.from zeros =
-    subst (λ (z : ℕ). AreFirstOf h (IsAfter h z) c.args.from zeros) (sym c.if-a-eq0.true) all in
+    let all : AreFirstOf h (IsAfter h 0) c.args.block.now.from zeros =
+    first_all h c.args.block.now.from zeros (length-replicate {A = ℕ} WIDE 0) (λ k l. get_or-replicate {A = ℕ} WIDE k 0 0 (omega (arith, l, length-replicate {A = ℕ} WIDE 0))) in
+    let mine : AreFirstOf h (IsAfter h c.args.a) c.args.block.now.from zeros =
+    subst (λ (z : ℕ). AreFirstOf h (IsAfter h z) c.args.block.now.from zeros) (sym c.if-a-eq0.true) all in
     on_ok_weaker c.put_like.result (λ e. (zeros, e, mine)) c.put_like.ensures
 
 pub returns : goal.returns
 returns c =
-    let h = c.args.graph.now in
+    let h = c.args.block.now.graph.now in
     let a = c.args.a in
     let some : 0 < a = omega (arith, c.if-a-eq0.false) in
     let children = c.args.children.now in
     on_ok_weaker c.put_row.result (λ w. (
       w.0,
       w.1,
-      entries_same Future h (IsWith Future h (Contains children)) (IsAfter h a) c.args.from w.0 (from_children h c.requires.numbered a children some c.requires.children) w.2,
+      entries_same Future h (IsWith Future h (Contains children)) (IsAfter h a) c.args.block.now.from w.0 (from_children h c.requires.numbered a children some c.requires.children) w.2,
     )) c.put_row.ensures

@@ -10,14 +10,14 @@ pub returns-then-low-high : goal.returns-then-low-high
 returns-then-low-high c =
     let s = c.args.self.now in
     let lane : ℕ = c.args.lane in
-    none_between (judged s.graph.now s.level) s.owners.now (s.from + lane) (slice_index s.first.now lane) (slice_index s.clock.now lane) s.writers.now s.reader
+    none_between (judged s.block.graph.now s.level) s.block.owners.now (s.block.from + lane) (slice_index s.first.now lane) (slice_index s.clock.now lane) s.writers.now s.reader
     (omega (arith, c.if-low-high.true))
 
 pub returns-then-b-high : goal.returns-then-b-high
 returns-then-b-high c =
     let s = c.args.self.now in
     let lane : ℕ = c.args.lane in
-    none_past (judged s.graph.now s.level) s.owners.now (s.from + lane) (slice_index s.first.now lane) (slice_index s.clock.now lane) s.writers.now s.reader
+    none_past (judged s.block.graph.now s.level) s.block.owners.now (s.block.from + lane) (slice_index s.first.now lane) (slice_index s.clock.now lane) s.writers.now s.reader
     c.requires.may.rising c.loop-index.index c.loop-index-test.true c.loop-index.invariant (omega (arith, c.if-b-high.true))
 
 pub returns-then-is_known : goal.returns-then-is_known
@@ -28,7 +28,7 @@ returns-then-is_known c =
     let n : ℕ = c.loop-index.index in
     let b : ℕ = slice_index ws n in
     let inside = c.loop-index-test.true in
-    let mine : slice_index s.owners.now b ≡ s.from + lane = search rules in
+    let mine : slice_index s.block.owners.now b ≡ s.block.from + lane = search rules in
     let low : slice_index s.first.now lane ≤ b = search rules in
     let high : b ≤ slice_index s.clock.now lane = search rules in
     first_found (IsHitOnLane s lane) ws c.requires.may.rising n c.loop-index.invariant inside (omega (arith, c.if-b-gt0.true))

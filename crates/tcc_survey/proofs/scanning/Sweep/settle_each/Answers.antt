@@ -5,19 +5,19 @@ use Rattle.tcc_graph.specs.Levels.{Judged, judged}
 use Rattle.tcc_clocks.specs.declared.latest.TheConstants.{WIDE}
 use Rattle.tcc_survey.specs.private.Settled.{IsLeastBefore, reading_of}
 use Rattle.tcc_survey.proofs.FindLemmas.{cells_before, cells_rest}
-use Rattle.tcc_survey.proofs.scanning.settle_each.Goals as goal
+use Rattle.tcc_survey.proofs.scanning.Sweep.settle_each.Goals as goal
 
 pub least_up_to-requires-clause-writers : goal.least_up_to-requires-clause-writers
 least_up_to-requires-clause-writers c =
     let k : ℕ = (reading_of c.args.reads.now c.loop-index.index).key_index in
-    let low : k < length (keys c.args.graph.now) = (c.requires.reads c.loop-index.index c.loop-index-test.true).key in
-    rw (c.between-writers.ensures, c.writers_at.ensures) (c.requires.spans.each k low)
+    let low : k < length (keys c.args.self.now.block.graph.now) = (c.requires.reads c.loop-index.index c.loop-index-test.true).key in
+    rw (c.between-writers.ensures, c.writers_at-among.ensures) (c.requires.spans.each k low)
 
 pub loop-index-preserved : goal.loop-index-preserved
 loop-index-preserved c =
-    let j : Judged = judged c.args.graph.now c.args.level in
+    let j : Judged = judged c.args.self.now.block.graph.now c.args.self.now.level in
     let all = c.args.reads.now in
-    let from = c.args.from in
+    let from = c.args.self.now.block.from in
     let found = c.loop-index.found in
     let i = c.loop-index.index in
     let v = c.least_up_to.result in
