@@ -1,23 +1,31 @@
 //! The limits of an input, each in one place.
 ghost use Rattle.std.specs.Prelude.{◌≡◌};
-ghost use Rattle.tcc_txn.specs.Limits.{most_bytes, most_keys, most_sessions, most_transactions};
+ghost use Rattle.tcc_txn.specs.declared.limits.Limits.TheVariants.{Small, Large};
+ghost use Rattle.tcc_txn.specs.Limits.{most_bytes, most_keys, most_of, most_sessions, most_transactions};
+
+// Those of each input.
 
 /// The bytes of a name.
 pub const MAX_NAME_BYTES: usize = 32;
+/// The operations of a transaction.
+pub const MAX_OPERATIONS: usize = 256;
+/// The seals of an input.
+pub const MAX_SEALS: usize = 256;
+
+// The small ones.
+
 /// The sessions of an input or a snapshot.
 pub const MAX_SESSIONS: usize = 64;
 /// The transactions of an input or a snapshot, aborted ones among them.
 pub const MAX_TRANSACTIONS: usize = 4095;
 /// The transactions of a history: those of a snapshot and the initial one.
 pub const MAX_COUNT: usize = MAX_TRANSACTIONS + 1;
-/// The operations of a transaction.
-pub const MAX_OPERATIONS: usize = 256;
 /// The keys of an input.
 pub const MAX_KEYS: usize = 1024;
-/// The seals of an input.
-pub const MAX_SEALS: usize = 256;
 /// The bytes of an input.
 pub const MAX_INPUT_BYTES: u64 = 134_217_728;
+
+// The large ones.
 
 /// The sessions of a large input or snapshot.
 pub const LARGE_SESSIONS: usize = 65_535;
@@ -40,34 +48,35 @@ pub enum Limits {
 }
 
 impl Limits {
+    /// One number within the small limits, and another within the large ones.
+    fn most_of(self, small: usize, large: usize) -> usize
+        ensures { result ≡ most_of small large self }
+    {
+        match self {
+            Limits::Small => small,
+            Limits::Large => large,
+        }
+    }
+
     /// The most sessions.
     pub fn sessions(self) -> usize
         ensures { result ≡ most_sessions self }
     {
-        match self {
-            Limits::Small => MAX_SESSIONS,
-            Limits::Large => LARGE_SESSIONS,
-        }
+        self.most_of(MAX_SESSIONS, LARGE_SESSIONS)
     }
 
     /// The most transactions, aborted ones among them.
     pub fn transactions(self) -> usize
         ensures { result ≡ most_transactions self }
     {
-        match self {
-            Limits::Small => MAX_TRANSACTIONS,
-            Limits::Large => LARGE_TRANSACTIONS,
-        }
+        self.most_of(MAX_TRANSACTIONS, LARGE_TRANSACTIONS)
     }
 
     /// The most keys.
     pub fn keys(self) -> usize
         ensures { result ≡ most_keys self }
     {
-        match self {
-            Limits::Small => MAX_KEYS,
-            Limits::Large => LARGE_KEYS,
-        }
+        self.most_of(MAX_KEYS, LARGE_KEYS)
     }
 
     /// The most bytes.
@@ -96,8 +105,6 @@ pub trait Bounds {
 pub struct SmallLimits;
 
 impl Bounds for SmallLimits {
-    ghost use Rattle.tcc_txn.specs.declared.limits.Limits.TheVariants.{Small};
-
     ghost limits = { Small };
 
     fn limits() -> Limits {
@@ -109,8 +116,6 @@ impl Bounds for SmallLimits {
 pub struct LargeLimits;
 
 impl Bounds for LargeLimits {
-    ghost use Rattle.tcc_txn.specs.declared.limits.Limits.TheVariants.{Large};
-
     ghost limits = { Large };
 
     fn limits() -> Limits {
