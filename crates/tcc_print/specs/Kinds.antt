@@ -12,6 +12,10 @@ pub record Told : Type 0 where
   pub word : List ℕ
   pub status : Status
 
+-- a limit of the records that is passed
+abbrev passed_limit : List ℕ → Told
+passed_limit word = record { word = word; status = Limit }
+
 -- a kind of row fault
 abbrev pub row_told : RowFaultKind → Told
 row_told row_kind.FieldCount = record { word = codes "FieldCount"; status = RowFault }
@@ -22,23 +26,27 @@ row_told row_kind.BadValue = record { word = codes "BadValue"; status = RowFault
 row_told row_kind.WriteOfZero = record { word = codes "WriteOfZero"; status = RowFault }
 row_told row_kind.NotBegun = record { word = codes "NotBegun"; status = RowFault }
 row_told row_kind.AlreadyBegun = record { word = codes "AlreadyBegun"; status = RowFault }
-row_told row_kind.TooManyOps = record { word = codes "TooManyOps"; status = Limit }
-row_told row_kind.TooManySessions = record { word = codes "TooManySessions"; status = Limit }
-row_told row_kind.TooManyTransactions = record { word = codes "TooManyTransactions"; status = Limit }
-row_told row_kind.TooManyKeys = record { word = codes "TooManyKeys"; status = Limit }
-row_told row_kind.TooManySeals = record { word = codes "TooManySeals"; status = Limit }
+row_told row_kind.TooManyOps = passed_limit (codes "TooManyOps")
+row_told row_kind.TooManySessions = passed_limit (codes "TooManySessions")
+row_told row_kind.TooManyTransactions = passed_limit (codes "TooManyTransactions")
+row_told row_kind.TooManyKeys = passed_limit (codes "TooManyKeys")
+row_told row_kind.TooManySeals = passed_limit (codes "TooManySeals")
 row_told (row_kind.Unfinished session) = record { word = codes "Unfinished"; status = RowFault }
 row_told row_kind.Read = record { word = codes "Read"; status = Device }
 row_told row_kind.NoMemory = record { word = codes "NoMemory"; status = Memory }
 
+-- a certificate whose text is wrong
+abbrev wrong_text : List ℕ → Told
+wrong_text word = record { word = word; status = CertificateFault }
+
 -- a kind of fault in the text of a certificate
 abbrev pub certificate_told : CertFaultKind → Told
-certificate_told text_kind.Header = record { word = codes "Header"; status = CertificateFault }
-certificate_told text_kind.Word = record { word = codes "Word"; status = CertificateFault }
-certificate_told text_kind.Number = record { word = codes "Number"; status = CertificateFault }
-certificate_told text_kind.Count = record { word = codes "Count"; status = CertificateFault }
-certificate_told text_kind.TooLarge = record { word = codes "TooLarge"; status = CertificateFault }
-certificate_told text_kind.Truncated = record { word = codes "Truncated"; status = CertificateFault }
-certificate_told text_kind.Trailing = record { word = codes "Trailing"; status = CertificateFault }
+certificate_told text_kind.Header = wrong_text (codes "Header")
+certificate_told text_kind.Word = wrong_text (codes "Word")
+certificate_told text_kind.Number = wrong_text (codes "Number")
+certificate_told text_kind.Count = wrong_text (codes "Count")
+certificate_told text_kind.TooLarge = wrong_text (codes "TooLarge")
+certificate_told text_kind.Truncated = wrong_text (codes "Truncated")
+certificate_told text_kind.Trailing = wrong_text (codes "Trailing")
 certificate_told text_kind.Read = record { word = codes "Read"; status = Device }
 certificate_told text_kind.NoMemory = record { word = codes "NoMemory"; status = Memory }

@@ -1,5 +1,5 @@
 -- What a run says of one snapshot, whatever its outcomes are.
-use Rattle.std.specs.Prelude.{ℕ, ◌≡◌, ◌≢◌, ◌⊎◌, List, Option, Some, None, IfSome, MatchResult, Result, Ok}
+use Rattle.std.specs.Prelude.{ℕ, ◌≡◌, ◌≢◌, ◌⊎◌, List, Option, IfSome, MatchResult, Result, Ok}
 use Rattle.std.specs.Io.KnownBytes.{Appends}
 use Rattle.tcc_rows.specs.declared.recording.Moment.{Moment}
 use Rattle.tcc_rows.specs.declared.recording.Moment.TheVariants as moment

@@ -2,10 +2,9 @@
 ghost use Rattle.std.specs.Prelude.{◌≡◌, IfOk};
 ghost use Rattle.serde_json.specs.View.{view};
 ghost use Rattle.tcc_answer.specs.Json.{json_line};
-ghost use Rattle.tcc_print.specs.Json.{halt_line, read_fault_json, row_fault_json, unresolved_json};
+ghost use Rattle.tcc_print.specs.Json.{read_fault_json, row_fault_json, unresolved_json};
 
-use crate::halt::Halt;
-use crate::texts::{halt_text, read_word, row_word};
+use crate::texts::{read_word, row_word};
 use serde_json::{Value, json};
 use std::alloc::{AllocError, Global};
 use tcc_answer::object_line;
@@ -79,16 +78,4 @@ pub fn unresolved(alloc: Global, faults: &[ReadFault]) -> Result<Vec<u8>, NoMemo
     push_objects(alloc, &mut line, &ReadFaults, faults)?;
     push(&mut line, &[b"}\n"])?;
     Ok(line)
-}
-
-/// What stands in the place of an answer; what is no part of the answers as JSON is as in the text.
-pub fn halt_line(alloc: Global, halt: &Halt) -> Result<Vec<u8>, NoMemory>
-    ensures { IfOk result (λ line. line.items ≡ halt_line halt.now) }
-{
-    match halt {
-        Halt::Text(_) => halt_text(alloc, halt),
-        Halt::Row(fault) => row_fault(alloc, fault),
-        Halt::Reads(faults) => unresolved(alloc, faults),
-        Halt::NoMemory => Err(NoMemory),
-    }
 }

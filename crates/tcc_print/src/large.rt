@@ -4,7 +4,7 @@ ghost use Rattle.std.specs.Io.KnownBytes.{Appends};
 ghost use Rattle.tcc_graph.specs.Links.{cost};
 ghost use Rattle.tcc_print.specs.{Large.unproved, Printed.EndsIn};
 
-use crate::printing::send_made;
+use crate::printing::{Made, Sent, send_made};
 use std::alloc::Global;
 use std::io::Write;
 use tcc_answer::{Cycle, Labels, cycle_line, cycle_text};
@@ -27,12 +27,7 @@ pub fn steps_of(links: &[Link]) -> Result<usize, NoMemory>
 }
 
 /// The text of a cycle that needn't be a least one, or its line of JSON.
-fn unproved_made(
-    alloc: Global,
-    labels: &Labels,
-    links: &[Link],
-    json: bool,
-) -> Result<Vec<u8>, NoMemory>
+fn unproved_made(alloc: Global, labels: &Labels, links: &[Link], json: bool) -> Made
     ensures { IfOk result (λ text. text.items ≡ unproved json labels.now links.now) }
 {
     let steps = steps_of(links)?;
@@ -56,7 +51,7 @@ pub fn send_unproved<W: Write>(
     links: &[Link],
     json: bool,
     out: &mut W,
-) -> Result<(), u8>
+) -> Sent
     ensures whole { OnOk result (Appends (W.contents out.old) (W.contents out.new) (unproved json labels.now links.now)) }
     ensures ended { IfErr result (EndsIn json (W.contents out.old) (W.contents out.new) (unproved json labels.now links.now)) }
 {

@@ -38,18 +38,8 @@ fn send_note<N: Write>(made: Result<Vec<u8>, NoMemory>, notes: &mut N)
 fn too_few(alloc: Global, required: u32, transactions: usize) -> Result<Vec<u8>, NoMemory>
     ensures { IfOk result (λ text. text.items ≡ too_few_text required transactions) }
 {
-    let required = required.to_string(alloc)?;
-    let transactions = transactions.to_string(alloc)?;
-    joined(
-        alloc,
-        &[
-            b"--require ",
-            required.as_bytes(),
-            b": only ",
-            transactions.as_bytes(),
-            b" transactions\n",
-        ],
-    )
+    let text = format!(in alloc; "--require {required}: only {transactions} transactions\n")?;
+    Ok(text.into_bytes())
 }
 
 /// Notes of the last answer of a run that it is an order with fewer transactions than are required, where it is one.
@@ -107,35 +97,8 @@ fn push_field(
     push(text, &[b": "])
 }
 
-/// Adds what a record has, of which these are the fields, if they are known, and what stands there instead.
-fn push_mending(
-    alloc: Global,
-    text: &mut Vec<u8>,
-    mending: Mending,
-    fields: &[&[u8]],
-) -> Result<(), NoMemory> {
-    match mending {
-        Mending::Field(place, stands) => {
-            push_field(alloc, text, place, fields)?;
-            push(text, &[b"expected ", stands.as_bytes()])
-        }
-        Mending::Record(stands) => {
-            push_record(alloc, text, fields)?;
-            push(text, &[b"expected ", stands.as_bytes()])
-        }
-        Mending::Limit(most, things) => {
-            push_record(alloc, text, fields)?;
-            let most = most.to_string(alloc)?;
-            push(
-                text,
-                &[b"at most ", most.as_bytes(), b" ", things.as_bytes()],
-            )
-        }
-        Mending::Input(what) => push(text, &[what.as_bytes()]),
-    }
-}
-
-/// The note of a row fault in an input of these limits, by the fields of its record.
+/// The note of a row fault in an input of these limits: what its record has, of which these are the fields, if they are known,
+/// and what stands there instead.
 fn row(
     alloc: Global,
     limits: Limits,
@@ -144,12 +107,22 @@ fn row(
 ) -> Result<Vec<u8>, NoMemory> {
     let row = fault.row.to_string(alloc)?;
     let mut text = joined(alloc, &[b"row ", row.as_bytes(), b": "])?;
-    push_mending(
-        alloc,
-        &mut text,
-        mending_of(&fault.kind, fields.len(), limits),
-        fields,
-    )?;
+    match mending_of(&fault.kind, fields.len(), limits) {
+        Mending::Field(place, stands) => {
+            push_field(alloc, &mut text, place, fields)?;
+            push(&mut text, &[b"expected ", stands.as_bytes()])?;
+        }
+        Mending::Record(stands) => {
+            push_record(alloc, &mut text, fields)?;
+            push(&mut text, &[b"expected ", stands.as_bytes()])?;
+        }
+        Mending::Limit(most, things) => {
+            push_record(alloc, &mut text, fields)?;
+            let most = format!(in alloc; "at most {most} {things}")?;
+            push(&mut text, &[most.as_bytes()])?;
+        }
+        Mending::Input(what) => push(&mut text, &[what.as_bytes()])?,
+    }
     push(&mut text, &[b"\n"])?;
     Ok(text)
 }

@@ -5,10 +5,9 @@ ghost use Rattle.tcc_print.specs.Printed.{Prints, answered, check_text, device_l
 ghost use Rattle.tcc_print.specs.Statuses.{check_status, code_of, halt_status};
 
 use crate::halt::Halt;
-use crate::json::{halt_line, unresolved as unresolved_line};
 use crate::status::{Status, halt_status, verdict_status};
-use crate::texts::{halt_text, unresolved as unresolved_text};
 use crate::verdicts::verdict_text;
+use crate::{json, texts};
 use std::alloc::Global;
 use std::io::Write;
 use tcc_answer::{Answer, WriteFault, write_json, write_text};
@@ -19,6 +18,9 @@ use tcc_txn::NoMemory;
 
 /// A text that was made, if there was memory for it.
 pub type Made = Result<Vec<u8>, NoMemory>;
+
+/// A text that went out; else the number that the run ends with.
+pub type Sent = Result<(), u8>;
 
 /// The one line or the other, by whether JSON is asked for.
 fn line_by(json: bool, object: &'static [u8], text: &'static [u8]) -> &'static [u8]
@@ -42,7 +44,7 @@ fn device_line(json: bool) -> &'static [u8]
 }
 
 /// Writes the text; else a writer that failed ends the run, with this number.
-fn send_text<W: Write>(out: &mut W, text: &[u8]) -> Result<(), u8>
+fn send_text<W: Write>(out: &mut W, text: &[u8]) -> Sent
     ensures whole { OnOk result (Appends (W.contents out.old) (W.contents out.new) text.now) }
     ensures ended { IfErr result (CutsOff (W.contents out.old) (W.contents out.new) text.now) }
 {
@@ -53,7 +55,7 @@ fn send_text<W: Write>(out: &mut W, text: &[u8]) -> Result<(), u8>
 }
 
 /// The number of a run whose last text has this status, if it went out.
-fn code_after(sent: Result<(), u8>, status: Status) -> u8
+fn code_after(sent: Sent, status: Status) -> u8
     ensures { MatchResult sent (λ _. result ≡ code_of status) (λ code. result ≡ code) }
 {
     match sent {
@@ -90,7 +92,7 @@ pub fn print_device<W: Write>(out: &mut W, json: bool) -> u8
 
 /// Writes the text that was made; else a writer that failed, or no memory for the text, ends the run, with this
 /// number.
-pub fn send_made<W: Write>(made: Made, json: bool, out: &mut W) -> Result<(), u8>
+pub fn send_made<W: Write>(made: Made, json: bool, out: &mut W) -> Sent
     ensures whole { (text : List ℕ) → IfOk made (λ bytes. bytes.items ≡ text) → OnOk result (Appends (W.contents out.old) (W.contents out.new) text) }
     ensures ended { (text : List ℕ) → IfOk made (λ bytes. bytes.items ≡ text) → IfErr result (EndsIn json (W.contents out.old) (W.contents out.new) text) }
 {
@@ -101,12 +103,7 @@ pub fn send_made<W: Write>(made: Made, json: bool, out: &mut W) -> Result<(), u8
 }
 
 /// Writes the answer as text or as a line of JSON; else the run ends with this number.
-pub fn send_answer<W: Write>(
-    alloc: Global,
-    answer: &Answer,
-    json: bool,
-    out: &mut W,
-) -> Result<(), u8>
+pub fn send_answer<W: Write>(alloc: Global, answer: &Answer, json: bool, out: &mut W) -> Sent
     ensures whole { OnOk result (Appends (W.contents out.old) (W.contents out.new) (answered json answer.now)) }
     ensures ended { IfErr result (EndsIn json (W.contents out.old) (W.contents out.new) (answered json answer.now)) }
 {
@@ -123,13 +120,13 @@ pub fn send_answer<W: Write>(
 }
 
 /// The text of all read faults, or their line of JSON.
-fn unresolved_made(alloc: Global, faults: &[ReadFault], json: bool) -> Result<Vec<u8>, NoMemory>
+fn unresolved_made(alloc: Global, faults: &[ReadFault], json: bool) -> Made
     ensures { IfOk result (λ text. text.items ≡ unresolved json faults.now) }
 {
     if json {
-        unresolved_line(alloc, faults)
+        json::unresolved(alloc, faults)
     } else {
-        unresolved_text(alloc, faults)
+        texts::unresolved(alloc, faults)
     }
 }
 
@@ -139,22 +136,32 @@ pub fn send_unresolved<W: Write>(
     faults: &[ReadFault],
     json: bool,
     out: &mut W,
-) -> Result<(), u8>
+) -> Sent
     ensures whole { OnOk result (Appends (W.contents out.old) (W.contents out.new) (unresolved json faults.now)) }
     ensures ended { IfErr result (EndsIn json (W.contents out.old) (W.contents out.new) (unresolved json faults.now)) }
 {
     send_made(unresolved_made(alloc, faults, json), json, out)
 }
 
+/// What stands in the place of an answer or a verdict: the line of a certificate's fault is no JSON, and the one that says that
+/// memory is out is made without memory, elsewhere.
+fn halt_made(alloc: Global, halt: &Halt, json: bool) -> Made
+    ensures { IfOk result (λ text. text.items ≡ halted json halt.now) }
+{
+    match halt {
+        Halt::Row(fault) if json => json::row_fault(alloc, fault),
+        Halt::Row(fault) => texts::row_fault(alloc, fault),
+        Halt::Reads(faults) => unresolved_made(alloc, faults, json),
+        Halt::Text(fault) => texts::certificate_fault(alloc, fault),
+        Halt::NoMemory => Err(NoMemory),
+    }
+}
+
 /// Writes what stands in the place of an answer or a verdict, and gives the number that the run ends with.
 pub fn print_halt<W: Write>(alloc: Global, halt: &Halt, json: bool, out: &mut W) -> u8
     ensures { PrintsOrMemory json (W.contents out.old) (W.contents out.new) (halted json halt.now) (halt_status halt.now) result }
 {
-    let made = if json {
-        halt_line(alloc, halt)
-    } else {
-        halt_text(alloc, halt)
-    };
+    let made = halt_made(alloc, halt, json);
     code_after(send_made(made, json, out), halt_status(halt))
 }
 

@@ -8,7 +8,7 @@ ghost use Rattle.tcc_print.specs.Saying.{EndsAnswering, IsTold, SaysAt, SaysLast
 use crate::last::Last;
 use crate::notes::note_reads;
 use crate::options::{Options, Run};
-use crate::printing::print_memory;
+use crate::printing::{Sent, print_memory};
 use std::alloc::Global;
 use std::io::Write;
 use tcc_reads::ReadFault;
@@ -24,7 +24,7 @@ pub trait Statement: Drop {
     ghost course: { Options → Course Self };
 
     /// Writes it as text or as a line of JSON; else the run ends with this number.
-    fn send<W: Write>(&self, alloc: Global, options: &Options, out: &mut W) -> Result<(), u8>
+    fn send<W: Write>(&self, alloc: Global, options: &Options, out: &mut W) -> Sent
         ensures whole { OnOk result (Appends (W.contents out.old) (W.contents out.new) ((course options.now).say self.now).text) }
         ensures ended { IfErr result (EndsIn options.now.json (W.contents out.old) (W.contents out.new) ((course options.now).say self.now).text) };
 
@@ -41,7 +41,7 @@ fn tell<O: Statement, T, G, B: Bounds, W: Write, N: Write>(
     said: &O,
     out: &mut W,
     notes: &mut N,
-) -> Result<(), u8>
+) -> Sent
     ensures whole { OnOk result (Appends (W.contents out.old) (W.contents out.new) ((O.course run.now.options.now).say said.now).text) }
     ensures ended { IfErr result (EndsIn run.now.options.now.json (W.contents out.old) (W.contents out.new) ((O.course run.now.options.now).say said.now).text) }
 {

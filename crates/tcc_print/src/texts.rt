@@ -1,8 +1,7 @@
 //! The texts of faults, each made as a whole before a byte of it goes out.
 ghost use Rattle.std.specs.Prelude.{◌≡◌, ◌++◌, IfOk, OnOk, length, flat_map};
-ghost use Rattle.tcc_print.specs.Texts.{certificate_fault_text, certificate_word, halt_text, operation_text, read_fault_text, read_fault_told, read_word, row_fault_text, row_word, unresolved_text};
+ghost use Rattle.tcc_print.specs.Texts.{certificate_fault_text, certificate_word, operation_text, read_fault_text, read_fault_told, read_word, row_fault_text, row_word, unresolved_text};
 
-use crate::halt::Halt;
 use crate::kinds::{certificate_told, row_told};
 use std::alloc::Global;
 use tcc_answer::pieces::{joined, push};
@@ -56,19 +55,8 @@ pub fn push_operation(
 ) -> Result<(), NoMemory>
     ensures { OnOk result (text.new.items ≡ text.old.items ++ operation_text op key.now value) }
 {
-    let op = op.to_string(alloc)?;
-    let value = value.to_string(alloc)?;
-    push(
-        text,
-        &[
-            b" op ",
-            op.as_bytes(),
-            b" ",
-            key.bytes(),
-            b" ",
-            value.as_bytes(),
-        ],
-    )
+    let operation = format!(in alloc; " op {op} {key} {value}")?;
+    push(text, &[operation.as_bytes()])
 }
 
 /// Adds what is told of a read fault, without the end of its line.
@@ -137,16 +125,4 @@ pub fn certificate_fault(alloc: Global, fault: &CertFault) -> Result<Vec<u8>, No
             b"\n",
         ],
     )
-}
-
-/// What stands in the place of an answer or a verdict; the line `memory` is made without memory, elsewhere.
-pub fn halt_text(alloc: Global, halt: &Halt) -> Result<Vec<u8>, NoMemory>
-    ensures { IfOk result (λ text. text.items ≡ halt_text halt.now) }
-{
-    match halt {
-        Halt::Row(fault) => row_fault(alloc, fault),
-        Halt::Reads(faults) => unresolved(alloc, faults),
-        Halt::Text(fault) => certificate_fault(alloc, fault),
-        Halt::NoMemory => Err(NoMemory),
-    }
 }
