@@ -11,6 +11,18 @@ use tcc_rows::large_snapshot_of;
 use tcc_slices::slice;
 use tcc_txn::LargeSnapshot;
 
+/// How many transactions are resolved.
+fn resolved(alloc: Global, snapshot: &LargeSnapshot) -> Option<u32> {
+    let resolved = resolve_large(alloc, snapshot).ok()?;
+    u32::try_from(resolved.places().len()).ok()
+}
+
+/// The graph of a snapshot.
+fn graph_of(alloc: Global, snapshot: &LargeSnapshot) -> Option<LargeGraph> {
+    let resolved = resolve_large(alloc, snapshot).ok()?;
+    LargeGraph::build(alloc, resolved).ok()
+}
+
 /// How many transactions are ordered, 0 where there is a cycle.
 fn ordered(alloc: Global, graph: &LargeGraph, level: Level) -> Option<u32> {
     let ordered = order(alloc, graph, level).ok()?;
@@ -30,19 +42,14 @@ fn steps(links: &[Link]) -> u32 {
 }
 
 /// How many steps the cycle has that is found, 0 where there is none; or how many sessions its slice has.
-fn decided(
-    alloc: Global,
-    snapshot: &LargeSnapshot,
-    graph: &LargeGraph,
-    level: Level,
-    stage: Stage,
-) -> Option<u32> {
-    let decision = decide(alloc, graph, level).ok()?;
+fn decided(alloc: Global, snapshot: &LargeSnapshot, level: Level, stage: Stage) -> Option<u32> {
+    let graph = graph_of(alloc, snapshot)?;
+    let decision = decide(alloc, &graph, level).ok()?;
     let Some(links) = decision.links() else {
         return Some(0);
     };
     if stage == Stage::LargeSlice {
-        let found = slice(alloc, snapshot, graph, level, links).ok()?;
+        let found = slice(alloc, snapshot, &graph, level, links).ok()?;
         return Some(found.map_or(0, |slice| slice.sessions()));
     }
     Some(steps(links))
@@ -56,19 +63,13 @@ pub fn run_large<R: Read + Drop>(
     stage: Stage,
 ) -> Option<u32> {
     let snapshot = large_snapshot_of(alloc, reader).ok()?;
-    if stage == Stage::LargeSnapshot {
-        return Some(snapshot.sessions());
-    }
-    let resolved = resolve_large(alloc, &snapshot).ok()?;
-    if stage == Stage::LargeResolve {
-        return u32::try_from(resolved.places().len()).ok();
-    }
-    let graph = LargeGraph::build(alloc, resolved).ok()?;
     match stage {
-        Stage::LargeGraph => Some(graph.count()),
-        Stage::LargeOrder => ordered(alloc, &graph, level),
-        Stage::LargeSurvey => contradicted(alloc, &graph, level),
-        _ => decided(alloc, &snapshot, &graph, level, stage),
+        Stage::LargeSnapshot => Some(snapshot.sessions()),
+        Stage::LargeResolve => resolved(alloc, &snapshot),
+        Stage::LargeGraph => Some(graph_of(alloc, &snapshot)?.count()),
+        Stage::LargeOrder => ordered(alloc, &graph_of(alloc, &snapshot)?, level),
+        Stage::LargeSurvey => contradicted(alloc, &graph_of(alloc, &snapshot)?, level),
+        _ => decided(alloc, &snapshot, level, stage),
     }
 }
 

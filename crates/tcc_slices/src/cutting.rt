@@ -13,16 +13,11 @@ use tcc_graph::LargeGraph;
 use tcc_operations::source_value;
 use tcc_txn::{Alike, GrowFault, LargeSnapshot, Name, NoMemory, Op, Recorded, Snapshot, Txn};
 
-/// The transaction of a number; none for `init` and past the last.
-fn recorded<'a>(
+/// What is cut: a snapshot, and the graph that has its transactions by numbers.
+#[derive(Drop)]
+struct Whole<'a> {
     snapshot: &'a LargeSnapshot,
-    graph: &LargeGraph,
-    number: u32,
-) -> Option<Recorded<'a>>
-    ensures { result ≡ recorded_of snapshot.now graph.now number }
-{
-    let (session, place) = graph.at(number)?;
-    snapshot.recorded(session, (place as usize).checked_sub(1)?)
+    graph: &'a LargeGraph,
 }
 
 /// The value that operations write visibly at a key.
@@ -42,47 +37,6 @@ fn visible_write(ops: &[Op], key: &Name) -> Option<u64>
         }
     }
     visible
-}
-
-/// Adds the operation of the transaction of a number that a need is, if it doesn't only have to be there.
-fn add_wanted(
-    snapshot: &LargeSnapshot,
-    graph: &LargeGraph,
-    number: u32,
-    need: &Need,
-    wanted: &mut Vec<Op>,
-) -> Result<(), NoMemory>
-    ensures { OnOk result (wanted.new.items ≡ wanted.old.items ++ wanted_of snapshot.now graph.now number need.now) }
-{
-    match need {
-        Need::There => {}
-        Need::Write { key } => {
-            let value = source_value(snapshot, graph, number, key);
-            wanted.push(Op::Put { key: *key, value })?;
-        }
-        Need::Read { key, source } => {
-            let value = source_value(snapshot, graph, *source, key);
-            wanted.push(Op::Get { key: *key, value })?;
-        }
-    }
-    Ok(())
-}
-
-/// The operations of the transaction of a number that its needs are.
-fn wanted_ops(
-    alloc: Global,
-    snapshot: &LargeSnapshot,
-    graph: &LargeGraph,
-    own: &[(u32, Need)],
-    number: u32,
-) -> Result<Vec<Op>, NoMemory>
-    ensures { IfOk result (λ wanted. wanted.items ≡ wanted_by snapshot.now graph.now own.now number) }
-{
-    let mut wanted = Vec::new(alloc);
-    for one in own {
-        add_wanted(snapshot, graph, number, &one.1, &mut wanted)?;
-    }
-    Ok(wanted)
 }
 
 /// Whether two operations are the same.
@@ -137,29 +91,79 @@ fn kept(alloc: Global, wanted: &[Op], ops: &[Op]) -> Result<Vec<Op>, NoMemory>
     Ok(kept)
 }
 
-/// What is kept of the transaction of a number, by its needs; none where it isn't there or wasn't committed.
-fn part(
-    alloc: Global,
-    snapshot: &LargeSnapshot,
-    graph: &LargeGraph,
-    own: &[(u32, Need)],
-    number: u32,
-) -> Result<Option<Txn>, NoMemory>
-    ensures part { IfOk result (λ found. IfSome found (λ part. IsPartOf snapshot.now graph.now own.now number part)) }
-    ensures none { IfOk result (λ found. found ≡ None → (t : Transaction) → recorded_of snapshot.now graph.now number ≡ Some t → t.committed ≡ true → ⊥) }
-{
-    let Some(whole) = recorded(snapshot, graph, number) else {
-        return Ok(None);
-    };
-    if !whole.committed() {
-        return Ok(None);
+impl<'a> Whole<'a> {
+    /// The transaction of a number; none for `init` and past the last.
+    fn recorded(&self, number: u32) -> Option<Recorded<'a>>
+        ensures { result ≡ recorded_of self.now.snapshot.now self.now.graph.now number }
+    {
+        let (session, place) = self.graph.at(number)?;
+        let index = (place as usize).checked_sub(1)?;
+        self.snapshot.recorded(session, index)
     }
-    let mut ops = Vec::new(alloc);
-    whole.fill(&mut ops)?;
-    let wanted = wanted_ops(alloc, snapshot, graph, own, number)?;
-    match Txn::new(kept(alloc, &wanted, &ops)?, true) {
-        Ok(part) => Ok(Some(part)),
-        Err(_) => unreachable!(),
+
+    /// The name of the session of the transaction of a number.
+    fn session_of(&self, number: u32) -> Option<Name>
+        ensures { MatchOption result (IsNameless self.now.snapshot.now self.now.graph.now number) (λ name. IsNamed self.now.snapshot.now self.now.graph.now number name) }
+    {
+        let (session, _place) = self.graph.at(number)?;
+        match self.snapshot.name(session) {
+            Some(name) => Some(*name),
+            None => None,
+        }
+    }
+
+    /// Adds the operation of the transaction of a number that a need is, if it doesn't only have to be there.
+    fn add_wanted(&self, number: u32, need: &Need, wanted: &mut Vec<Op>) -> Result<(), NoMemory>
+        ensures { OnOk result (wanted.new.items ≡ wanted.old.items ++ wanted_of self.now.snapshot.now self.now.graph.now number need.now) }
+    {
+        match need {
+            Need::There => {}
+            Need::Write { key } => {
+                let value = source_value(self.snapshot, self.graph, number, key);
+                wanted.push(Op::Put { key: *key, value })?;
+            }
+            Need::Read { key, source } => {
+                let value = source_value(self.snapshot, self.graph, *source, key);
+                wanted.push(Op::Get { key: *key, value })?;
+            }
+        }
+        Ok(())
+    }
+
+    /// The operations of the transaction of a number that its needs are.
+    fn wanted_ops(
+        &self,
+        alloc: Global,
+        own: &[(u32, Need)],
+        number: u32,
+    ) -> Result<Vec<Op>, NoMemory>
+        ensures { IfOk result (λ wanted. wanted.items ≡ wanted_by self.now.snapshot.now self.now.graph.now own.now number) }
+    {
+        let mut wanted = Vec::new(alloc);
+        for one in own {
+            self.add_wanted(number, &one.1, &mut wanted)?;
+        }
+        Ok(wanted)
+    }
+
+    /// What is kept of the transaction of a number, by its needs; none where it isn't there or wasn't committed.
+    fn part(&self, alloc: Global, own: &[(u32, Need)], number: u32) -> Result<Option<Txn>, NoMemory>
+        ensures part { IfOk result (λ found. IfSome found (λ part. IsPartOf self.now.snapshot.now self.now.graph.now own.now number part)) }
+        ensures none { IfOk result (λ found. found ≡ None → (t : Transaction) → recorded_of self.now.snapshot.now self.now.graph.now number ≡ Some t → t.committed ≡ true → ⊥) }
+    {
+        let Some(whole) = self.recorded(number) else {
+            return Ok(None);
+        };
+        if !whole.committed() {
+            return Ok(None);
+        }
+        let mut ops = Vec::new(alloc);
+        whole.fill(&mut ops)?;
+        let wanted = self.wanted_ops(alloc, own, number)?;
+        match Txn::new(kept(alloc, &wanted, &ops)?, true) {
+            Ok(part) => Ok(Some(part)),
+            Err(_) => unreachable!(),
+        }
     }
 }
 
@@ -173,17 +177,6 @@ fn own_needs(needs: &[(u32, Need)], number: u32) -> &[(u32, Need)]
         .min(needs.len());
     let start = needs.partition_point(|one| one.0 < number).min(end);
     &needs[start..end]
-}
-
-/// The name of the session of the transaction of a number.
-fn session_of(snapshot: &LargeSnapshot, graph: &LargeGraph, number: u32) -> Option<Name>
-    ensures { MatchOption result (IsNameless snapshot.now graph.now number) (λ name. IsNamed snapshot.now graph.now number name) }
-{
-    let (session, _place) = graph.at(number)?;
-    match snapshot.name(session) {
-        Some(name) => Some(*name),
-        None => None,
-    }
 }
 
 /// The cut of a snapshot by needs, with what is kept of the transactions of these numbers but the first; none where one of them isn't
@@ -204,13 +197,14 @@ pub(crate) fn cut(
         → NeedTooMuch graph.now links) }
 {
     graph.numbered();
+    let whole = Whole { snapshot, graph };
     let mut slice = Snapshot::empty(alloc);
     for index in 1..numbers.len() {
         let number = numbers[index];
-        let Some(name) = session_of(snapshot, graph, number) else {
+        let Some(name) = whole.session_of(number) else {
             return Ok(None);
         };
-        let Some(part) = part(alloc, snapshot, graph, own_needs(needs, number), number)? else {
+        let Some(part) = whole.part(alloc, own_needs(needs, number), number)? else {
             return Ok(None);
         };
         match slice.add(alloc, name, part) {

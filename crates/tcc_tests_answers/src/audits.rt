@@ -51,22 +51,13 @@ fn recorded(
     Some(recorded)
 }
 
-/// What the recorders of `passes` record where they work one after the other, in this order.
-fn recorded_in_turn(
-    rt: &(impl Threads + Wait + Sync),
-    alloc: Global,
-    book: &Book,
-    passes: Vec<Pass>,
-) -> Option<Vec<Pass>> {
-    let mut all = Vec::new(alloc);
+/// What recorders leave who record one after the other, in this order; none where one of them was refused.
+fn one_by_one(rt: &impl Wait, alloc: Global, book: &Book, passes: Vec<Pass>) -> Option<Vec<Pass>> {
+    let mut recorded = Vec::new(alloc);
     for pass in passes {
-        let mut one = Vec::new(alloc);
-        one.push(pass).ok()?;
-        for pass in recorded(rt, alloc, book, one)? {
-            all.push(pass).ok()?;
-        }
+        recorded.push(recorder(rt, alloc, book, pass)?).ok()?;
     }
-    Some(all)
+    Some(recorded)
 }
 
 /// The text of an audit is that of the two recorders, once it has both their passes.
@@ -107,7 +98,7 @@ fn two_recorders(rt: HostRuntime) {
             panic!(rt; "not opened");
         };
         let recorded = if in_turn {
-            recorded_in_turn(&rt, alloc, &book, passes)
+            one_by_one(&rt, alloc, &book, passes)
         } else {
             recorded(&rt, alloc, &book, passes)
         };

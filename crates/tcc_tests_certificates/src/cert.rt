@@ -111,16 +111,26 @@ fn line_begun(text: &[u8]) -> u64 {
     text.split(|&byte| byte == b'\n').count() as u64
 }
 
-// Cut after each byte but the last: the line that was begun has no line feed.
-#[test]
-fn cut_texts(rt: HostRuntime) {
-    for text in TEXTS {
+/// These texts cut after each byte but the last, with the number of the line that was begun.
+fn cuts<'a>(alloc: Global, texts: &[&'a str]) -> Result<Vec<(&'a [u8], u64)>, Fail> {
+    let mut cuts = Vec::new(alloc);
+    for text in texts {
         for count in 0..text.len() {
             let part = &text.as_bytes()[..count];
-            let line = line_begun(part);
-            assert_fault(&rt, read(rt.alloc(), part), line, CertFaultKind::Truncated);
+            cuts.push((part, line_begun(part)))?;
         }
     }
+    Ok(cuts)
+}
+
+// The line that was begun has no line feed.
+#[test]
+fn cut_texts(rt: HostRuntime) -> Result<(), Fail> {
+    let alloc = rt.alloc();
+    for (part, line) in cuts(alloc, &TEXTS)? {
+        assert_fault(&rt, read(alloc, part), line, CertFaultKind::Truncated);
+    }
+    Ok(())
 }
 
 // The reader fails after each number of bytes, all of them too.

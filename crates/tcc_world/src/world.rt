@@ -7,8 +7,8 @@ ghost use Rattle.tcc_world.specs.Worlds.{first_world, new_worker};
 ghost use Rattle.tcc_world.specs.Steps.{Happens, HasReturned, end_of, without, lowered};
 ghost use Rattle.tcc_world.specs.Machines.{world_of, worker_of, IsMachineOf};
 ghost use Rattle.tcc_world.specs.Outcomes.{Answers, HasRun, StopsAt};
+ghost use Rattle.tcc_world.specs.private.Making.{Makes};
 ghost use Rattle.tcc_world.specs.declared.event.Event.TheVariants as event;
-ghost use Rattle.tcc_world.specs.declared.stage.Stage.TheVariants as stages;
 
 use crate::desk::{Begun, Desk};
 use crate::event::{Event, RunFault, StepFault};
@@ -141,10 +141,7 @@ impl World {
 
     /// A worker sees the word.
     fn look(&mut self, worker: u32) -> Result<(), StepFault>
-        ensures starts { self.new.starts ≡ self.old.starts }
-        ensures machine { (j : Judged) → IsMachineOf j self.old → IsMachineOf j self.new }
-        ensures happens { (j : Judged) → IsMachineOf j self.old → OnOk result (Happens j (world_of self.old) (event.Look worker) (world_of self.new)) }
-        ensures answers { Answers self.old (event.Look worker) result self.new }
+        ensures { Makes (event.Look worker) self.old result self.new }
     {
         let Some(desk) = self.desks.get_mut(worker as usize) else {
             return Err(StepFault::NotEnabled);
@@ -171,7 +168,7 @@ impl World {
         let Some(begun) = &desk.search else {
             return Err(StepFault::NotEnabled);
         };
-        if !is_open(begun.stage) {
+        if begun.stage != Stage::Open {
             return Err(StepFault::NotEnabled);
         }
         let Some(mut begun) = desk.search.take() else {
@@ -184,10 +181,7 @@ impl World {
 
     /// A worker offers the cost at which its search returned.
     fn offer(&mut self, worker: u32, cost: u32) -> Result<(), StepFault>
-        ensures starts { self.new.starts ≡ self.old.starts }
-        ensures machine { (j : Judged) → IsMachineOf j self.old → IsMachineOf j self.new }
-        ensures happens { (j : Judged) → IsMachineOf j self.old → OnOk result (Happens j (world_of self.old) (event.Offer worker cost) (world_of self.new)) }
-        ensures answers { Answers self.old (event.Offer worker cost) result self.new }
+        ensures { Makes (event.Offer worker cost) self.old result self.new }
     {
         let Some(desk) = self.desks.get_mut(worker as usize) else {
             return Err(StepFault::NotEnabled);
@@ -214,10 +208,7 @@ impl World {
 
     /// A worker has done with its start.
     fn end(&mut self, worker: u32) -> Result<(), StepFault>
-        ensures starts { self.new.starts ≡ self.old.starts }
-        ensures machine { (j : Judged) → IsMachineOf j self.old → IsMachineOf j self.new }
-        ensures happens { (j : Judged) → IsMachineOf j self.old → OnOk result (Happens j (world_of self.old) (event.End worker) (world_of self.new)) }
-        ensures answers { Answers self.old (event.End worker) result self.new }
+        ensures { Makes (event.End worker) self.old result self.new }
     {
         let Some(desk) = self.desks.get_mut(worker as usize) else {
             return Err(StepFault::NotEnabled);
@@ -313,13 +304,6 @@ fn take_out(left: &mut Vec<u32>, start: u32)
     ensures { left.new.items ≡ without start left.old.items }
 {
     left.retain(|other| *other != start);
-}
-
-/// Whether a search goes on.
-fn is_open(stage: Stage) -> bool
-    ensures { IsTrue result ↔ (stage ≡ stages.Open) }
-{
-    matches!(stage, Stage::Open)
 }
 
 /// Whether a search returned at this cost, offered or not.

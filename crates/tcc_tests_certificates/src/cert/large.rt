@@ -1,7 +1,7 @@
 //! Certificates of version 3, and readers that are picked by the first line.
 use super::streams::Failing;
 use super::texts::{NO_CLOCKS, STALE_READ, STALE_READ_UPWARD, altered};
-use super::{assert_fault, halves, line_begun, number, outcome};
+use super::{assert_fault, cuts, halves, number, outcome};
 use std::test::Fail;
 use tcc_cert::{CertFaultKind, VersionReader, read_large, reader_of, write_large};
 
@@ -47,31 +47,17 @@ fn worked_texts_are_read(rt: HostRuntime) {
     }
 }
 
-// Cut after each byte but the last, and read by a reader that fails there.
+// The text ends there, or its reader fails.
 #[test]
-fn cut_texts(rt: HostRuntime) {
-    for text in TEXTS {
-        for count in 0..text.len() {
-            let part = &text.as_bytes()[..count];
-            let line = line_begun(part);
-            assert_fault(
-                &rt,
-                read_large(rt.alloc(), part),
-                line,
-                CertFaultKind::Truncated,
-            );
-            let reader = Failing {
-                text: part,
-                most: 10,
-            };
-            assert_fault(
-                &rt,
-                read_large(rt.alloc(), reader),
-                line,
-                CertFaultKind::Read,
-            );
-        }
+fn cut_texts(rt: HostRuntime) -> Result<(), Fail> {
+    let alloc = rt.alloc();
+    for (text, line) in cuts(alloc, &TEXTS)? {
+        let found = read_large(alloc, text);
+        assert_fault(&rt, found, line, CertFaultKind::Truncated);
+        let found = read_large(alloc, Failing { text, most: 10 });
+        assert_fault(&rt, found, line, CertFaultKind::Read);
     }
+    Ok(())
 }
 
 /// Alterations of the cycle of five steps, as those of the other versions are.

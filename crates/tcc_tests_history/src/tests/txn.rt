@@ -294,7 +294,11 @@ fn makes_large_snapshots(rt: HostRuntime) -> Result<(), Fail> {
     Ok(())
 }
 
-// The first transaction of session b, of two that it finished: it wrote 1 at x and read 0 at y.
+/// Session b finishes two transactions, and session a one, which it aborts.
+const RECORDED: &str =
+    "b,begin\nb,w,x,1\nb,r,y,0\nb,commit\na,begin\na,r,x,1\na,abort\nb,begin\nb,commit\n";
+
+// The first transaction of session b there: it wrote 1 at x and read 0 at y.
 fn assert_recorded(rt: &impl Abort, alloc: Global, recorded: &Recorded<'_>) -> Result<(), Fail> {
     assert!(rt; recorded.committed());
     assert_eq!(rt; recorded.len(), 2);
@@ -317,9 +321,7 @@ fn assert_recorded(rt: &impl Abort, alloc: Global, recorded: &Recorded<'_>) -> R
 #[test]
 fn reads_recorded_transactions(rt: HostRuntime) -> Result<(), Fail> {
     let alloc = rt.alloc();
-    let text =
-        "b,begin\nb,w,x,1\nb,r,y,0\nb,commit\na,begin\na,r,x,1\na,abort\nb,begin\nb,commit\n";
-    let Ok(snapshot) = large_snapshot_of(alloc, text.as_bytes()) else {
+    let Ok(snapshot) = large_snapshot_of(alloc, RECORDED.as_bytes()) else {
         panic!(rt; "two sessions are refused");
     };
     for (i, wanted, finished) in [(0, "a", 1), (1, "b", 2)] {

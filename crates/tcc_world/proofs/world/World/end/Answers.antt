@@ -13,21 +13,19 @@ holds c =
 over : (c : In-Some-take) → (stop : Stop) × (end_of c.in-Some-take.begun.stage ≡ Some stop)
 over c = stop_is c.in-Some-search.begun c.in-Some-take.begun (search rules) c.if-not-is_over.ensures
 
-pub returns-then-is_err-clause-answers : goal.returns-then-is_err-clause-answers
-returns-then-is_err-clause-answers c =
+pub returns-then-is_err : goal.returns-then-is_err
+returns-then-is_err c =
     let at = found c.self.inside c.args.worker c.in-Some.desk.now (c.in-Some.ensures.variant.0 refl) c.in-Some.ensures.value in
-    rw (sym c.self.view_is) (same_world (machine_in c.self.inside) c.args.worker c.in-Some.desk.now _ at
-    (finished_again c.in-Some.desk.now c.reserve.new.self c.reserve.ensures.items))
+    let same = same_world (machine_in c.self.inside) c.args.worker c.in-Some.desk.now _ at (finished_again c.in-Some.desk.now c.reserve.new.self c.reserve.ensures.items) in
+    (search rules, search rules, λ j is. _, rw (sym c.self.view_is) same)
 
-pub returns-clause-happens : goal.returns-clause-happens
-returns-clause-happens c =
-    let taken = (goal.at.returns-clause-happens c).In-Some-take in
+pub returns : goal.returns
+returns c =
+    let taken = (goal.at.returns c).In-Some-take in
     let (stop, ended) = over taken in
-    let pushed = c.in-Ok.ensures.items ∙ ap (λ fs. fs ++ c.in-Some-take.begun ∷ []) c.reserve.ensures.items in
-    rw (sym c.self.view_is) (λ j is. end_made c.push.new.self c.take.new.self stop (holds taken) ended pushed c.take.ensures.after)
-
-pub returns-clause-answers : goal.returns-clause-answers
-returns-clause-answers c =
-    let taken = (goal.at.returns-clause-answers c).In-Some-take in
-    let (stop, ended) = over taken in
-    rw (sym c.self.view_is) (_, begun_search (holds taken), stop, ended)
+    let pushed = c.in-Ok.ensures.items ∙ ap (λ fs. fs ++ c.in-Some-take.begun ∷ []) c.reserve.ensures.items in (
+      search rules,
+      λ j is. search rules,
+      rw (sym c.self.view_is) (λ j is. end_made c.push.new.self c.take.new.self stop (holds taken) ended pushed c.take.ensures.after),
+      rw (sym c.self.view_is) (_, begun_search (holds taken), stop, ended),
+    )

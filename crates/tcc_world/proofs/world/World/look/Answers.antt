@@ -1,4 +1,4 @@
-use Rattle.std.proofs.Common.{refl, sym}
+use Rattle.std.proofs.Common.{rules, refl, sym}
 use Rattle.tcc_world.proofs.Machining.{IsHeld, machine_in, found, some_is, look_made, begun_search}
 use Rattle.tcc_world.specs.declared.desk.Begun.{Begun}
 use Rattle.tcc_world.proofs.world.World.look.Goals.{Else-is_none}
@@ -9,8 +9,7 @@ holds c =
     let (b, has) = some_is c.in-Some.desk.now.search (sym c.if-is_none.ensures) in
     (b, record { at = found c.self.inside c.args.worker c.in-Some.desk.now (c.in-Some.ensures.variant.0 refl) c.in-Some.ensures.value; has = has })
 
-pub returns-clause-happens : goal.returns-clause-happens
-returns-clause-happens c = rw (sym c.self.view_is) (λ j is. look_made (holds (goal.at.returns-clause-happens c).Else-is_none).1)
-
-pub returns-clause-answers : goal.returns-clause-answers
-returns-clause-answers c = rw (sym c.self.view_is) (_, begun_search (holds (goal.at.returns-clause-answers c).Else-is_none).1)
+pub returns : goal.returns
+returns c =
+    let has = (holds (goal.at.returns c).Else-is_none).1 in
+    (search rules, search rules, rw (sym c.self.view_is) (λ j is. look_made has), rw (sym c.self.view_is) (_, begun_search has))

@@ -5,7 +5,7 @@ use Rattle.tcc_txn.specs.declared.op.Op.{Op}
 use Rattle.tcc_slices.specs.private.Cutting.{is_wanted}
 use Rattle.tcc_slices.proofs.Lawful.{lawful_kept}
 use Rattle.tcc_slices.proofs.Named.{none_some}
-use Rattle.tcc_slices.proofs.cutting.part.Goals as goal
+use Rattle.tcc_slices.proofs.cutting.Whole.part.Goals as goal
 
 pub unreachable-requires : goal.unreachable-requires
 unreachable-requires c =
