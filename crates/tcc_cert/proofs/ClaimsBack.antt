@@ -170,7 +170,7 @@ numeral n h = (
 )
 
 order_sizes-at : (v : Version) (n s at_line : ℕ) (rest : List ℕ) → IsCount (Small v) n → s ≤ (ranges_of v).sessions
-    → words (Small v) (sizes_line (Small v)) (at at_line (line_text (codes "order" ∷ decimal n ∷ decimal s ∷ []) ++ rest)) ≡ Ok (Order n s, at (at_line + 1) rest)
+    → words (Small v) (sizes_line (Small v)) (at at_line (line_text (codes "order" ∷ decimal n ∷ decimal s ∷ []) ++ rest)) ≡ Ok (Order (record { transactions = n; sessions = s }), at (at_line + 1) rest)
 order_sizes-at v n s at_line rest hn hs =
     let few : n ≤ 16781312 = omega (arith, hn.limit, counts (Small v)) in
     let sessions : s ≤ 16781312 = omega (arith, hs, sessions_are v) in
@@ -179,14 +179,15 @@ order_sizes-at v n s at_line rest hn hs =
     words-line (Small v) (sizes_line (Small v)) at_line (codes "order" ∷ decimal n ∷ decimal s ∷ []) rest
     (lit< tt, IsAbove-tested 32 (codes "order") refl, (first.0, first.1, (second.0, second.1, tt)))
     (omega (arith, lines (Small v), words-short 8 (codes "order") (decimal n ∷ decimal s ∷ []) (lit≤ tt) (first.2, (second.2, tt))))
-    (Order n s)
+    (Order (record { transactions = n; sessions = s }))
     (rw (
       number_of-decimal 1 (ranges_of v).count n hn.some hn.limit (omega (arith, few)),
       number_of-decimal 0 (ranges_of v).sessions s (omega arith) hs (omega (arith, sessions)),
     ) refl)
 
 cycle_sizes-at : (v : Version) (n m l at_line : ℕ) (rest : List ℕ) → IsCount (Small v) n → IsCount (Small v) m → l ≤ (ranges_of v).cost
-    → words (Small v) (sizes_line (Small v)) (at at_line (line_text (codes "cycle" ∷ decimal n ∷ decimal m ∷ decimal l ∷ []) ++ rest)) ≡ Ok (Cycle n m l, at (at_line + 1) rest)
+    → words (Small v) (sizes_line (Small v)) (at at_line (line_text (codes "cycle" ∷ decimal n ∷ decimal m ∷ decimal l ∷ []) ++ rest))
+    ≡ Ok (Cycle (record { transactions = n; links = m; cost = l }), at (at_line + 1) rest)
 cycle_sizes-at v n m l at_line rest hn hm hl =
     let few : n ≤ 16781312 = omega (arith, hn.limit, counts (Small v)) in
     let links : m ≤ 16781312 = omega (arith, hm.limit, counts (Small v)) in
@@ -197,7 +198,7 @@ cycle_sizes-at v n m l at_line rest hn hm hl =
     words-line (Small v) (sizes_line (Small v)) at_line (codes "cycle" ∷ decimal n ∷ decimal m ∷ decimal l ∷ []) rest
     (lit< tt, IsAbove-tested 32 (codes "cycle") refl, (first.0, first.1, (second.0, second.1, (third.0, third.1, tt))))
     (omega (arith, lines (Small v), words-short 8 (codes "cycle") (decimal n ∷ decimal m ∷ decimal l ∷ []) (lit≤ tt) (first.2, (second.2, (third.2, tt)))))
-    (Cycle n m l)
+    (Cycle (record { transactions = n; links = m; cost = l }))
     (rw (
       number_of-decimal 1 (ranges_of v).count n hn.some hn.limit (omega (arith, few)),
       number_of-decimal 1 (ranges_of v).count m hm.some hm.limit (omega (arith, links)),

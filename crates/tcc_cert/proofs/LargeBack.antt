@@ -14,8 +14,9 @@ use Rattle.tcc_cert.specs.declared.large.Run.{Run}
 use Rattle.tcc_cert.specs.declared.large.RunsClaim.{RunsClaim}
 use Rattle.tcc_cert.specs.declared.ranges.Scale.TheVariants.{Large}
 use Rattle.tcc_cert.specs.declared.ranges.TheConstants.{MAX_HEADER_BYTES}
-use Rattle.tcc_cert.specs.declared.reading.large_forms.LargeSizes.{LargeSizes}
-use Rattle.tcc_cert.specs.declared.reading.large_forms.LargeSizes.TheVariants.{Order, Cycle}
+use Rattle.tcc_cert.specs.declared.reading.forms.Sizes.{Sizes}
+use Rattle.tcc_cert.specs.declared.reading.forms.Sizes.TheVariants.{Order, Cycle}
+use Rattle.tcc_cert.specs.declared.reading.large_forms.LargeOrderSizes.{LargeOrderSizes}
 use Rattle.tcc_cert.specs.declared.reading.large_forms.Tail.TheVariants.{Least, End}
 use Rattle.tcc_cert.specs.declared.version_3.TheConstants.{V3_MAX_COST, V3_MAX_COUNT, V3_MAX_NUMBER, V3_MAX_RUNS, V3_MAX_SESSION, V3_MAX_SESSIONS}
 use Rattle.tcc_cert.specs.Texts.{line_text, lines_text, link_lines, HasLinkText, IsCount}
@@ -80,7 +81,7 @@ runs-back runs h n =
     )
 
 -- the line of a word and three numbers of 32 bits, where these are sizes
-sizes-at : (word : List ℕ) (a b c line : ℕ) (rest : List ℕ) (sizes : LargeSizes) → 0 < length word → IsAbove 32 word → length word ≤ 10
+sizes-at : (word : List ℕ) (a b c line : ℕ) (rest : List ℕ) (sizes : Sizes LargeOrderSizes) → 0 < length word → IsAbove 32 word → length word ≤ 10
     → a ≤ 4294967295 → b ≤ 4294967295 → c ≤ 4294967295 → large_sizes_line (word ∷ decimal a ∷ decimal b ∷ decimal c ∷ []) ≡ Ok sizes
     → words Large large_sizes_line (at line (line_text (word ∷ decimal a ∷ decimal b ∷ decimal c ∷ []) ++ rest)) ≡ Ok (sizes, at (line + 1) rest)
 sizes-at word a b c line rest sizes some above short ha hb hc is =
@@ -96,9 +97,9 @@ sizes-at word a b c line rest sizes some above short ha hb hc is =
 
 order_sizes-at : (n s r line : ℕ) (rest : List ℕ) → IsCount Large n → s ≤ V3_MAX_SESSIONS → r ≤ V3_MAX_RUNS
     → words Large large_sizes_line (at line (line_text (codes "order" ∷ decimal n ∷ decimal s ∷ decimal r ∷ []) ++ rest))
-    ≡ Ok (Order n s r, at (line + 1) rest)
+    ≡ Ok (Order (record { transactions = n; sessions = s; runs = r }), at (line + 1) rest)
 order_sizes-at n s r line rest hn hs hr =
-    sizes-at (codes "order") n s r line rest (Order n s r) (lit< tt) (IsAbove-tested 32 (codes "order") refl) (lit≤ tt)
+    sizes-at (codes "order") n s r line rest (Order (record { transactions = n; sessions = s; runs = r })) (lit< tt) (IsAbove-tested 32 (codes "order") refl) (lit≤ tt)
     (omega (arith, hn.limit)) (omega (arith, hs)) (omega (arith, hr))
     (rw (
       number-read 1 V3_MAX_COUNT n (lit≤ tt) hn.some hn.limit,
@@ -116,9 +117,9 @@ order-back k h n =
 
 cycle_sizes-at : (n m l line : ℕ) (rest : List ℕ) → IsCount Large n → IsCount Large m → l ≤ V3_MAX_COST
     → words Large large_sizes_line (at line (line_text (codes "cycle" ∷ decimal n ∷ decimal m ∷ decimal l ∷ []) ++ rest))
-    ≡ Ok (Cycle n m l, at (line + 1) rest)
+    ≡ Ok (Cycle (record { transactions = n; links = m; cost = l }), at (line + 1) rest)
 cycle_sizes-at n m l line rest hn hm hl =
-    sizes-at (codes "cycle") n m l line rest (Cycle n m l) (lit< tt) (IsAbove-tested 32 (codes "cycle") refl) (lit≤ tt)
+    sizes-at (codes "cycle") n m l line rest (Cycle (record { transactions = n; links = m; cost = l })) (lit< tt) (IsAbove-tested 32 (codes "cycle") refl) (lit≤ tt)
     (omega (arith, hn.limit)) (omega (arith, hm.limit)) (omega (arith, hl))
     (rw (
       number-read 1 V3_MAX_COUNT n (lit≤ tt) hn.some hn.limit,

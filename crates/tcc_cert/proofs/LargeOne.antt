@@ -15,26 +15,25 @@ use Rattle.tcc_cert.specs.declared.large.Run.{Run}
 use Rattle.tcc_cert.specs.declared.large.RunsClaim.{RunsClaim}
 use Rattle.tcc_cert.specs.declared.ranges.Scale.TheVariants.{Large}
 use Rattle.tcc_cert.specs.declared.ranges.TheConstants.{MAX_HEADER_BYTES}
-use Rattle.tcc_cert.specs.declared.reading.large_forms.LargeSizes.{LargeSizes}
-use Rattle.tcc_cert.specs.declared.reading.large_forms.LargeSizes.TheVariants.{Order, Cycle}
+use Rattle.tcc_cert.specs.declared.reading.forms.Sizes.{Sizes}
+use Rattle.tcc_cert.specs.declared.reading.forms.Sizes.TheVariants.{Order, Cycle}
+use Rattle.tcc_cert.specs.declared.reading.large_forms.LargeOrderSizes.{LargeOrderSizes}
 use Rattle.tcc_cert.specs.declared.reading.large_forms.Tail.{Tail}
 use Rattle.tcc_cert.specs.declared.reading.large_forms.Tail.TheVariants.{Least, End}
-use Rattle.tcc_cert.specs.declared.version_3.TheConstants.{V3_MAX_COST, V3_MAX_NUMBER, V3_MAX_RUNS, V3_MAX_SESSION, V3_MAX_SESSIONS}
+use Rattle.tcc_cert.specs.declared.version_3.TheConstants.{V3_MAX_NUMBER, V3_MAX_RUNS, V3_MAX_SESSION, V3_MAX_SESSIONS}
 use Rattle.tcc_cert.specs.Texts.{Words, line_text, lines_text, link_lines, HasLinkText, IsCount}
 use Rattle.tcc_cert.specs.LargeTexts.{HasLargeText, HasLeastText, HasLinksClaimText, HasRunText, HasRunsClaimText, HaveRunsText}
 use Rattle.tcc_cert.specs.LargeTexts.{large_certificate_text, large_claim_lines, large_header_of, large_header_words, least_lines}
 use Rattle.tcc_cert.specs.LargeTexts.{links_claim_lines, run_words, runs_claim_lines, runs_lines}
 use Rattle.tcc_cert.specs.Reading.{count_of, link_at, next, number_of, Position, repeated, start_of, three_words, word_line, words}
-use Rattle.tcc_cert.specs.LargeReading.{large_behind_header, large_certificate_at, large_certificate_read, large_claim_at, large_cycle_sizes}
+use Rattle.tcc_cert.specs.LargeReading.{large_behind_header, large_certificate_at, large_certificate_read, large_claim_at}
 use Rattle.tcc_cert.specs.LargeReading.{large_header_line, large_order_sizes, large_sizes_line, least_at, least_of, links_claim_at, no_words}
 use Rattle.tcc_cert.specs.LargeReading.{one_word, run_line, run_of, runs_at, runs_claim_at, runs_of, tail_line}
 use Rattle.tcc_cert.proofs.Items.{flat_map-map, flat_map-flat_map}
+use Rattle.tcc_cert.proofs.OneSizes.{IsCycleSizes, IsSizesText, sizes-text, small}
 use Rattle.tcc_cert.proofs.OneText.{allowed_parts, by_word-parts, choice, count, IsReadFrom, link-from, mark, next-text, number-text}
 use Rattle.tcc_cert.proofs.OneText.{repeated-text, same-bytes, same_ok, same_pair, then_parts, three_equal, three_parts, two_parts, whole-text, words-text}
 use Rattle.tcc_cert.proofs.LargeOnward.{links_claim}
-
-small : (most : ℕ) → most ≤ 4294967295 → most < 2 ^ 64
-small most few = omega (arith, few)
 
 -- ---- runs
 
@@ -147,47 +146,21 @@ least-text ws (Least r) at middle after least is text e =
 
 -- ---- sizes
 
-abbrev IsSizesText : Words → LargeSizes → Type 0
-IsSizesText ws (Order n s r) =
-    IsCount Large n × (s ≤ V3_MAX_SESSIONS) × (r ≤ V3_MAX_RUNS) × (ws ≡ codes "order" ∷ decimal n ∷ decimal s ∷ decimal r ∷ [])
-IsSizesText ws (Cycle n m l) =
-    IsCount Large n × IsCount Large m × (l ≤ V3_MAX_COST) × (ws ≡ codes "cycle" ∷ decimal n ∷ decimal m ∷ decimal l ∷ [])
+abbrev IsOrderSizes : Words → LargeOrderSizes → Type 0
+IsOrderSizes ws k =
+    IsCount Large k.transactions × (k.sessions ≤ V3_MAX_SESSIONS) × (k.runs ≤ V3_MAX_RUNS)
+    × (ws ≡ codes "order" ∷ decimal k.transactions ∷ decimal k.sessions ∷ decimal k.runs ∷ [])
 
-order-sizes : (a b c : List ℕ) (sizes : LargeSizes) → large_order_sizes a b c ≡ Ok sizes → IsSizesText (codes "order" ∷ a ∷ b ∷ c ∷ []) sizes
-order-sizes a b c sizes e =
-    let first = then_parts (count_of Large a) _ sizes e in
-    let second = then_parts (number_of 0 V3_MAX_SESSIONS b) _ sizes first.2 in
-    let third = then_parts (runs_of c) _ sizes second.2 in
-    let n = count Large a first.0 first.1 in
-    let s = number-text 0 V3_MAX_SESSIONS b second.0 (small V3_MAX_SESSIONS (lit≤ tt)) second.1 in
-    let r = number-text 0 V3_MAX_RUNS c third.0 (small V3_MAX_RUNS (lit≤ tt)) third.1 in
-    subst (IsSizesText (codes "order" ∷ a ∷ b ∷ c ∷ [])) (same_ok third.2) (n.1, s.high, r.high, three_equal (codes "order") n.0 s.text r.text)
-
-cycle-sizes : (a b c : List ℕ) (sizes : LargeSizes) → large_cycle_sizes a b c ≡ Ok sizes → IsSizesText (codes "cycle" ∷ a ∷ b ∷ c ∷ []) sizes
-cycle-sizes a b c sizes e =
-    let first = then_parts (count_of Large a) _ sizes e in
-    let second = then_parts (count_of Large b) _ sizes first.2 in
-    let third = then_parts (number_of 0 V3_MAX_COST c) _ sizes second.2 in
-    let n = count Large a first.0 first.1 in
-    let m = count Large b second.0 second.1 in
-    let l = number-text 0 V3_MAX_COST c third.0 (small V3_MAX_COST (lit≤ tt)) third.1 in
-    subst (IsSizesText (codes "cycle" ∷ a ∷ b ∷ c ∷ [])) (same_ok third.2) (n.1, m.1, l.high, three_equal (codes "cycle") n.0 m.0 l.text)
-
-sizes-choice : (word : List ℕ) (fields : Words) (sizes : LargeSizes)
-    → ((word ≡ codes "order") × (three_words large_order_sizes fields ≡ Ok sizes)) ⊎ ((word ≡ codes "cycle") × (three_words large_cycle_sizes fields ≡ Ok sizes))
-    → IsSizesText (word ∷ fields) sizes
-sizes-choice word fields sizes (inl is) =
-    let parts = three_parts large_order_sizes fields sizes is.1 in
-    rw (is.0, parts.3) (order-sizes parts.0 parts.1 parts.2 sizes parts.4)
-sizes-choice word fields sizes (inr is) =
-    let parts = three_parts large_cycle_sizes fields sizes is.1 in
-    rw (is.0, parts.3) (cycle-sizes parts.0 parts.1 parts.2 sizes parts.4)
-
-sizes-text : (ws : Words) (sizes : LargeSizes) → large_sizes_line ws ≡ Ok sizes → IsSizesText ws sizes
-sizes-text [] sizes e = absurd cc
-sizes-text (word ∷ fields) sizes e =
-    sizes-choice word fields sizes
-    (by_word-parts (codes "order") (codes "cycle") (three_words large_order_sizes) (three_words large_cycle_sizes) word fields sizes e)
+order-sizes : (fields : Words) (k : LargeOrderSizes) → three_words large_order_sizes fields ≡ Ok k → IsOrderSizes (codes "order" ∷ fields) k
+order-sizes fields k e =
+    let parts = three_parts large_order_sizes fields k e in
+    let first = then_parts (count_of Large parts.0) _ k parts.4 in
+    let second = then_parts (number_of 0 V3_MAX_SESSIONS parts.1) _ k first.2 in
+    let third = then_parts (runs_of parts.2) _ k second.2 in
+    let n = count Large parts.0 first.0 first.1 in
+    let s = number-text 0 V3_MAX_SESSIONS parts.1 second.0 (small V3_MAX_SESSIONS (lit≤ tt)) second.1 in
+    let r = number-text 0 V3_MAX_RUNS parts.2 third.0 (small V3_MAX_RUNS (lit≤ tt)) third.1 in
+    subst (IsOrderSizes (codes "order" ∷ fields)) (same_ok third.2) (n.1, s.high, r.high, ap (λ ws. codes "order" ∷ ws) parts.3 ∙ three_equal (codes "order") n.0 s.text r.text)
 
 -- ---- claims
 
@@ -196,7 +169,8 @@ abbrev IsWhole : Level → List ℕ → List ℕ → LargeCertificate → Type 0
 IsWhole level text rest certificate =
     HasLargeText certificate × (large_header_of certificate ≡ large_header_words level) × (text ≡ lines_text (large_claim_lines certificate) ++ rest)
 
-order-whole : (level : Level) (n s r : ℕ) (ws : Words) (text : List ℕ) (at after : Position) (certificate : LargeCertificate) → IsSizesText ws (Order n s r)
+order-whole : (level : Level) (n s r : ℕ) (ws : Words) (text : List ℕ) (at after : Position) (certificate : LargeCertificate)
+    → IsOrderSizes ws (record { transactions = n; sessions = s; runs = r })
     → text ≡ line_text ws ++ at.bytes → runs_claim_at level n s r at ≡ Ok (certificate, after)
     → IsWhole level text after.bytes certificate
 order-whole level n s r ws text at after certificate sizes is e =
@@ -214,7 +188,8 @@ order-whole level n s r ws text at after certificate sizes is e =
     ∙ ap (λ m. (line_text (codes "order" ∷ decimal n ∷ decimal s ∷ decimal m ∷ []) ++ lines_text (runs_lines read.0.0)) ++ read.0.1.bytes) (sym runs.1) in
     subst (IsWhole level text after.bytes) same.0 (has, refl, whole ∙ ap (λ p. lines_text (runs_claim_lines k) ++ p.bytes) same.1)
 
-cycle-whole : (level : Level) (n m l : ℕ) (ws : Words) (text : List ℕ) (at after : Position) (certificate : LargeCertificate) → IsSizesText ws (Cycle n m l)
+cycle-whole : (level : Level) (n m l : ℕ) (ws : Words) (text : List ℕ) (at after : Position) (certificate : LargeCertificate)
+    → IsCycleSizes Large ws (record { transactions = n; links = m; cost = l })
     → text ≡ line_text ws ++ at.bytes → links_claim_at level n m l at ≡ Ok (certificate, after)
     → IsWhole level text after.bytes certificate
 cycle-whole level n m l ws text at after certificate sizes is e =
@@ -251,11 +226,13 @@ cycle-whole level n m l ws text at after certificate sizes is e =
     ∙ ap (λ many. (sizes_line many ++ body) ++ third.0.1.bytes) (sym all.1) in
     subst (IsWhole level text after.bytes) same.0 (has, refl, whole ∙ ap (λ p. lines_text (links_claim_lines k) ++ p.bytes) same.1)
 
-claim-whole : (level : Level) (sizes : LargeSizes) (ws : Words) (text : List ℕ) (at after : Position) (certificate : LargeCertificate) → IsSizesText ws sizes
+claim-whole : (level : Level) (sizes : Sizes LargeOrderSizes) (ws : Words) (text : List ℕ) (at after : Position) (certificate : LargeCertificate)
+    → IsSizesText Large IsOrderSizes ws sizes
     → text ≡ line_text ws ++ at.bytes → large_claim_at level sizes at ≡ Ok (certificate, after)
     → IsWhole level text after.bytes certificate
-claim-whole level (Order n s r) ws text at after certificate sizes is e = order-whole level n s r ws text at after certificate sizes is e
-claim-whole level (Cycle n m l) ws text at after certificate sizes is e = cycle-whole level n m l ws text at after certificate sizes is e
+claim-whole level (Order k) ws text at after certificate sizes is e =
+    order-whole level k.transactions k.sessions k.runs ws text at after certificate sizes is e
+claim-whole level (Cycle k) ws text at after certificate sizes is e = cycle-whole level k.transactions k.links k.cost ws text at after certificate sizes is e
 
 -- ---- first lines
 
@@ -283,7 +260,7 @@ large-one bytes certificate e =
     let sizes = then_parts (words Large large_sizes_line read.header.1) _ (certificate, read.after) read.rest in
     let line = words-text Large large_sizes_line read.header.1 sizes.0.1 sizes.0.0 sizes.1 in
     let whole =
-    claim-whole level sizes.0.0 line.0 read.header.1.bytes sizes.0.1 read.after certificate (sizes-text line.0 sizes.0.0 line.1) line.2 sizes.2 in
+    claim-whole level sizes.0.0 line.0 read.header.1.bytes sizes.0.1 read.after certificate (sizes-text Large _ IsOrderSizes order-sizes line.0 sizes.0.0 line.1) line.2 sizes.2 in
     let first = next-text MAX_HEADER_BYTES large_header_line (start_of bytes) read.header.1 level read.first in
     let top : bytes ≡ line_text (large_header_words level) ++ read.header.1.bytes =
     first.2 ∙ sym (append_assoc first.0 (10 ∷ []) read.header.1.bytes) ∙ ap (λ l. l ++ read.header.1.bytes) (header-line first.0 level first.1) in

@@ -11,8 +11,9 @@ use Rattle.tcc_cert.specs.declared.large.Run.{Run}
 use Rattle.tcc_cert.specs.declared.ranges.Scale.TheVariants.{Large}
 use Rattle.tcc_cert.specs.declared.ranges.TheConstants.{MAX_HEADER_BYTES}
 use Rattle.tcc_cert.specs.declared.reading.input.Input.{Input}
-use Rattle.tcc_cert.specs.declared.reading.large_forms.LargeSizes.{LargeSizes}
-use Rattle.tcc_cert.specs.declared.reading.large_forms.LargeSizes.TheVariants.{Order, Cycle}
+use Rattle.tcc_cert.specs.declared.reading.forms.Sizes.{Sizes}
+use Rattle.tcc_cert.specs.declared.reading.forms.Sizes.TheVariants.{Order, Cycle}
+use Rattle.tcc_cert.specs.declared.reading.large_forms.LargeOrderSizes.{LargeOrderSizes}
 use Rattle.tcc_cert.specs.declared.reading.large_forms.Tail.{Tail}
 use Rattle.tcc_cert.specs.declared.reading.large_forms.Tail.TheVariants.{Least, End}
 use Rattle.tcc_cert.specs.InputBytes.{IsAt}
@@ -91,9 +92,9 @@ pub onward-order : (level : Level) (transactions sessions count : ℕ) (at : Pos
 onward-order level transactions sessions count at =
     onward-then at (runs_at count at) _ (onward-runs count at) (λ runs. onward-ok _ runs.1 runs.1 (omega arith))
 
-pub onward-claim : (level : Level) (sizes : LargeSizes) (at : Position) → IsOnward at (large_claim_at level sizes at)
-onward-claim level (Order transactions sessions count) at = onward-order level transactions sessions count at
-onward-claim level (Cycle transactions count cost) at = onward-cycle level transactions count cost at
+pub onward-claim : (level : Level) (sizes : Sizes LargeOrderSizes) (at : Position) → IsOnward at (large_claim_at level sizes at)
+onward-claim level (Order sizes) at = onward-order level sizes.transactions sizes.sessions sizes.runs at
+onward-claim level (Cycle sizes) at = onward-cycle level sizes.transactions sizes.links sizes.cost at
 
 pub onward-behind : (header : Level × Position) → IsOnward header.1 (large_behind_header header)
 onward-behind header =

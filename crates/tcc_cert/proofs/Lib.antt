@@ -31,5 +31,6 @@ mod LargeBack
 mod LargeOne
 mod WorkedLarge
 mod OneDigit
+mod OneSizes
 mod VersionFacts
 mod RunFacts

@@ -20,22 +20,24 @@ use Rattle.tcc_cert.specs.declared.certificate.CycleClaim.{CycleClaim}
 use Rattle.tcc_cert.specs.declared.certificate.OrderClaim.{OrderClaim}
 use Rattle.tcc_cert.specs.declared.fault.CertFaultKind.{CertFaultKind}
 use Rattle.tcc_cert.specs.declared.fault.CertFaultKind.TheVariants.{Header, Trailing}
+use Rattle.tcc_cert.specs.declared.reading.forms.OrderSizes.{OrderSizes}
 use Rattle.tcc_cert.specs.declared.reading.forms.Sizes.{Sizes}
 use Rattle.tcc_cert.specs.declared.reading.forms.Sizes.TheVariants.{Order, Cycle}
 use Rattle.tcc_cert.specs.Tables.{lowest}
 use Rattle.tcc_cert.specs.Texts.{Words, line_text, lines_text, numbers_words, table_lines, link_lines, header_words, clocks_lines}
 use Rattle.tcc_cert.specs.Texts.{claim_lines, header_of, certificate_text, IsNumber, IsCount, HasTableText, HasClocksText, HasText}
 use Rattle.tcc_cert.specs.Texts.{HasCycleText, HasLinkText, HasOrderText, cycle_lines, order_lines}
-use Rattle.tcc_cert.specs.Reading.{count_of, number_of, word_line, numbers_line, two_words, three_words}
-use Rattle.tcc_cert.specs.Reading.{order_sizes, cycle_sizes, sizes_line, Position, next, words, repeated}
+use Rattle.tcc_cert.specs.Reading.{count_of, number_of, word_line, numbers_line, two_words}
+use Rattle.tcc_cert.specs.Reading.{order_sizes, sizes_line, Position, next, words, repeated}
 use Rattle.tcc_cert.specs.Reading.{header_line, link_at, table_at, clocks_at, order_at, cycle_at, claim_at}
 use Rattle.tcc_cert.specs.Reading.{behind_header, certificate_at, start_of, certificate_read}
 use Rattle.tcc_cert.proofs.Items.{flat_map-map, flat_map-flat_map}
-use Rattle.tcc_cert.proofs.RangeFacts.{costs, numbers, sessions_are}
+use Rattle.tcc_cert.proofs.RangeFacts.{numbers, sessions_are}
 use Rattle.tcc_cert.proofs.Numbered.{each-one, from-widths, same-each}
 use Rattle.tcc_cert.proofs.ClaimsBack.{order_text, cycle_text}
-use Rattle.tcc_cert.proofs.OneText.{then_parts, allowed_parts, same_ok, same_pair, number-text, count, same-bytes, two_parts, three_parts, by_word-parts}
-use Rattle.tcc_cert.proofs.OneText.{two_equal, three_equal, choice, mark, row-text, next-text, words-text, IsReadFrom, numbered-text}
+use Rattle.tcc_cert.proofs.OneSizes.{IsCycleSizes, IsSizesText, cost-small, sizes-text}
+use Rattle.tcc_cert.proofs.OneText.{then_parts, allowed_parts, same_ok, same_pair, number-text, count, same-bytes, two_parts}
+use Rattle.tcc_cert.proofs.OneText.{two_equal, choice, mark, row-text, next-text, words-text, IsReadFrom, numbered-text}
 use Rattle.tcc_cert.proofs.OneText.{repeated-text, link-from, whole-text}
 
 -- ---- tables
@@ -68,9 +70,6 @@ table-text v rows columns most at after table small e =
       },
       read.2 ∙ ap (λ t. t ++ after.bytes) (sym (flat_map-map line_text numbers_words table)),
     )
-
-cost-small : (v : Version) → (ranges_of v).cost < 2 ^ 64
-cost-small v = omega (arith, costs v)
 
 number-small : (v : Version) → (ranges_of v).number < 2 ^ 64
 number-small v = omega (arith, numbers (Small v))
@@ -164,9 +163,9 @@ cycle-read v level n m l at after certificate e end =
     let far = fifth.0.0 in
     let all = repeated-text (link_at (Small v)) (HasLinkText (Small v)) (λ one. lines_text (link_lines one)) (link-from (Small v)) m at first.0.1 links first.1 in
     let near_mark = mark-text v (codes "near") first.0.1 second.0.1 second.0.0 second.1 in
-    let near_table = table-text v n (λ a. n) (ranges_of v).cost second.0.1 third.0.1 near (cost-small v) third.1 in
+    let near_table = table-text v n (λ a. n) (ranges_of v).cost second.0.1 third.0.1 near (cost-small (Small v)) third.1 in
     let far_mark = mark-text v (codes "far") third.0.1 fourth.0.1 fourth.0.0 fourth.1 in
-    let far_table = table-text v n (λ s. n - lowest v s) (ranges_of v).cost fourth.0.1 fifth.0.1 far (cost-small v) fifth.1 in
+    let far_table = table-text v n (λ s. n - lowest v s) (ranges_of v).cost fourth.0.1 fifth.0.1 far (cost-small (Small v)) fifth.1 in
     let last = mark-text v (codes "end") fifth.0.1 sixth.0.1 sixth.0.0 sixth.1 in
     let none : sixth.0.1.bytes ≡ [] = ap (λ p. p.bytes) is.1 ∙ end in
     record {
@@ -191,43 +190,18 @@ cycle-read v level n m l at after certificate e end =
 
 -- ---- sizes
 
-abbrev pub IsSizesText : Version → Words → Sizes → Type 0
-IsSizesText v ws (Order n s) = IsCount (Small v) n × (s ≤ (ranges_of v).sessions) × (ws ≡ codes "order" ∷ decimal n ∷ decimal s ∷ [])
-IsSizesText v ws (Cycle n m l) = IsCount (Small v) n × IsCount (Small v) m × (l ≤ (ranges_of v).cost) × (ws ≡ codes "cycle" ∷ decimal n ∷ decimal m ∷ decimal l ∷ [])
+abbrev IsOrderSizes : Version → Words → OrderSizes → Type 0
+IsOrderSizes v ws k =
+    IsCount (Small v) k.transactions × (k.sessions ≤ (ranges_of v).sessions) × (ws ≡ codes "order" ∷ decimal k.transactions ∷ decimal k.sessions ∷ [])
 
-order-sizes : (v : Version) (a b : List ℕ) (sizes : Sizes) → order_sizes (Small v) a b ≡ Ok sizes → IsSizesText v (codes "order" ∷ a ∷ b ∷ []) sizes
-order-sizes v a b sizes e =
-    let first = then_parts (count_of (Small v) a) _ sizes e in
-    let second = then_parts (number_of 0 (ranges_of v).sessions b) _ sizes first.2 in
-    let n = count (Small v) a first.0 first.1 in
-    let s = number-text 0 (ranges_of v).sessions b second.0 (omega (arith, sessions_are v)) second.1 in
-    subst (IsSizesText v (codes "order" ∷ a ∷ b ∷ [])) (same_ok second.2) (n.1, s.high, two_equal (codes "order") n.0 s.text)
-
-cycle-sizes : (v : Version) (a b c : List ℕ) (sizes : Sizes) → cycle_sizes (Small v) a b c ≡ Ok sizes → IsSizesText v (codes "cycle" ∷ a ∷ b ∷ c ∷ []) sizes
-cycle-sizes v a b c sizes e =
-    let first = then_parts (count_of (Small v) a) _ sizes e in
-    let second = then_parts (count_of (Small v) b) _ sizes first.2 in
-    let third = then_parts (number_of 0 (ranges_of v).cost c) _ sizes second.2 in
-    let n = count (Small v) a first.0 first.1 in
-    let m = count (Small v) b second.0 second.1 in
-    let l = number-text 0 (ranges_of v).cost c third.0 (cost-small v) third.1 in
-    subst (IsSizesText v (codes "cycle" ∷ a ∷ b ∷ c ∷ [])) (same_ok third.2) (n.1, m.1, l.high, three_equal (codes "cycle") n.0 m.0 l.text)
-
-sizes-choice : (v : Version) (word : List ℕ) (fields : Words) (sizes : Sizes)
-    → ((word ≡ codes "order") × (two_words (order_sizes (Small v)) fields ≡ Ok sizes)) ⊎ ((word ≡ codes "cycle") × (three_words (cycle_sizes (Small v)) fields ≡ Ok sizes))
-    → IsSizesText v (word ∷ fields) sizes
-sizes-choice v word fields sizes (inl is) =
-    let parts = two_parts (order_sizes (Small v)) fields sizes is.1 in
-    rw (is.0, parts.2) (order-sizes v parts.0 parts.1 sizes parts.3)
-sizes-choice v word fields sizes (inr is) =
-    let parts = three_parts (cycle_sizes (Small v)) fields sizes is.1 in
-    rw (is.0, parts.3) (cycle-sizes v parts.0 parts.1 parts.2 sizes parts.4)
-
-sizes-text : (v : Version) (ws : Words) (sizes : Sizes) → sizes_line (Small v) ws ≡ Ok sizes → IsSizesText v ws sizes
-sizes-text v [] sizes e = absurd cc
-sizes-text v (word ∷ fields) sizes e =
-    sizes-choice v word fields sizes
-    (by_word-parts (codes "order") (codes "cycle") (two_words (order_sizes (Small v))) (three_words (cycle_sizes (Small v))) word fields sizes e)
+order-sizes : (v : Version) (fields : Words) (k : OrderSizes) → two_words (order_sizes (Small v)) fields ≡ Ok k → IsOrderSizes v (codes "order" ∷ fields) k
+order-sizes v fields k e =
+    let parts = two_parts (order_sizes (Small v)) fields k e in
+    let first = then_parts (count_of (Small v) parts.0) _ k parts.3 in
+    let second = then_parts (number_of 0 (ranges_of v).sessions parts.1) _ k first.2 in
+    let n = count (Small v) parts.0 first.0 first.1 in
+    let s = number-text 0 (ranges_of v).sessions parts.1 second.0 (omega (arith, sessions_are v)) second.1 in
+    subst (IsOrderSizes v (codes "order" ∷ fields)) (same_ok second.2) (n.1, s.high, ap (λ ws. codes "order" ∷ ws) parts.2 ∙ two_equal (codes "order") n.0 s.text)
 
 -- ---- first lines
 
@@ -265,7 +239,8 @@ header-read at after header e =
 abbrev pub IsWhole : Version → Level → List ℕ → Certificate → Type 0
 IsWhole v level text certificate = HasText certificate × (header_of certificate ≡ header_words v level) × (text ≡ lines_text (claim_lines certificate))
 
-order-whole : (v : Version) (level : Level) (n s : ℕ) (at : Position) (ws : Words) (text : List ℕ) (certificate : Certificate) → IsSizesText v ws (Order n s)
+order-whole : (v : Version) (level : Level) (n s : ℕ) (at : Position) (ws : Words) (text : List ℕ) (certificate : Certificate)
+    → IsOrderSizes v ws (record { transactions = n; sessions = s })
     → text ≡ line_text ws ++ at.bytes → IsOrderText v level n s at certificate
     → IsWhole v level text certificate
 order-whole v level n s at ws text certificate sizes is o =
@@ -281,7 +256,7 @@ order-whole v level n s at ws text certificate sizes is o =
     subst (IsWhole v level text) o.is (has, refl, whole)
 
 cycle-whole : (v : Version) (level : Level) (n m l : ℕ) (at : Position) (ws : Words) (text : List ℕ) (certificate : Certificate)
-    → IsSizesText v ws (Cycle n m l) → text ≡ line_text ws ++ at.bytes → IsCycleText v level n m l at certificate
+    → IsCycleSizes (Small v) ws (record { transactions = n; links = m; cost = l }) → text ≡ line_text ws ++ at.bytes → IsCycleText v level n m l at certificate
     → IsWhole v level text certificate
 cycle-whole v level n m l at ws text certificate sizes is o =
     let rows : length o.near ≡ n = o.near_table.size.long in
@@ -299,13 +274,15 @@ cycle-whole v level n m l at ws text certificate sizes is o =
     (ap (λ t. line_text (codes "cycle" ∷ decimal n ∷ decimal m ∷ decimal l ∷ []) ++ t) o.text) in
     subst (IsWhole v level text) o.is (has, refl, whole)
 
-claim-whole : (v : Version) (level : Level) (sizes : Sizes) (at after : Position) (ws : Words) (text : List ℕ) (certificate : Certificate)
-    → IsSizesText v ws sizes → text ≡ line_text ws ++ at.bytes → claim_at v level sizes at ≡ Ok (certificate, after) → after.bytes ≡ []
+claim-whole : (v : Version) (level : Level) (sizes : Sizes OrderSizes) (at after : Position) (ws : Words) (text : List ℕ) (certificate : Certificate)
+    → IsSizesText (Small v) (IsOrderSizes v) ws sizes → text ≡ line_text ws ++ at.bytes → claim_at v level sizes at ≡ Ok (certificate, after) → after.bytes ≡ []
     → IsWhole v level text certificate
-claim-whole v level (Order n s) at after ws text certificate sizes is e end =
-    order-whole v level n s at ws text certificate sizes is (order-read v level n s at after certificate e end)
-claim-whole v level (Cycle n m l) at after ws text certificate sizes is e end =
-    cycle-whole v level n m l at ws text certificate sizes is (cycle-read v level n m l at after certificate e end)
+claim-whole v level (Order k) at after ws text certificate sizes is e end =
+    order-whole v level k.transactions k.sessions at ws text certificate sizes is
+    (order-read v level k.transactions k.sessions at after certificate e end)
+claim-whole v level (Cycle k) at after ws text certificate sizes is e end =
+    cycle-whole v level k.transactions k.links k.cost at ws text certificate sizes is
+    (cycle-read v level k.transactions k.links k.cost at after certificate e end)
 
 -- what was read has one text, that from which it was read
 pub one-text : (bytes : List ℕ) (certificate : Certificate) → certificate_read bytes ≡ Ok certificate
@@ -317,7 +294,7 @@ one-text bytes certificate e =
     let sizes = then_parts (words (Small v) (sizes_line (Small v)) read.header.1) _ (certificate, read.after) read.rest in
     let line = words-text (Small v) (sizes_line (Small v)) read.header.1 sizes.0.1 sizes.0.0 sizes.1 in
     let whole =
-    claim-whole v level sizes.0.0 sizes.0.1 read.after line.0 read.header.1.bytes certificate (sizes-text v line.0 sizes.0.0 line.1) line.2 sizes.2 read.none in (
+    claim-whole v level sizes.0.0 sizes.0.1 read.after line.0 read.header.1.bytes certificate (sizes-text (Small v) _ (IsOrderSizes v) (order-sizes v) line.0 sizes.0.0 line.1) line.2 sizes.2 read.none in (
       whole.0,
       header-read (start_of bytes) read.header.1 read.header.0 read.first ∙ ap (λ t. line_text (header_words v level) ++ t) whole.2
           ∙ ap (λ words. line_text words ++ lines_text (claim_lines certificate)) (sym whole.1),

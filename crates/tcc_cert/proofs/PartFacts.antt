@@ -16,6 +16,7 @@ use Rattle.tcc_cert.specs.declared.part.CycleHead.{CycleHead}
 use Rattle.tcc_cert.specs.declared.part.OrderHead.{OrderHead}
 use Rattle.tcc_cert.specs.declared.part.Part.{Part}
 use Rattle.tcc_cert.specs.declared.part.Part.TheVariants as part
+use Rattle.tcc_cert.specs.declared.reading.forms.OrderSizes.{OrderSizes}
 use Rattle.tcc_cert.specs.declared.reading.forms.Sizes.{Sizes}
 use Rattle.tcc_cert.specs.declared.reading.forms.Sizes.TheVariants.{Order, Cycle}
 use Rattle.tcc_cert.specs.Ranges.{ranges_of}
@@ -97,9 +98,9 @@ told-cycle version level n count least at =
     ∙ ap (λ m. part.Cycle (record head { links = m }) ∷ map part.Link links ++ (map part.Near near ++ map part.Far far)) many
     ∙ ap (λ t. claim_part ∷ t) (sym (append_assoc (map part.Link links) (map part.Near near) (map part.Far far))))))))))
 
-told-claim : (version : Version) (level : Level) (sizes : Sizes) (at : Position) → IsTold parts_of [] (claim_at version level sizes at) (claim_parts version level sizes at)
-told-claim version level (Order n s) at = told-order version level n s at
-told-claim version level (Cycle n count least) at = told-cycle version level n count least at
+told-claim : (version : Version) (level : Level) (sizes : Sizes OrderSizes) (at : Position) → IsTold parts_of [] (claim_at version level sizes at) (claim_parts version level sizes at)
+told-claim version level (Order sizes) at = told-order version level sizes.transactions sizes.sessions at
+told-claim version level (Cycle sizes) at = told-cycle version level sizes.transactions sizes.links sizes.cost at
 
 pub told-whole : (at : Position) → IsTold parts_of [] (certificate_at at) (whole_parts at)
 told-whole at =

@@ -10,6 +10,7 @@ use Rattle.tcc_cert.specs.declared.fault.CertFault.{CertFault}
 use Rattle.tcc_graph.specs.declared.link.Link.{Link}
 use Rattle.tcc_cert.specs.declared.part.Part.{Part}
 use Rattle.tcc_cert.specs.declared.part.Part.TheVariants as part
+use Rattle.tcc_cert.specs.declared.reading.forms.OrderSizes.{OrderSizes}
 use Rattle.tcc_cert.specs.declared.reading.forms.Sizes.{Sizes}
 use Rattle.tcc_cert.specs.declared.reading.forms.Sizes.TheVariants.{Order, Cycle}
 use Rattle.tcc_cert.specs.declared.reading.input.Input.{Input}
@@ -85,11 +86,12 @@ pub onward-rest : (version : Version) (level : Level) (n s : ℕ) (at : Position
 onward-rest version Causal n s at = onward-marked version (shape.Clocks n s) at
 onward-rest version Atomic n s at = onward-end version at
 
-pub onward-claim : (version : Version) (level : Level) (sizes : Sizes) (at : Position) → at.line ≤ (claim_parts version level sizes at).line
-onward-claim version level (Order n s) at =
-    onward-then at (words (Small version) (numbers_line n (ranges_of version).number) at) _ (onward-words (Small version) (numbers_line n (ranges_of version).number) at)
-    (λ order. onward-rest version level n s order.1)
-onward-claim version level (Cycle n count least) at = onward-links version n 0 count at
+pub onward-claim : (version : Version) (level : Level) (sizes : Sizes OrderSizes) (at : Position) → at.line ≤ (claim_parts version level sizes at).line
+onward-claim version level (Order sizes) at =
+    let line = numbers_line sizes.transactions (ranges_of version).number in
+    onward-then at (words (Small version) line at) _ (onward-words (Small version) line at)
+    (λ order. onward-rest version level sizes.transactions sizes.sessions order.1)
+onward-claim version level (Cycle sizes) at = onward-links version sizes.transactions 0 sizes.links at
 
 pub onward-behind : (header : (Version × Level) × Position) → header.1.line ≤ (parts_behind header).line
 onward-behind header =
@@ -137,7 +139,7 @@ part-then remaining at {after} {x} read behind result new is on taken =
     (step-earlier remaining after.line at.line (behind (x, after)) result new on taken)
 
 -- the sizes of a claim were read
-pub sizes-then : {R : Type 0} (remaining : R → Option (List ℕ)) (version : Version) (level : Level) (at : Position) {after : Position} {sizes : Sizes}
+pub sizes-then : {R : Type 0} (remaining : R → Option (List ℕ)) (version : Version) (level : Level) (at : Position) {after : Position} {sizes : Sizes OrderSizes}
     (result : Result (Part × Stage) CertFault) (new : Input R)
     → words (Small version) (sizes_line (Small version)) at ≡ Ok (sizes, after) → TakesStep remaining after.line (claim_parts version level sizes after) result new
     → TakesStep remaining at.line (parts_behind ((version, level), at)) result new

@@ -5,19 +5,20 @@ use Rattle.tcc_graph.specs.declared.level.Level.{Level}
 use Rattle.tcc_graph.specs.declared.level.Level.TheVariants.{Causal, Atomic}
 use Rattle.tcc_cert.specs.declared.ranges.Scale.TheVariants.{Large}
 use Rattle.tcc_cert.specs.declared.ranges.TheConstants.{MAX_HEADER_BYTES}
-use Rattle.tcc_cert.specs.declared.version_3.TheConstants.{V3_MAX_COST, V3_MAX_NUMBER, V3_MAX_RUNS, V3_MAX_SESSION, V3_MAX_SESSIONS}
+use Rattle.tcc_cert.specs.declared.version_3.TheConstants.{V3_MAX_NUMBER, V3_MAX_RUNS, V3_MAX_SESSION, V3_MAX_SESSIONS}
 use Rattle.tcc_cert.specs.declared.fault.CertFault.{CertFault}
 use Rattle.tcc_cert.specs.declared.fault.CertFaultKind.{CertFaultKind}
 use Rattle.tcc_cert.specs.declared.fault.CertFaultKind.TheVariants.{Header, Count}
 use Rattle.tcc_cert.specs.declared.large.LargeCertificate.{LargeCertificate}
 use Rattle.tcc_cert.specs.declared.large.LargeCertificate.TheVariants as claim
 use Rattle.tcc_cert.specs.declared.large.Run.{Run}
-use Rattle.tcc_cert.specs.declared.reading.large_forms.LargeSizes.{LargeSizes}
-use Rattle.tcc_cert.specs.declared.reading.large_forms.LargeSizes.TheVariants.{Order, Cycle}
+use Rattle.tcc_cert.specs.declared.reading.forms.Sizes.{Sizes}
+use Rattle.tcc_cert.specs.declared.reading.forms.Sizes.TheVariants.{Order, Cycle}
+use Rattle.tcc_cert.specs.declared.reading.large_forms.LargeOrderSizes.{LargeOrderSizes}
 use Rattle.tcc_cert.specs.declared.reading.large_forms.Tail.{Tail}
 use Rattle.tcc_cert.specs.declared.reading.large_forms.Tail.TheVariants.{Least, End}
 use Rattle.tcc_cert.specs.Texts.{Words}
-use Rattle.tcc_cert.specs.Reading.{◌>>=◌, Position, Reads, by_word, count_of, ended, line_of, link_at, next, number_of, repeated, start_of}
+use Rattle.tcc_cert.specs.Reading.{◌>>=◌, Position, Reads, by_word, claim_sizes, count_of, ended, line_of, link_at, next, number_of, repeated, start_of}
 use Rattle.tcc_cert.specs.Reading.{three_words, two_words, word_line, words}
 
 -- ---- the forms of lines
@@ -44,23 +45,16 @@ run_line line = two_words run_of line
 abbrev pub runs_of : List ℕ → Result ℕ CertFaultKind
 runs_of r = number_of 0 V3_MAX_RUNS r
 
-abbrev pub large_order_sizes : List ℕ → List ℕ → List ℕ → Result LargeSizes CertFaultKind
+abbrev pub large_order_sizes : List ℕ → List ℕ → List ℕ → Result LargeOrderSizes CertFaultKind
 large_order_sizes n s r = do
   transactions ← count_of Large n
   sessions ← number_of 0 V3_MAX_SESSIONS s
   runs ← runs_of r
-  Ok (Order transactions sessions runs)
-
-abbrev pub large_cycle_sizes : List ℕ → List ℕ → List ℕ → Result LargeSizes CertFaultKind
-large_cycle_sizes n m l = do
-  transactions ← count_of Large n
-  links ← count_of Large m
-  cost ← number_of 0 V3_MAX_COST l
-  Ok (Cycle transactions links cost)
+  Ok (record { transactions = transactions; sessions = sessions; runs = runs })
 
 -- the line that says how long a claim is
-abbrev pub large_sizes_line : Words → Result LargeSizes CertFaultKind
-large_sizes_line line = by_word (codes "order") (three_words large_order_sizes) (codes "cycle") (three_words large_cycle_sizes) line
+abbrev pub large_sizes_line : Words → Result (Sizes LargeOrderSizes) CertFaultKind
+large_sizes_line line = claim_sizes (three_words large_order_sizes) Large line
 
 abbrev pub least_of : List ℕ → Result Tail CertFaultKind
 least_of r = do
@@ -106,9 +100,9 @@ links_claim_at level transactions count cost at = do
   least ← least_at tail.0 tail.1
   Ok (claim.Cycle (record { level = level; transactions = transactions; links = links.0; cost = cost; least = least.0 }), least.1)
 
-abbrev pub large_claim_at : Level → LargeSizes → Position → Reads LargeCertificate
-large_claim_at level (Order transactions sessions runs) at = runs_claim_at level transactions sessions runs at
-large_claim_at level (Cycle transactions links cost) at = links_claim_at level transactions links cost at
+abbrev pub large_claim_at : Level → Sizes LargeOrderSizes → Position → Reads LargeCertificate
+large_claim_at level (Order sizes) at = runs_claim_at level sizes.transactions sizes.sessions sizes.runs at
+large_claim_at level (Cycle sizes) at = links_claim_at level sizes.transactions sizes.links sizes.cost at
 
 -- what stands behind the first line
 abbrev pub large_behind_header : Level × Position → Reads LargeCertificate

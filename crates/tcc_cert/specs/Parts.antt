@@ -16,6 +16,7 @@ use Rattle.tcc_cert.specs.declared.part.CycleHead.{CycleHead}
 use Rattle.tcc_cert.specs.declared.part.OrderHead.{OrderHead}
 use Rattle.tcc_cert.specs.declared.part.Part.{Part}
 use Rattle.tcc_cert.specs.declared.part.Part.TheVariants as part
+use Rattle.tcc_cert.specs.declared.reading.forms.OrderSizes.{OrderSizes}
 use Rattle.tcc_cert.specs.declared.reading.forms.Sizes.{Sizes}
 use Rattle.tcc_cert.specs.declared.reading.forms.Sizes.TheVariants.{Order, Cycle}
 use Rattle.tcc_cert.specs.declared.ranges.Scale.TheVariants.{Small}
@@ -130,9 +131,9 @@ cycle_parts version level transactions count least at =
     after_part (part.Cycle (record { version = version; level = level; count = transactions; links = count; least = least }))
     (link_rows version transactions 0 count at)
 
-abbrev pub claim_parts : Version → Level → Sizes → Position → Parts
-claim_parts version level (Order transactions sessions) at = order_parts version level transactions sessions at
-claim_parts version level (Cycle transactions count least) at = cycle_parts version level transactions count least at
+abbrev pub claim_parts : Version → Level → Sizes OrderSizes → Position → Parts
+claim_parts version level (Order sizes) at = order_parts version level sizes.transactions sizes.sessions at
+claim_parts version level (Cycle sizes) at = cycle_parts version level sizes.transactions sizes.links sizes.cost at
 
 -- what comes behind the first line
 abbrev pub parts_behind : (Version × Level) × Position → Parts

@@ -23,6 +23,8 @@ use Rattle.tcc_cert.specs.declared.fault.CertFaultKind.TheVariants.{Header, Word
 use Rattle.tcc_cert.specs.declared.certificate.Certificate.{Certificate}
 use Rattle.tcc_cert.specs.declared.certificate.Certificate.TheVariants as claim
 use Rattle.tcc_cert.specs.declared.reading.forms.Head.{Head}
+use Rattle.tcc_cert.specs.declared.reading.forms.CycleSizes.{CycleSizes}
+use Rattle.tcc_cert.specs.declared.reading.forms.OrderSizes.{OrderSizes}
 use Rattle.tcc_cert.specs.declared.reading.forms.Sizes.{Sizes}
 use Rattle.tcc_cert.specs.declared.reading.forms.Sizes.TheVariants.{Order, Cycle}
 use Rattle.tcc_cert.specs.declared.ranges.Scale.{Scale}
@@ -151,22 +153,27 @@ head_line scale (word ∷ fields) =
     if same word (codes "D") then five_words (derived_of scale) fields
     else step_line scale (word ∷ fields) >>= λ step. Ok (head_of_step step)
 
-abbrev pub order_sizes : Scale → List ℕ → List ℕ → Result Sizes CertFaultKind
+abbrev pub order_sizes : Scale → List ℕ → List ℕ → Result OrderSizes CertFaultKind
 order_sizes scale n s = do
   transactions ← count_of scale n
   sessions ← number_of 0 (ranges_at scale).sessions s
-  Ok (Order transactions sessions)
+  Ok (record { transactions = transactions; sessions = sessions })
 
-abbrev pub cycle_sizes : Scale → List ℕ → List ℕ → List ℕ → Result Sizes CertFaultKind
+abbrev pub cycle_sizes : Scale → List ℕ → List ℕ → List ℕ → Result CycleSizes CertFaultKind
 cycle_sizes scale n m l = do
   transactions ← count_of scale n
   links ← count_of scale m
-  least ← number_of 0 (ranges_at scale).cost l
-  Ok (Cycle transactions links least)
+  cost ← number_of 0 (ranges_at scale).cost l
+  Ok (record { transactions = transactions; links = links; cost = cost })
 
--- the line that says how long the parts of a claim are
-abbrev pub sizes_line : Scale → Words → Result Sizes CertFaultKind
-sizes_line scale line = by_word (codes "order") (two_words (order_sizes scale)) (codes "cycle") (three_words (cycle_sizes scale)) line
+-- the line that says how long the parts of a claim are, where the words behind `order` have this form
+abbrev pub claim_sizes : {O : Type 0} → (Words → Result O CertFaultKind) → Scale → Words → Result (Sizes O) CertFaultKind
+claim_sizes order scale line =
+    by_word (codes "order") (λ fields. order fields >>= λ sizes. Ok (Order sizes))
+    (codes "cycle") (λ fields. three_words (cycle_sizes scale) fields >>= λ sizes. Ok (Cycle sizes)) line
+
+abbrev pub sizes_line : Scale → Words → Result (Sizes OrderSizes) CertFaultKind
+sizes_line scale line = claim_sizes (two_words (order_sizes scale)) scale line
 
 -- ---- lines
 
@@ -267,9 +274,9 @@ cycle_at version level transactions count least at = do
   end ← words (Small version) (word_line (codes "end")) far.1
   Ok (claim.Cycle (record { version = version; level = level; links = links.0; least = least; near = near.0; far = far.0 }), end.1)
 
-abbrev pub claim_at : Version → Level → Sizes → Position → Reads Certificate
-claim_at version level (Order transactions sessions) at = order_at version level transactions sessions at
-claim_at version level (Cycle transactions links least) at = cycle_at version level transactions links least at
+abbrev pub claim_at : Version → Level → Sizes OrderSizes → Position → Reads Certificate
+claim_at version level (Order sizes) at = order_at version level sizes.transactions sizes.sessions at
+claim_at version level (Cycle sizes) at = cycle_at version level sizes.transactions sizes.links sizes.cost at
 
 -- what stands behind the first line
 abbrev pub behind_header : (Version × Level) × Position → Reads Certificate

@@ -1,10 +1,10 @@
 //! What one line of words says.
 ghost use Rattle.std.specs.Prelude.{◌≡◌, map};
-ghost use Rattle.tcc_cert.specs.Reading.{count_of, cycle_sizes, derived_of, five_words, head_line, head_of_step, key_of, order_sizes, reads_of, session_of, sizes_line, step_line, three_words, transaction_of, two_words, words};
+ghost use Rattle.tcc_cert.specs.Reading.{claim_sizes, count_of, cycle_sizes, derived_of, five_words, head_line, head_of_step, key_of, order_sizes, reads_of, session_of, step_line, three_words, transaction_of, two_words, words};
 
 use super::decimals::number_of;
 use super::input::Input;
-use super::words::{Entry, WordLine, next_line};
+use super::words::{Entry, Said, WordLine, next_line};
 use crate::ranges::{Scale, ranges_at};
 use crate::{CertFault, CertFaultKind};
 use std::alloc::Global;
@@ -19,35 +19,43 @@ pub(crate) struct Head {
     pub(crate) steps: u32,
 }
 
-/// How long the parts of a claim are, and what the cycle costs.
+/// How long the parts of an order's claim are.
 #[derive(Clone, Copy)]
-pub(crate) enum Sizes {
-    Order {
-        transactions: u32,
-        sessions: u32,
-    },
-    Cycle {
-        transactions: u32,
-        links: u32,
-        least: u32,
-    },
+pub(crate) struct OrderSizes {
+    pub(crate) transactions: u32,
+    pub(crate) sessions: u32,
+}
+
+/// How long the parts of a cycle's claim are, and what the cycle costs.
+#[derive(Clone, Copy)]
+pub(crate) struct CycleSizes {
+    pub(crate) transactions: u32,
+    pub(crate) links: u32,
+    pub(crate) cost: u32,
+}
+
+/// What a claim is of, and how long its parts are. Of an order the versions say different things.
+#[derive(Drop)]
+pub(crate) enum Sizes<O> {
+    Order(O),
+    Cycle(CycleSizes),
 }
 
 /// The number of a transaction.
-fn transaction_of(scale: Scale, word: &[u8]) -> Result<u32, CertFaultKind>
+fn transaction_of(scale: Scale, word: &[u8]) -> Said<u32>
     ensures { result ≡ transaction_of scale word.now }
 {
     number_of(word, 0, ranges_at(scale).number)
 }
 
 /// How many transactions, links or steps.
-pub(crate) fn count_of(scale: Scale, word: &[u8]) -> Result<u32, CertFaultKind>
+pub(crate) fn count_of(scale: Scale, word: &[u8]) -> Said<u32>
     ensures { result ≡ count_of scale word.now }
 {
     number_of(word, 1, ranges_at(scale).count)
 }
 
-fn key_of(word: &[u8]) -> Result<Name, CertFaultKind>
+fn key_of(word: &[u8]) -> Said<Name>
     ensures { result ≡ key_of word.now }
 {
     match Name::read(word) {
@@ -57,7 +65,7 @@ fn key_of(word: &[u8]) -> Result<Name, CertFaultKind>
 }
 
 /// `u v`
-fn session_of(scale: Scale, from: &[u8], to: &[u8]) -> Result<Step, CertFaultKind>
+fn session_of(scale: Scale, from: &[u8], to: &[u8]) -> Said<Step>
     ensures { result ≡ session_of scale from.now to.now }
 {
     Ok(Step::Session {
@@ -67,7 +75,7 @@ fn session_of(scale: Scale, from: &[u8], to: &[u8]) -> Result<Step, CertFaultKin
 }
 
 /// `u v KEY`
-fn reads_of(scale: Scale, from: &[u8], to: &[u8], key: &[u8]) -> Result<Step, CertFaultKind>
+fn reads_of(scale: Scale, from: &[u8], to: &[u8], key: &[u8]) -> Said<Step>
     ensures { result ≡ reads_of scale from.now to.now key.now }
 {
     Ok(Step::Reads {
@@ -78,7 +86,7 @@ fn reads_of(scale: Scale, from: &[u8], to: &[u8], key: &[u8]) -> Result<Step, Ce
 }
 
 /// What stands behind `S`.
-fn session_fields(scale: Scale, fields: &[&[u8]]) -> Result<Step, CertFaultKind>
+fn session_fields(scale: Scale, fields: &[&[u8]]) -> Said<Step>
     ensures { result ≡ two_words (session_of scale) (map (λ word. word.now) fields.now) }
 {
     match fields {
@@ -88,7 +96,7 @@ fn session_fields(scale: Scale, fields: &[&[u8]]) -> Result<Step, CertFaultKind>
 }
 
 /// What stands behind `R`.
-fn reads_fields(scale: Scale, fields: &[&[u8]]) -> Result<Step, CertFaultKind>
+fn reads_fields(scale: Scale, fields: &[&[u8]]) -> Said<Step>
     ensures { result ≡ three_words (reads_of scale) (map (λ word. word.now) fields.now) }
 {
     match fields {
@@ -100,7 +108,7 @@ fn reads_fields(scale: Scale, fields: &[&[u8]]) -> Result<Step, CertFaultKind>
 impl WordLine for Step {
     ghost form = { step_line };
 
-    fn of_words(_alloc: Global, scale: Scale, words: &[&[u8]]) -> Result<Step, CertFaultKind> {
+    fn of_words(_alloc: Global, scale: Scale, words: &[&[u8]]) -> Said<Step> {
         let Some((word, fields)) = words.split_first() else {
             return Err(CertFaultKind::Word);
         };
@@ -131,7 +139,7 @@ fn derived_of(
     key: &[u8],
     reader: &[u8],
     steps: &[u8],
-) -> Result<Head, CertFaultKind>
+) -> Said<Head>
     ensures { result ≡ derived_of scale from.now to.now key.now reader.now steps.now }
 {
     let link = Link::Derived {
@@ -148,7 +156,7 @@ fn derived_of(
 }
 
 /// What stands behind `D`.
-fn derived_fields(alloc: Global, scale: Scale, fields: &[&[u8]]) -> Result<Head, CertFaultKind>
+fn derived_fields(alloc: Global, scale: Scale, fields: &[&[u8]]) -> Said<Head>
     ensures { result ≡ five_words (derived_of scale) (map (λ word. word.now) fields.now) }
 {
     match fields {
@@ -170,75 +178,68 @@ fn head_of_step(step: Step) -> Head
 impl WordLine for Head {
     ghost form = { head_line };
 
-    fn of_words(alloc: Global, scale: Scale, words: &[&[u8]]) -> Result<Head, CertFaultKind> {
-        let Some((word, fields)) = words.split_first() else {
-            return Err(CertFaultKind::Word);
-        };
-        if *word == b"D".as_slice() {
-            derived_fields(alloc, scale, fields)
-        } else {
-            Ok(head_of_step(Step::of_words(alloc, scale, words)?))
+    fn of_words(alloc: Global, scale: Scale, words: &[&[u8]]) -> Said<Head> {
+        match words {
+            [word, fields @ ..] if *word == b"D".as_slice() => derived_fields(alloc, scale, fields),
+            _ => Ok(head_of_step(Step::of_words(alloc, scale, words)?)),
         }
     }
 }
 
 /// `N S`
-fn order_sizes(scale: Scale, transactions: &[u8], sessions: &[u8]) -> Result<Sizes, CertFaultKind>
+fn order_sizes(scale: Scale, transactions: &[u8], sessions: &[u8]) -> Said<OrderSizes>
     ensures { result ≡ order_sizes scale transactions.now sessions.now }
 {
-    Ok(Sizes::Order {
+    Ok(OrderSizes {
         transactions: count_of(scale, transactions)?,
         sessions: number_of(sessions, 0, ranges_at(scale).sessions)?,
     })
 }
 
 /// `N M L`
-fn cycle_sizes(
-    scale: Scale,
-    transactions: &[u8],
-    links: &[u8],
-    least: &[u8],
-) -> Result<Sizes, CertFaultKind>
-    ensures { result ≡ cycle_sizes scale transactions.now links.now least.now }
+fn cycle_sizes(scale: Scale, transactions: &[u8], links: &[u8], cost: &[u8]) -> Said<CycleSizes>
+    ensures { result ≡ cycle_sizes scale transactions.now links.now cost.now }
 {
-    Ok(Sizes::Cycle {
+    Ok(CycleSizes {
         transactions: count_of(scale, transactions)?,
         links: count_of(scale, links)?,
-        least: number_of(least, 0, ranges_at(scale).cost)?,
+        cost: number_of(cost, 0, ranges_at(scale).cost)?,
     })
 }
 
-/// What stands behind `order`.
-fn order_fields(scale: Scale, fields: &[&[u8]]) -> Result<Sizes, CertFaultKind>
-    ensures { result ≡ two_words (order_sizes scale) (map (λ word. word.now) fields.now) }
-{
-    match fields {
-        [transactions, sessions] => order_sizes(scale, transactions, sessions),
-        _ => Err(CertFaultKind::Count),
+impl WordLine for OrderSizes {
+    ghost form = { λ scale. two_words (order_sizes scale) };
+
+    fn of_words(_alloc: Global, scale: Scale, words: &[&[u8]]) -> Said<OrderSizes> {
+        match words {
+            [transactions, sessions] => order_sizes(scale, transactions, sessions),
+            _ => Err(CertFaultKind::Count),
+        }
     }
 }
 
-/// What stands behind `cycle`.
-fn cycle_fields(scale: Scale, fields: &[&[u8]]) -> Result<Sizes, CertFaultKind>
-    ensures { result ≡ three_words (cycle_sizes scale) (map (λ word. word.now) fields.now) }
-{
-    match fields {
-        [transactions, links, least] => cycle_sizes(scale, transactions, links, least),
-        _ => Err(CertFaultKind::Count),
+impl WordLine for CycleSizes {
+    ghost form = { λ scale. three_words (cycle_sizes scale) };
+
+    fn of_words(_alloc: Global, scale: Scale, words: &[&[u8]]) -> Said<CycleSizes> {
+        match words {
+            [transactions, links, cost] => cycle_sizes(scale, transactions, links, cost),
+            _ => Err(CertFaultKind::Count),
+        }
     }
 }
 
-impl WordLine for Sizes {
-    ghost form = { sizes_line };
+impl<O: WordLine> WordLine for Sizes<O> {
+    ghost form = { λ scale. claim_sizes (O.form scale) scale };
 
-    fn of_words(_alloc: Global, scale: Scale, words: &[&[u8]]) -> Result<Sizes, CertFaultKind> {
+    fn of_words(alloc: Global, scale: Scale, words: &[&[u8]]) -> Said<Sizes<O>> {
         let Some((word, fields)) = words.split_first() else {
             return Err(CertFaultKind::Word);
         };
         if *word == b"order".as_slice() {
-            order_fields(scale, fields)
+            Ok(Sizes::Order(O::of_words(alloc, scale, fields)?))
         } else if *word == b"cycle".as_slice() {
-            cycle_fields(scale, fields)
+            Ok(Sizes::Cycle(CycleSizes::of_words(alloc, scale, fields)?))
         } else {
             Err(CertFaultKind::Word)
         }

@@ -4,8 +4,9 @@ ghost use Rattle.tcc_cert.specs.{private.Inputs.AsBefore, private.Inputs.Gives, 
 ghost use Rattle.tcc_cert.specs.Reading.{Position, link_at, next, repeated, start_of};
 ghost use Rattle.tcc_cert.specs.LargeReading.{large_behind_header, large_certificate_at, large_claim_at, large_header_line, least_at, links_claim_at, runs_at};
 
+use super::forms::{CycleSizes, Sizes};
 use super::input::{Input, at_line};
-use super::large_forms::{LargeSizes, Tail};
+use super::large_forms::{LargeOrderSizes, Tail};
 use super::links::entries;
 use super::mark;
 use super::words::next_line;
@@ -49,22 +50,20 @@ fn cycle<R: Read>(
     alloc: Global,
     input: &mut Input<R>,
     level: Level,
-    transactions: u32,
-    count: u32,
-    cost: u32,
+    sizes: CycleSizes,
 ) -> Result<LargeCertificate, CertFault>
     ensures works { OnOk result (AsBefore input.old input.new) }
     ensures gives { (at : Position) → IsAt R.remaining input.old at
-        → Gives R.remaining at (links_claim_at level transactions count cost at) result input.new }
+        → Gives R.remaining at (links_claim_at level sizes.transactions sizes.links sizes.cost at) result input.new }
 {
-    let links = entries::<Link, R>(alloc, input, Scale::Large, count)?;
+    let links = entries::<Link, R>(alloc, input, Scale::Large, sizes.links)?;
     let tail = next_line::<Tail, R>(alloc, input, Scale::Large)?;
     let least = least(alloc, input, tail)?;
     Ok(LargeCertificate::Cycle(LinksClaim {
         level,
-        transactions,
+        transactions: sizes.transactions,
         links,
-        cost,
+        cost: sizes.cost,
         least,
     }))
 }
@@ -79,25 +78,17 @@ fn claim<R: Read>(
     ensures gives { (at : Position) → IsAt R.remaining input.old at
         → Gives R.remaining at (large_behind_header (level, at)) result input.new }
 {
-    match next_line::<LargeSizes, R>(alloc, input, Scale::Large)? {
-        LargeSizes::Order {
-            transactions,
-            sessions,
-            runs: count,
-        } => {
-            let runs = runs(alloc, input, count)?;
+    match next_line::<Sizes<LargeOrderSizes>, R>(alloc, input, Scale::Large)? {
+        Sizes::Order(sizes) => {
+            let runs = runs(alloc, input, sizes.runs)?;
             Ok(LargeCertificate::Order(RunsClaim {
                 level,
-                transactions,
-                sessions,
+                transactions: sizes.transactions,
+                sessions: sizes.sessions,
                 runs,
             }))
         }
-        LargeSizes::Cycle {
-            transactions,
-            links,
-            cost,
-        } => cycle(alloc, input, level, transactions, links, cost),
+        Sizes::Cycle(sizes) => cycle(alloc, input, level, sizes),
     }
 }
 

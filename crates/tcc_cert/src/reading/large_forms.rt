@@ -1,31 +1,24 @@
 //! What one line of version 3 says.
 ghost use Rattle.std.specs.Prelude.{◌≡◌, map};
 ghost use Rattle.tcc_cert.specs.Reading.{three_words, two_words, words};
-ghost use Rattle.tcc_cert.specs.LargeReading.{large_cycle_sizes, large_order_sizes, large_sizes_line, least_of, no_words, one_word, run_line, run_of, runs_of, tail_line};
+ghost use Rattle.tcc_cert.specs.LargeReading.{large_order_sizes, least_of, no_words, one_word, run_line, run_of, runs_of, tail_line};
 
 use super::decimals::number_of;
 use super::forms::count_of;
 use super::input::Input;
-use super::words::{Entry, WordLine, next_line};
+use super::words::{Entry, Said, WordLine, next_line};
 use crate::ranges::Scale;
-use crate::version_3::{V3_MAX_COST, V3_MAX_NUMBER, V3_MAX_RUNS, V3_MAX_SESSION, V3_MAX_SESSIONS};
+use crate::version_3::{V3_MAX_NUMBER, V3_MAX_RUNS, V3_MAX_SESSION, V3_MAX_SESSIONS};
 use crate::{CertFault, CertFaultKind, Run};
 use std::alloc::Global;
 use std::io::Read;
 
-/// How long a claim is, and what the cycle costs.
+/// How long the parts of an order's claim are.
 #[derive(Clone, Copy)]
-pub(crate) enum LargeSizes {
-    Order {
-        transactions: u32,
-        sessions: u32,
-        runs: u32,
-    },
-    Cycle {
-        transactions: u32,
-        links: u32,
-        cost: u32,
-    },
+pub(crate) struct LargeOrderSizes {
+    pub(crate) transactions: u32,
+    pub(crate) sessions: u32,
+    pub(crate) runs: u32,
 }
 
 /// What stands behind the links of a cycle.
@@ -38,7 +31,7 @@ pub(crate) enum Tail {
 }
 
 /// `s k`
-fn run_of(session: &[u8], count: &[u8]) -> Result<Run, CertFaultKind>
+fn run_of(session: &[u8], count: &[u8]) -> Said<Run>
     ensures { result ≡ run_of session.now count.now }
 {
     Ok(Run {
@@ -50,7 +43,7 @@ fn run_of(session: &[u8], count: &[u8]) -> Result<Run, CertFaultKind>
 impl WordLine for Run {
     ghost form = { λ scale. run_line };
 
-    fn of_words(_alloc: Global, _scale: Scale, words: &[&[u8]]) -> Result<Run, CertFaultKind> {
+    fn of_words(_alloc: Global, _scale: Scale, words: &[&[u8]]) -> Said<Run> {
         match words {
             [session, count] => run_of(session, count),
             _ => Err(CertFaultKind::Count),
@@ -67,81 +60,36 @@ impl Entry for Run {
 }
 
 /// How many runs.
-fn runs_of(word: &[u8]) -> Result<u32, CertFaultKind>
+fn runs_of(word: &[u8]) -> Said<u32>
     ensures { result ≡ runs_of word.now }
 {
     number_of(word, 0, V3_MAX_RUNS)
 }
 
 /// `N S R`
-fn order_sizes(
-    transactions: &[u8],
-    sessions: &[u8],
-    runs: &[u8],
-) -> Result<LargeSizes, CertFaultKind>
+fn order_sizes(transactions: &[u8], sessions: &[u8], runs: &[u8]) -> Said<LargeOrderSizes>
     ensures { result ≡ large_order_sizes transactions.now sessions.now runs.now }
 {
-    Ok(LargeSizes::Order {
+    Ok(LargeOrderSizes {
         transactions: count_of(Scale::Large, transactions)?,
         sessions: number_of(sessions, 0, V3_MAX_SESSIONS)?,
         runs: runs_of(runs)?,
     })
 }
 
-/// `N M L`
-fn cycle_sizes(transactions: &[u8], links: &[u8], cost: &[u8]) -> Result<LargeSizes, CertFaultKind>
-    ensures { result ≡ large_cycle_sizes transactions.now links.now cost.now }
-{
-    Ok(LargeSizes::Cycle {
-        transactions: count_of(Scale::Large, transactions)?,
-        links: count_of(Scale::Large, links)?,
-        cost: number_of(cost, 0, V3_MAX_COST)?,
-    })
-}
+impl WordLine for LargeOrderSizes {
+    ghost form = { λ scale. three_words large_order_sizes };
 
-/// What stands behind `order`.
-fn order_fields(fields: &[&[u8]]) -> Result<LargeSizes, CertFaultKind>
-    ensures { result ≡ three_words large_order_sizes (map (λ word. word.now) fields.now) }
-{
-    match fields {
-        [transactions, sessions, runs] => order_sizes(transactions, sessions, runs),
-        _ => Err(CertFaultKind::Count),
-    }
-}
-
-/// What stands behind `cycle`.
-fn cycle_fields(fields: &[&[u8]]) -> Result<LargeSizes, CertFaultKind>
-    ensures { result ≡ three_words large_cycle_sizes (map (λ word. word.now) fields.now) }
-{
-    match fields {
-        [transactions, links, cost] => cycle_sizes(transactions, links, cost),
-        _ => Err(CertFaultKind::Count),
-    }
-}
-
-impl WordLine for LargeSizes {
-    ghost form = { λ scale. large_sizes_line };
-
-    fn of_words(
-        _alloc: Global,
-        _scale: Scale,
-        words: &[&[u8]],
-    ) -> Result<LargeSizes, CertFaultKind> {
-        let Some((word, fields)) = words.split_first() else {
-            return Err(CertFaultKind::Word);
-        };
-        if *word == b"order".as_slice() {
-            order_fields(fields)
-        } else if *word == b"cycle".as_slice() {
-            cycle_fields(fields)
-        } else {
-            Err(CertFaultKind::Word)
+    fn of_words(_alloc: Global, _scale: Scale, words: &[&[u8]]) -> Said<LargeOrderSizes> {
+        match words {
+            [transactions, sessions, runs] => order_sizes(transactions, sessions, runs),
+            _ => Err(CertFaultKind::Count),
         }
     }
 }
 
 /// `R`
-fn least_of(runs: &[u8]) -> Result<Tail, CertFaultKind>
+fn least_of(runs: &[u8]) -> Said<Tail>
     ensures { result ≡ least_of runs.now }
 {
     Ok(Tail::Least {
@@ -150,7 +98,7 @@ fn least_of(runs: &[u8]) -> Result<Tail, CertFaultKind>
 }
 
 /// What stands behind `least`.
-fn least_fields(fields: &[&[u8]]) -> Result<Tail, CertFaultKind>
+fn least_fields(fields: &[&[u8]]) -> Said<Tail>
     ensures { result ≡ one_word least_of (map (λ word. word.now) fields.now) }
 {
     match fields {
@@ -160,7 +108,7 @@ fn least_fields(fields: &[&[u8]]) -> Result<Tail, CertFaultKind>
 }
 
 /// What stands behind `end`.
-fn end_fields(fields: &[&[u8]]) -> Result<Tail, CertFaultKind>
+fn end_fields(fields: &[&[u8]]) -> Said<Tail>
     ensures { result ≡ no_words Tail.End (map (λ word. word.now) fields.now) }
 {
     match fields {
@@ -172,7 +120,7 @@ fn end_fields(fields: &[&[u8]]) -> Result<Tail, CertFaultKind>
 impl WordLine for Tail {
     ghost form = { λ scale. tail_line };
 
-    fn of_words(_alloc: Global, _scale: Scale, words: &[&[u8]]) -> Result<Tail, CertFaultKind> {
+    fn of_words(_alloc: Global, _scale: Scale, words: &[&[u8]]) -> Said<Tail> {
         let Some((word, fields)) = words.split_first() else {
             return Err(CertFaultKind::Word);
         };

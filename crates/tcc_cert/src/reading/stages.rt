@@ -5,7 +5,7 @@ ghost use Rattle.tcc_cert.specs.Parts.{Parts, end_parts, link_rows, order_parts,
 ghost use Rattle.tcc_cert.specs.Shapes.{behind_table, height, links_from, rows_from, table_parts, table_rows};
 ghost use Rattle.tcc_cert.specs.private.Stages.{IsBegun, IsClaimStep, IsRowStep, IsStepAt, TakesStep};
 
-use super::forms::Sizes;
+use super::forms::{OrderSizes, Sizes};
 use super::input::Input;
 use super::links::link;
 use super::rows::row;
@@ -177,27 +177,26 @@ fn order<R: Read>(
     input: &mut Input<R>,
     version: Version,
     level: Level,
-    transactions: u32,
-    sessions: u32,
+    sizes: OrderSizes,
 ) -> NextPart
     ensures works { OnOk result (AsBefore input.old input.new) }
     ensures step { (at : Position) → IsAt R.remaining input.old at
-        → TakesStep R.remaining at.line (order_parts version level transactions sessions at) result input.new }
+        → TakesStep R.remaining at.line (order_parts version level sizes.transactions sizes.sessions at) result input.new }
     ensures claim { IfOk result IsClaimStep }
 {
     let order = row(
         alloc,
         input,
         version,
-        transactions as usize,
+        sizes.transactions as usize,
         ranges_of(version).number,
     )?;
-    let coming = behind_order(version, level, transactions, sessions);
+    let coming = behind_order(version, level, sizes.transactions, sizes.sessions);
     let head = OrderHead {
         version,
         level,
         order,
-        sessions,
+        sessions: sizes.sessions,
     };
     Ok((Part::Order(head), Stage::Going(coming)))
 }
@@ -240,27 +239,20 @@ fn claim<R: Read>(alloc: Global, input: &mut Input<R>, version: Version, level: 
     ensures step { (at : Position) → IsAt R.remaining input.old at → TakesStep R.remaining at.line (parts_behind ((version, level), at)) result input.new }
     ensures claim { IfOk result IsClaimStep }
 {
-    match next_line::<Sizes, R>(alloc, input, Scale::Small(version))? {
-        Sizes::Order {
-            transactions,
-            sessions,
-        } => order(alloc, input, version, level, transactions, sessions),
-        Sizes::Cycle {
-            transactions,
-            links,
-            least,
-        } => {
+    match next_line::<Sizes<OrderSizes>, R>(alloc, input, Scale::Small(version))? {
+        Sizes::Order(sizes) => order(alloc, input, version, level, sizes),
+        Sizes::Cycle(sizes) => {
             let head = CycleHead {
                 version,
                 level,
-                count: transactions,
-                links,
-                least,
+                count: sizes.transactions,
+                links: sizes.links,
+                least: sizes.cost,
             };
             let left = LinksLeft {
                 version,
-                transactions,
-                many: links,
+                transactions: sizes.transactions,
+                many: sizes.links,
             };
             Ok((Part::Cycle(head), Stage::Going(Coming::Links(left))))
         }

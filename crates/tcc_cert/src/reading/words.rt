@@ -9,6 +9,9 @@ use crate::{CertFault, CertFaultKind};
 use std::alloc::{AllocError, Global};
 use std::io::Read;
 
+/// What words say, or what is wrong with them.
+pub(crate) type Said<T> = Result<T, CertFaultKind>;
+
 /// What a line of words says.
 pub(crate) trait WordLine: Drop {
     ghost use Rattle.tcc_cert.specs.{declared.fault.CertFaultKind.CertFaultKind, declared.ranges.Scale.Scale, Texts.Words};
@@ -16,7 +19,7 @@ pub(crate) trait WordLine: Drop {
     ghost form: { Scale → Words → Result Self CertFaultKind };
 
     /// What these words say.
-    fn of_words(alloc: Global, scale: Scale, words: &[&[u8]]) -> Result<Self, CertFaultKind>
+    fn of_words(alloc: Global, scale: Scale, words: &[&[u8]]) -> Said<Self>
         ensures { result ≡ form scale (map (λ word. word.now) words.now) };
 }
 
@@ -45,7 +48,7 @@ pub(crate) fn words_of(alloc: Global, line: &[u8]) -> Result<Vec<&[u8]>, AllocEr
 }
 
 /// What a line says.
-fn line_of<L: WordLine>(alloc: Global, scale: Scale, line: &[u8]) -> Result<L, CertFaultKind>
+fn line_of<L: WordLine>(alloc: Global, scale: Scale, line: &[u8]) -> Said<L>
     ensures { Shows result (L.form scale (words_of line.now)) }
 {
     let words = words_of(alloc, line)?;

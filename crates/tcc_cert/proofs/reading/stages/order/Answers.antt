@@ -11,15 +11,15 @@ use Rattle.tcc_cert.proofs.reading.stages.order.Goals as goal
 pub returns-in_err-order-clause-step : goal.returns-in_err-order-clause-step
 returns-in_err-order-clause-step g c at before =
     let v = c.args.version in
-    let n = c.args.transactions in
+    let n = c.args.sizes.transactions in
     let p = err_from_is_err_and c.from_residual.result c.from_residual.ensures.1 in
-    rw (p.1, p.2) (part-faults (words (Small v) (numbers_line n (ranges_of v).number) at) _ _ (λ order. onward-rest v c.args.level n c.args.sessions order.1)
+    rw (p.1, p.2) (part-faults (words (Small v) (numbers_line n (ranges_of v).number) at) _ _ (λ order. onward-rest v c.args.level n c.args.sizes.sessions order.1)
     (rw c.ranges_of.ensures.value at (c.in_err-order.ensures.gives at before)))
 
 pub returns-clause-step : goal.returns-clause-step
 returns-clause-step g c at before =
     let order = rw c.ranges_of.ensures.value at (c.in_ok-order.ensures.gives at before) in (
-      order_rest c.args.version c.args.level c.args.transactions c.args.sessions order.0,
+      order_rest c.args.version c.args.level c.args.sizes.transactions c.args.sizes.sessions order.0,
       rw order.1 refl,
       (order.0, order.2, c.behind_order-coming.ensures.behind order.0),
     )
