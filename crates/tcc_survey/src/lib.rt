@@ -15,7 +15,7 @@ mod usual_name;
 
 pub use contradicted::Contradicted;
 pub use external_reads::Reading;
-pub use session_guarantees::name_of;
+pub use session_guarantees::{NAMES, name_of};
 pub use surveyed::Surveyed;
 pub use surveying::survey;
 pub use usual_name::UsualName;

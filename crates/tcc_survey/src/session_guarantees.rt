@@ -13,7 +13,7 @@ use crate::usual_name::UsualName;
 use tcc_graph::LargeGraph;
 
 /// The usual names, in the order in which the first that fits is taken.
-const NAMES: [UsualName; 6] = [
+pub const NAMES: [UsualName; 6] = [
     UsualName::ReadYourWrites,
     UsualName::FracturedRead,
     UsualName::MonotonicReads,
