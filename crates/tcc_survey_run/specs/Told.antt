@@ -1,5 +1,5 @@
 -- What is told of contradicted reads, by the operations that were recorded.
-use Rattle.std.specs.Prelude.{ℕ, ◌+◌, ◌-◌, ◌≡◌, ◌==◌, List, [], ◌∷◌, length, map, filter, nat_lt, codes}
+use Rattle.std.specs.Prelude.{ℕ, ◌+◌, ◌-◌, ◌≡◌, ◌==◌, List, [], ◌∷◌, length, map, filter, nat_lt, codes, slice_index_or}
 use Rattle.std.specs.List.{AllZip}
 use Rattle.std.specs.List.Sorted.{IsPermutation, IsSortedByKey}
 use Rattle.std.specs.Option.{option_map_or}
@@ -40,22 +40,28 @@ AreTold s h found told =
     (each : List ToldRead) × AllZip (IsToldOf s h) found each × IsPermutation each told
     × IsSortedByKey (λ one. (one.reader, one.op)) operation_cmp told
 
+-- the usual names in order, each with its words
+abbrev names_with_words : List (UsualName × List ℕ)
+names_with_words =
+    (name.ReadYourWrites, codes "read your writes")
+    ∷ (name.FracturedRead, codes "fractured read")
+    ∷ (name.MonotonicReads, codes "monotonic reads")
+    ∷ (name.MonotonicWrites, codes "monotonic writes")
+    ∷ (name.WritesFollowReads, codes "writes follow reads")
+    ∷ (name.CausalChain, codes "causal chain")
+    ∷ []
+
 -- the words of a usual name
 abbrev pub name_words : UsualName → List ℕ
-name_words name.ReadYourWrites = codes "read your writes"
-name_words name.FracturedRead = codes "fractured read"
-name_words name.MonotonicReads = codes "monotonic reads"
-name_words name.MonotonicWrites = codes "monotonic writes"
-name_words name.WritesFollowReads = codes "writes follow reads"
-name_words name.CausalChain = codes "causal chain"
+name_words it = (slice_index_or names_with_words (rank it) (it, [])).1
+
+-- the usual names in order
+abbrev pub all_names : List UsualName
+all_names = map (λ one. one.0) names_with_words
 
 -- how many of the reads have this name
 abbrev pub count_of : List ToldRead → UsualName → ℕ
 count_of told it = length (filter (λ one. rank one.name == rank it) told)
-
-abbrev pub all_names : List UsualName
-all_names =
-    name.ReadYourWrites ∷ name.FracturedRead ∷ name.MonotonicReads ∷ name.MonotonicWrites ∷ name.WritesFollowReads ∷ name.CausalChain ∷ []
 
 -- those of these names that some of the reads have, with their counts
 abbrev pub names_among : List ToldRead → List UsualName → List NameCount

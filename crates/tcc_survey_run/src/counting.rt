@@ -7,7 +7,7 @@ ghost use Rattle.tcc_survey_run.specs.Told.{AreNames, count_of, falling, names_a
 use crate::naming::rank;
 use crate::told::ToldRead;
 use std::alloc::{AllocError, Global};
-use tcc_survey::UsualName;
+use tcc_survey::{NAMES, UsualName};
 
 /// A usual name, and how many reads have it.
 #[derive(Clone, Copy)]
@@ -23,16 +23,6 @@ pub(crate) struct Totals {
     pub reads: usize,
     pub faults: usize,
 }
-
-/// The usual names, in the order in which the first that fits is taken.
-const NAMES: [UsualName; 6] = [
-    UsualName::ReadYourWrites,
-    UsualName::FracturedRead,
-    UsualName::MonotonicReads,
-    UsualName::MonotonicWrites,
-    UsualName::WritesFollowReads,
-    UsualName::CausalChain,
-];
 
 /// How many of the reads have this name.
 fn count_of(told: &[ToldRead], name: UsualName) -> usize

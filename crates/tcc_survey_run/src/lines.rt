@@ -39,20 +39,15 @@ pub(crate) fn name_line(alloc: Global, one: &NameCount) -> Result<Vec<u8>, NoMem
 pub(crate) fn total_line(alloc: Global, totals: &Totals) -> Result<Vec<u8>, NoMemory>
     ensures { IfOk result (λ text. text.items ≡ total_text totals.now.contradicted totals.now.reads totals.now.faults) }
 {
-    let contradicted = totals.contradicted.to_string(alloc)?;
-    let reads = totals.reads.to_string(alloc)?;
-    let faults = totals.faults.to_string(alloc)?;
-    joined(
-        alloc,
-        &[
-            contradicted.as_bytes(),
-            b" contradicted reads of ",
-            reads.as_bytes(),
-            b", ",
-            faults.as_bytes(),
-            b" faults\n",
-        ],
-    )
+    let Totals {
+        contradicted,
+        reads,
+        faults,
+    } = totals;
+    let text = format!(in alloc;
+        "{contradicted} contradicted reads of {reads}, {faults} faults\n"
+    )?;
+    Ok(text.into_bytes())
 }
 
 /// The line of transactions in a circle, by their labels.

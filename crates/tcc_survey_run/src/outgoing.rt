@@ -5,12 +5,12 @@ ghost use Rattle.tcc_print.specs.Printed.{EndsIn};
 
 use std::io::Write;
 use tcc_print::Status;
-use tcc_print::printing::{Made, print_memory};
+use tcc_print::printing::{Made, Sent, print_memory};
 use tcc_sending::write_out;
 use tcc_txn::NoMemory;
 
 /// Writes a line that was made, and leaves the flush to the last one; else the run ends with this number.
-pub(crate) fn write_line<W: Write>(made: Made, json: bool, out: &mut W) -> Result<(), u8>
+pub(crate) fn write_line<W: Write>(made: Made, json: bool, out: &mut W) -> Sent
     ensures whole { (text : List ℕ) → IfOk made (λ bytes. bytes.items ≡ text) → OnOk result (Appends (W.contents out.old) (W.contents out.new) text) }
     ensures ended { (text : List ℕ) → IfOk made (λ bytes. bytes.items ≡ text) → IfErr result (EndsIn json (W.contents out.old) (W.contents out.new) text) }
 {

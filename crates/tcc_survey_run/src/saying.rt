@@ -17,18 +17,13 @@ use std::alloc::Global;
 use std::io::Write;
 use tcc_graph::LargeGraph;
 use tcc_print::Status;
-use tcc_print::printing::{print_memory, send_made, send_unresolved};
+use tcc_print::printing::{Made, Sent, print_memory, send_made, send_unresolved};
 use tcc_reads::ReadFault;
 use tcc_survey::Contradicted;
 use tcc_txn::{Bounds, NoMemory, SnapshotWithin};
 
 /// The line of a contradicted read.
-fn read_line(
-    alloc: Global,
-    graph: &LargeGraph,
-    json: bool,
-    told: &ToldRead,
-) -> Result<Vec<u8>, NoMemory>
+fn read_line(alloc: Global, graph: &LargeGraph, json: bool, told: &ToldRead) -> Made
     requires reader { told.now.reader < count graph.now }
     requires writer { told.now.writer < count graph.now }
     ensures { IfOk result (λ text. text.items ≡ read_line json graph.now told.now) }
@@ -43,7 +38,7 @@ fn read_line(
 }
 
 /// The line of a usual name.
-fn name_line(alloc: Global, json: bool, one: &NameCount) -> Result<Vec<u8>, NoMemory>
+fn name_line(alloc: Global, json: bool, one: &NameCount) -> Made
     ensures { IfOk result (λ text. text.items ≡ name_line json one.now) }
 {
     if json {
@@ -54,7 +49,7 @@ fn name_line(alloc: Global, json: bool, one: &NameCount) -> Result<Vec<u8>, NoMe
 }
 
 /// The last line.
-fn total_line(alloc: Global, json: bool, totals: &Totals) -> Result<Vec<u8>, NoMemory>
+fn total_line(alloc: Global, json: bool, totals: &Totals) -> Made
     ensures { IfOk result (λ text. text.items ≡ total_line json totals.now.contradicted totals.now.reads totals.now.faults) }
 {
     if json {
@@ -77,12 +72,7 @@ fn labels_of(alloc: Global, graph: &LargeGraph, numbers: &[u32]) -> Result<Vec<S
 }
 
 /// The line of transactions in a circle.
-fn circle_line(
-    alloc: Global,
-    graph: &LargeGraph,
-    json: bool,
-    circle: &[u32],
-) -> Result<Vec<u8>, NoMemory>
+fn circle_line(alloc: Global, graph: &LargeGraph, json: bool, circle: &[u32]) -> Made
     requires { All (λ t. t < count graph.now) circle.now }
     ensures { IfOk result (λ text. text.items ≡ circle_line json graph.now circle.now) }
 {
@@ -116,7 +106,7 @@ fn write_reads<W: Write>(
     json: bool,
     told: &[ToldRead],
     out: &mut W,
-) -> Result<(), u8>
+) -> Sent
     requires readers { All (λ one. one.reader < count graph.now) told.now }
     requires writers { All (λ one. one.writer < count graph.now) told.now }
     ensures whole { OnOk result (Appends (W.contents out.old) (W.contents out.new) (flat_map (read_line json graph.now) told.now)) }
@@ -129,12 +119,7 @@ fn write_reads<W: Write>(
 }
 
 /// Writes the read faults, if there are some.
-fn write_faults<W: Write>(
-    alloc: Global,
-    json: bool,
-    faults: &[ReadFault],
-    out: &mut W,
-) -> Result<(), u8>
+fn write_faults<W: Write>(alloc: Global, json: bool, faults: &[ReadFault], out: &mut W) -> Sent
     ensures whole { OnOk result (Appends (W.contents out.old) (W.contents out.new) (fault_lines json faults.now)) }
     ensures ended { IfErr result (BreaksOff json (W.contents out.old) (W.contents out.new) (fault_lines json faults.now)) }
 {
@@ -145,12 +130,7 @@ fn write_faults<W: Write>(
 }
 
 /// Writes the lines of the usual names.
-fn write_names<W: Write>(
-    alloc: Global,
-    json: bool,
-    names: &[NameCount],
-    out: &mut W,
-) -> Result<(), u8>
+fn write_names<W: Write>(alloc: Global, json: bool, names: &[NameCount], out: &mut W) -> Sent
     ensures whole { OnOk result (Appends (W.contents out.old) (W.contents out.new) (flat_map (name_line json) names.now)) }
     ensures ended { IfErr result (BreaksOff json (W.contents out.old) (W.contents out.new) (flat_map (name_line json) names.now)) }
 {
@@ -177,7 +157,7 @@ fn write_listing<W: Write>(
     listing: &Listing,
     faults: &[ReadFault],
     out: &mut W,
-) -> Result<(), u8>
+) -> Sent
     requires readers { All (λ one. one.reader < count graph.now) listing.now.told.items }
     requires writers { All (λ one. one.writer < count graph.now) listing.now.told.items }
     requires reads { listing.now.reads ≡ read_count graph.now }
