@@ -5,7 +5,8 @@ use Rattle.tcc_graph.specs.declared.level.Level.{Level}
 use Rattle.tcc_cert.specs.Reading.{certificate_read}
 use Rattle.tcc_cert.specs.Texts.{HasText, certificate_text}
 use Rattle.tcc_answer.specs.Claims.{certificate_of}
-use Rattle.tcc_explain.specs.Explained.{IsAnswerOfSnapshot, IsRefusal}
+use Rattle.tcc_explain.specs.Explained.{IsAnswerOfSnapshot}
+use Rattle.tcc_reads.specs.Refusals.{IsRefusal}
 use Rattle.tcc_answer.specs.declared.answer.Answer.{Answer}
 use Rattle.tcc_audit.specs.declared.fault.AuditFault.{AuditFault}
 use Rattle.tcc_audit.specs.declared.fault.AuditFault.TheVariants as fault

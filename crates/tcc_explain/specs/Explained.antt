@@ -1,5 +1,5 @@
 -- What is answered for a snapshot at a level.
-use Rattle.std.specs.Prelude.{ℕ, ◌≡◌, ◌≢◌, [], length}
+use Rattle.std.specs.Prelude.{ℕ, ◌≡◌, [], length}
 use Rattle.tcc_txn.specs.Snapshots.{Sessions}
 use Rattle.tcc_reads.specs.Faults.{read_faults}
 use Rattle.tcc_reads.specs.Sources.{history}
@@ -11,8 +11,6 @@ use Rattle.tcc_answer.specs.Labels.{labels_of}
 use Rattle.tcc_explain.specs.Certificates.{IsNearTable, IsFarTable, IsClocksAt}
 use Rattle.tcc_answer.specs.declared.answer.Answer.{Answer}
 use Rattle.tcc_answer.specs.declared.answer.Answer.TheVariants as answer
-use Rattle.tcc_explain.specs.declared.fault.ExplainFault.{ExplainFault}
-use Rattle.tcc_explain.specs.declared.fault.ExplainFault.TheVariants as refusal
 
 -- the first answer for the history at the level, with its labels: without a cycle the first commit order, with the
 -- clocks; else the first least cycle, with the distances, each capped at what the cycle costs
@@ -27,8 +25,3 @@ IsAnswerOfHistory j (answer.Anomaly a) =
 -- the first answer for the history of a snapshot at the level, where all its reads have sources
 abbrev pub IsAnswerOfSnapshot : Sessions → Level → Answer → Type 0
 IsAnswerOfSnapshot s level a = (read_faults s ≡ []) × IsAnswerOfHistory (judged (history s) level) a
-
--- the list has exactly the read faults of the snapshot, of which there is one at least; or memory is out
-abbrev pub IsRefusal : Sessions → ExplainFault → Type 0
-IsRefusal s (refusal.Reads faults) = (faults.items ≡ read_faults s) × (read_faults s ≢ [])
-IsRefusal s refusal.NoMemory = Unit {0}

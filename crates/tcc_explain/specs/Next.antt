@@ -13,8 +13,9 @@ use Rattle.tcc_answer.specs.declared.answer.Answer.{Answer}
 use Rattle.tcc_growth.specs.Growth.{IsFirstMissing}
 use Rattle.tcc_growth.specs.Moved.{moved}
 use Rattle.tcc_graph.specs.Renumbered.{link_by}
-use Rattle.tcc_explain.specs.Explained.{IsAnswerOfSnapshot, IsRefusal}
-use Rattle.tcc_explain.specs.declared.fault.ExplainFault.TheVariants as whole
+use Rattle.tcc_explain.specs.Explained.{IsAnswerOfSnapshot}
+use Rattle.tcc_reads.specs.Refusals.{IsRefusal}
+use Rattle.tcc_reads.specs.declared.fault.ResolveFault.TheVariants as whole
 use Rattle.tcc_explain.specs.declared.fault.NextFault.{NextFault}
 use Rattle.tcc_explain.specs.declared.fault.NextFault.TheVariants as refusal
 

@@ -5,10 +5,10 @@ ghost use Rattle.tcc_near.specs.WalkLengths.{IsNearOf};
 ghost use Rattle.tcc_derive.specs.Prices.{IsPricesOf};
 ghost use Rattle.tcc_answer.specs.Labels.{labels_of};
 ghost use Rattle.tcc_answer.specs.declared.answer.Answer.TheVariants as answer;
-ghost use Rattle.tcc_explain.specs.Explained.{IsAnswerOfSnapshot, IsAnswerOfHistory, IsRefusal};
+ghost use Rattle.tcc_reads.specs.Refusals.{IsRefusal};
+ghost use Rattle.tcc_explain.specs.{Explained.IsAnswerOfSnapshot, Explained.IsAnswerOfHistory};
 ghost use Rattle.tcc_explain.specs.private.Stages.{IsLabelledHistory, IsSearched};
 
-use crate::fault::ExplainFault;
 use crate::tables::{clocks_at, far_rows, near_rows};
 use crate::warm_start::{lesser, offered};
 use std::alloc::Global;
@@ -151,18 +151,13 @@ pub(crate) fn history_answer<G: Gate>(
 pub(crate) fn labelled_history(
     alloc: Global,
     snapshot: &Snapshot,
-) -> Result<(Graph, Labels), ExplainFault>
+) -> Result<(Graph, Labels), ResolveFault>
     ensures { MatchResult result (λ found. IsLabelledHistory snapshot.now found.0 found.1) (IsRefusal snapshot.now) }
 {
-    match resolve(alloc, snapshot) {
-        Ok(resolved) => {
-            let graph = Graph::build(alloc, resolved)?;
-            let labels = Labels::of(alloc, &graph)?;
-            Ok((graph, labels))
-        }
-        Err(ResolveFault::Reads(faults)) => Err(ExplainFault::Reads(faults)),
-        Err(ResolveFault::NoMemory) => Err(ExplainFault::NoMemory),
-    }
+    let resolved = resolve(alloc, snapshot)?;
+    let graph = Graph::build(alloc, resolved)?;
+    let labels = Labels::of(alloc, &graph)?;
+    Ok((graph, labels))
 }
 
 /// The first answer for the history of a snapshot at a level: its first commit order, or the first of its least cycles
@@ -185,7 +180,7 @@ pub fn explain<G: Gate>(
     level: Level,
     workers: Workers,
     gate: &G,
-) -> Result<Answer, ExplainFault>
+) -> Result<Answer, ResolveFault>
     ensures { MatchResult result (IsAnswerOfSnapshot snapshot.now level) (IsRefusal snapshot.now) }
 {
     let (graph, labels) = labelled_history(alloc, snapshot)?;

@@ -1,31 +1,11 @@
-//! Why a snapshot has no answer.
+//! Why a snapshot has no answer at the level of an earlier anomaly.
 ghost use Rattle.std.specs.Prelude.{◌≡◌};
-ghost use Rattle.tcc_explain.specs.declared.fault.ExplainFault.TheVariants as refusal;
 ghost use Rattle.tcc_explain.specs.declared.fault.NextFault.TheVariants as next;
 ghost use Rattle.tcc_explain.specs.private.Stages.{next_fault};
 
-use tcc_reads::ReadFault;
+use tcc_reads::{ReadFault, ResolveFault};
 use tcc_txn::NoMemory;
 use thiserror::Error;
-
-/// Why a snapshot was not explained.
-#[derive(Debug, Drop, Error)]
-pub enum ExplainFault {
-    /// All faulty operations, by session name in byte order, place and operation; at least one.
-    #[error("some operations read or write what no source explains")]
-    Reads(Vec<ReadFault>),
-    /// A growth was refused.
-    #[error("out of memory")]
-    NoMemory,
-}
-
-impl From<NoMemory> for ExplainFault {
-    ghost from_gives = { λ error to. to ≡ refusal.NoMemory };
-
-    fn from(_error: NoMemory) -> ExplainFault {
-        ExplainFault::NoMemory
-    }
-}
 
 /// Why a snapshot was not explained where an earlier anomaly had been found.
 #[derive(Debug, Drop, Error)]
@@ -49,13 +29,13 @@ impl From<NoMemory> for NextFault {
     }
 }
 
-impl From<ExplainFault> for NextFault {
+impl From<ResolveFault> for NextFault {
     ghost from_gives = { λ fault to. to ≡ next_fault fault };
 
-    fn from(fault: ExplainFault) -> NextFault {
+    fn from(fault: ResolveFault) -> NextFault {
         match fault {
-            ExplainFault::Reads(faults) => NextFault::Reads(faults),
-            ExplainFault::NoMemory => NextFault::NoMemory,
+            ResolveFault::Reads(faults) => NextFault::Reads(faults),
+            ResolveFault::NoMemory => NextFault::NoMemory,
         }
     }
 }

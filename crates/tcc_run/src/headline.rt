@@ -1,6 +1,7 @@
 //! The main theorem, as the contract of one call, and of the same after an earlier anomaly.
 ghost use Rattle.std.specs.Prelude.{IfOk, MatchResult};
-ghost use Rattle.tcc_explain.specs.{Explained.IsAnswerOfHistory, Explained.IsRefusal, Next.IsNextRefusal};
+ghost use Rattle.tcc_reads.specs.Refusals.{IsRefusal};
+ghost use Rattle.tcc_explain.specs.{Explained.IsAnswerOfHistory, Next.IsNextRefusal};
 ghost use Rattle.tcc_graph.specs.Levels.{judged};
 ghost use Rattle.tcc_reads.specs.Sources.{history};
 ghost use Rattle.tcc_run.specs.Headline.{IsExplained};

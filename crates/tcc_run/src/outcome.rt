@@ -2,7 +2,8 @@
 ghost use Rattle.std.specs.Prelude.{◌≡◌, IfOk, IfSome, MatchResult};
 ghost use Rattle.tcc_txn.specs.Snapshots.{Sessions};
 ghost use Rattle.tcc_graph.specs.declared.level.Level.{Level};
-ghost use Rattle.tcc_explain.specs.Explained.{IsAnswerOfSnapshot, IsRefusal};
+ghost use Rattle.tcc_reads.specs.Refusals.{IsRefusal};
+ghost use Rattle.tcc_explain.specs.Explained.{IsAnswerOfSnapshot};
 ghost use Rattle.tcc_print.specs.Saying.{IsTold};
 ghost use Rattle.tcc_run.specs.private.Stages.{Follows, HasEarlier, IsEarlier, answer_in, course};
 

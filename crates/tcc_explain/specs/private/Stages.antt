@@ -11,8 +11,8 @@ use Rattle.tcc_cycle.specs.declared.first_return.FirstReturn.{FirstReturn}
 use Rattle.tcc_answer.specs.Labels.{labels_of}
 use Rattle.tcc_explain.specs.private.Capping.{AreFarRows}
 use Rattle.tcc_explain.specs.declared.explaining.Searched.{Searched}
-use Rattle.tcc_explain.specs.declared.fault.ExplainFault.{ExplainFault}
-use Rattle.tcc_explain.specs.declared.fault.ExplainFault.TheVariants as whole
+use Rattle.tcc_reads.specs.declared.fault.ResolveFault.{ResolveFault}
+use Rattle.tcc_reads.specs.declared.fault.ResolveFault.TheVariants as whole
 use Rattle.tcc_explain.specs.declared.fault.NextFault.{NextFault}
 use Rattle.tcc_explain.specs.declared.fault.NextFault.TheVariants as refusal
 
@@ -28,6 +28,6 @@ pub record IsSearched (j : Judged) (searched : Searched) : Type 0 where
       → back.row.now ≡ row_of searched.rows.items searched.start → IsFirstReturn j back
 
 -- the refusal of an answer on its own, as one after an earlier anomaly
-abbrev pub next_fault : ExplainFault → NextFault
+abbrev pub next_fault : ResolveFault → NextFault
 next_fault (whole.Reads faults) = refusal.Reads faults
 next_fault whole.NoMemory = refusal.NoMemory

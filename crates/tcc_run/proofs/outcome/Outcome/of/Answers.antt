@@ -1,5 +1,5 @@
-use Rattle.std.proofs.Common.{subst}
-use Rattle.tcc_explain.specs.Explained.{IsRefusal}
+use Rattle.std.proofs.Common.{◌∙◌, subst}
+use Rattle.tcc_reads.specs.Refusals.{IsRefusal}
 use Rattle.tcc_run.specs.declared.outcome.Outcome.TheVariants as outcome
 use Rattle.tcc_run.proofs.Earlier.{own_earlier}
 use Rattle.tcc_run.proofs.Runs.{told}
@@ -14,4 +14,4 @@ returns-in-Ok-clause-earlier g c = own_earlier c.args.run.now.options.now.level 
 pub returns-in-Err-Reads-clause-told : goal.returns-in-Err-Reads-clause-told
 returns-in-Err-Reads-clause-told g c =
     let is = subst (IsRefusal c.args.snapshot.now) c.in-Err-Reads.field-0-is c.in-Err-Reads.ensures in
-    told c.args.run.now.options.now c.args.snapshot.now (outcome.Unresolved c.in-Err-Reads.faults c.args.earlier) (is.1, is.0)
+    told c.args.run.now.options.now c.args.snapshot.now (outcome.Unresolved c.in-Err-Reads.faults c.args.earlier) ((λ none. is.1 (is.0 ∙ none)), is.0)
