@@ -44,7 +44,7 @@ module _ (h : History) (numbered : IsBySession h.entries) where
       placed zero l = inl refl
       placed (suc i) l = absurd (omega arith)
 
-  -- the same where each session has come to the same
+  -- told by another count of how far each session has come, where the two are alike
   pub laid_same : (next other : ℕ → ℕ) (order : List ℕ) → ((s : ℕ) → next s ≡ other s) → IsLaid next order → IsLaid other order
   laid_same next other order same w = record {
     low = λ s. omega (arith, w.low s, same s);

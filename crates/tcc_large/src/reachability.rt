@@ -93,7 +93,7 @@ impl Reach {
         Ok(())
     }
 
-    /// The same of the transactions from `low` to below `high`.
+    /// Meets the transactions from `low` to below `high`.
     fn meet_between(
         &mut self,
         graph: &LargeGraph,

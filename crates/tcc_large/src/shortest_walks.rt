@@ -96,7 +96,8 @@ impl ShortestWalks {
         Ok(None)
     }
 
-    /// The same of those before it in its session, as far as they weren't taken in for a later one.
+    /// Looks at those before a transaction in its session, as far as they weren't taken in for a later one: a wanted one; or else
+    /// they are taken in, unless these are the last.
     fn search_session(
         &mut self,
         work: &mut Work,

@@ -81,6 +81,6 @@ overtaken-return = (
   inr (x, (omega arith, omega arith, (0, omega arith, refl))),
 )
 
--- the same the other way round is none: a/1 is no other writer than the source
+-- the other way round there is none: a/1 is no other writer than the source
 pub overtaken-itself : IsReturn overtaken 1 1 → ⊥
 overtaken-itself ((z, c, against, pair), back) = against.0 refl

@@ -49,7 +49,7 @@ EndsSaying course s holds before after code =
 abbrev pub EndsAnswering : {O : Type 0} → Course O → Sessions → Option (List ℕ) → Option (List ℕ) → ℕ → Type 0
 EndsAnswering course s before after code = EndsSaying course s (λ said. Unit {0}) before after code
 
--- the same after what was said last: where nothing was finished since, that was said again
+-- what is said of a snapshot, after what was said last: where nothing was finished since, that once more
 abbrev pub SaysAgain : {O : Type 0} → Course O → Sessions → Option (Last O) → Option (List ℕ) → Option (List ℕ) → Last O → Type 0
 SaysAgain course s last before after now = SaysLast course s before after now × Repeats course s last (course.say now.outcome)
 

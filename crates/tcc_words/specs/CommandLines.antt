@@ -244,7 +244,7 @@ IsAskedBy app words before after (Err code) =
     ⊎ (((kind : ErrorKind) × IsAmong kind (fault_of app words) × EndsUnasked kind before after code)
     ⊎ ((fault_of app words ≡ []) × IsRefused app words before after code))
 
--- the same by the command of the program, wherever the words for levels lie
+-- a run is asked for by the command of the program, wherever the words for levels lie
 abbrev pub IsAsked : List (List ℕ) → Option (List ℕ) → Option (List ℕ) → Result Request ℕ → Type 0
 IsAsked words before after o = (levels : Words) × AreLevels levels × IsAskedBy (tcc_command levels) words before after o
 
