@@ -24,16 +24,19 @@ ENUM = re.compile(r"^pub enum (\w+)[^{]*\{\n(.*?)^\}", re.MULTILINE | re.DOTALL)
 VARIANT = re.compile(r"^    ([A-Z]\w*)", re.MULTILINE)
 DEREF = re.compile(r"^impl Deref for (\w+) \{\n    type Target = (\w+);", re.MULTILINE)
 PASSED_ON = re.compile(r"^pub use [\w:]+::(?:\{([^}]*)\}|(\w+));", re.MULTILINE)
+RENAMED = re.compile(r"^pub use (tcc_\w+)::(\w+) as (\w+);", re.MULTILINE)
 
 
 @functools.lru_cache(maxsize=None)
 def made_public(crate: str) -> Set[str]:
-    """The calls, types and variants that a library makes public, and what it passes on; `New` of `NewWithin` counts for its
-    calls, and a type has the calls of what it dereferences to."""
+    """The calls, types and variants that a library makes public, and what it passes on, also under another name; `New` of
+    `NewWithin` counts for its calls, and a type has the calls of what it dereferences to."""
     source = TOP / "crates" / crate / "src"
     root = (source / "lib.rt").read_text()
     passed_on = set(re.findall(r"\w+", " ".join(group or name for group, name in PASSED_ON.findall(root))))
     names = {call.title for call in contracts.calls(crate)} | passed_on
+    for below, name, called in RENAMED.findall(root):
+        names |= {called} | {called + one[len(name):] for one in made_public(below) if one.startswith(name + "::")}
     for path in source.rglob("*.rt"):
         text = path.read_text()
         names |= {name for name in TYPE.findall(text) if name in passed_on}
