@@ -26,7 +26,7 @@ IsCycleSizes scale ws k =
     IsCount scale k.transactions × IsCount scale k.links × (k.cost ≤ (ranges_at scale).cost)
     × (ws ≡ codes "cycle" ∷ decimal k.transactions ∷ decimal k.links ∷ decimal k.cost ∷ [])
 
--- the line of an order, which is one of these, or of a cycle
+-- the line of a claim: of an order, where `of_order` says what its line is, or of a cycle
 abbrev pub IsSizesText : {O : Type 0} → Scale → (Words → O → Type 0) → Words → Sizes O → Type 0
 IsSizesText scale of_order ws (Order k) = of_order ws k
 IsSizesText scale of_order ws (Cycle k) = IsCycleSizes scale ws k
