@@ -1,30 +1,18 @@
 //! A limit of work, from which each loop of the finder takes before it goes on.
-use std::alloc::{AllocError, AllocFailed};
 use tcc_txn::NoMemory;
 
 /// Why a search ends early.
 #[derive(Drop)]
 pub(crate) enum Halt {
-    NoMemory,
+    Memory(NoMemory),
     /// All work that was allowed was done.
     Spent,
 }
 
-impl From<NoMemory> for Halt {
-    fn from(_fault: NoMemory) -> Halt {
-        Halt::NoMemory
-    }
-}
-
-impl From<AllocError> for Halt {
-    fn from(_fault: AllocError) -> Halt {
-        Halt::NoMemory
-    }
-}
-
-impl<T: Drop> From<AllocFailed<T>> for Halt {
-    fn from(_fault: AllocFailed<T>) -> Halt {
-        Halt::NoMemory
+/// Whatever says that memory is out.
+impl<E: Into<NoMemory>> From<E> for Halt {
+    fn from(fault: E) -> Halt {
+        Halt::Memory(fault.into())
     }
 }
 
@@ -59,6 +47,6 @@ impl Work {
 pub(crate) fn unless_spent(searched: Result<(), Halt>) -> Result<(), NoMemory> {
     match searched {
         Ok(()) | Err(Halt::Spent) => Ok(()),
-        Err(Halt::NoMemory) => Err(NoMemory),
+        Err(Halt::Memory(fault)) => Err(fault),
     }
 }
