@@ -2,7 +2,6 @@
 ghost use Rattle.std.specs.Prelude.{◌≡◌};
 ghost use Rattle.tcc_explain.specs.declared.fault.ExplainFault.TheVariants as refusal;
 ghost use Rattle.tcc_explain.specs.declared.fault.NextFault.TheVariants as next;
-ghost use Rattle.tcc_explain.specs.private.Stages.{next_fault};
 
 use tcc_reads::ReadFault;
 use tcc_txn::NoMemory;
@@ -46,16 +45,5 @@ impl From<NoMemory> for NextFault {
 
     fn from(_error: NoMemory) -> NextFault {
         NextFault::NoMemory
-    }
-}
-
-impl From<ExplainFault> for NextFault {
-    ghost from_gives = { λ fault to. to ≡ next_fault fault };
-
-    fn from(fault: ExplainFault) -> NextFault {
-        match fault {
-            ExplainFault::Reads(faults) => NextFault::Reads(faults),
-            ExplainFault::NoMemory => NextFault::NoMemory,
-        }
     }
 }

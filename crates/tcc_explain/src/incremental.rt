@@ -3,7 +3,7 @@ ghost use Rattle.std.specs.Prelude.{MatchResult};
 ghost use Rattle.tcc_explain.specs.Next.{IsNextAnswer, IsNextRefusal};
 
 use crate::explaining::{history_answer, labelled_history};
-use crate::fault::NextFault;
+use crate::fault::{ExplainFault, NextFault};
 use std::alloc::Global;
 use std::thread::Threads;
 use tcc_answer::{Anomaly, Answer};
@@ -26,7 +26,11 @@ pub fn explain_next<G: Gate>(
     ensures { MatchResult result (IsNextAnswer snapshot.now earlier.now) (IsNextRefusal snapshot.now earlier.now) }
 {
     let level = earlier.level();
-    let (graph, labels) = labelled_history(alloc, snapshot)?;
+    let (graph, labels) = match labelled_history(alloc, snapshot) {
+        Ok(found) => found,
+        Err(ExplainFault::Reads(faults)) => return Err(NextFault::Reads(faults)),
+        Err(ExplainFault::NoMemory) => return Err(NextFault::NoMemory),
+    };
     let links = carried(alloc, &graph, earlier.labels(), &labels, earlier.links())?;
     if let Some(link) = first_missing(&graph, level, &links) {
         return Err(NextFault::NotNested { link });

@@ -11,10 +11,6 @@ use Rattle.tcc_cycle.specs.declared.first_return.FirstReturn.{FirstReturn}
 use Rattle.tcc_answer.specs.Labels.{labels_of}
 use Rattle.tcc_explain.specs.private.Capping.{AreFarRows}
 use Rattle.tcc_explain.specs.declared.explaining.Searched.{Searched}
-use Rattle.tcc_explain.specs.declared.fault.ExplainFault.{ExplainFault}
-use Rattle.tcc_explain.specs.declared.fault.ExplainFault.TheVariants as whole
-use Rattle.tcc_explain.specs.declared.fault.NextFault.{NextFault}
-use Rattle.tcc_explain.specs.declared.fault.NextFault.TheVariants as refusal
 
 -- the history of a snapshot, where all its reads have sources, and its labels
 abbrev pub IsLabelledHistory : Sessions → History → List (List ℕ) → Type 0
@@ -26,8 +22,3 @@ pub record IsSearched (j : Judged) (searched : Searched) : Type 0 where
   pub below : searched.start < length searched.rows.items
   pub first : (back : FirstReturn) → back.start ≡ searched.start → back.cost ≡ searched.cost
       → back.row.now ≡ row_of searched.rows.items searched.start → IsFirstReturn j back
-
--- the refusal of an answer on its own, as one after an earlier anomaly
-abbrev pub next_fault : ExplainFault → NextFault
-next_fault (whole.Reads faults) = refusal.Reads faults
-next_fault whole.NoMemory = refusal.NoMemory
