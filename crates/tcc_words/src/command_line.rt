@@ -178,8 +178,7 @@ fn with_large<'a>(alloc: Global, explain: Command<'a>) -> Result<Command<'a>, Al
         "slice",
         "With --large, writes a small history that has the last anomaly to this file",
     );
-    let first = explain.arg(large)?;
-    first.arg(slice)
+    explain.arg(large)?.arg(slice)
 }
 
 /// What is added to the subcommand that explains: where its certificate goes, what is required, and where its records are.
@@ -193,9 +192,7 @@ fn with_places<'a>(alloc: Global, explain: Command<'a>) -> Result<Command<'a>, A
     );
     let require = require_option(alloc);
     let history = records_path(alloc);
-    let first = explain.arg(certificate)?;
-    let second = first.arg(require)?;
-    second.arg(history)
+    explain.arg(certificate)?.arg(require)?.arg(history)
 }
 
 /// The subcommand that explains, at one of these levels.
@@ -215,15 +212,15 @@ fn explain_command<'a>(alloc: Global, levels: &'a [&'a str]) -> Result<Command<'
         "Answers in one line of JSON that says all, with the rows of the records",
     );
     let workers = workers_option(alloc);
-    let first = Command::new(alloc, "explain")
+    let explain = Command::new(alloc, "explain")
         .about("Reads records and says whether the history is consistent at a level")
         .after_help(help::EXPLAIN)
-        .arg(level)?;
-    let second = first.arg(workers)?;
-    let third = second.arg(json)?;
-    let fourth = third.arg(quiet)?;
-    let fifth = fourth.arg(full)?;
-    with_places(alloc, with_large(alloc, fifth)?)
+        .arg(level)?
+        .arg(workers)?
+        .arg(json)?
+        .arg(quiet)?
+        .arg(full)?;
+    with_places(alloc, with_large(alloc, explain)?)
 }
 
 /// A path, which may have to be given.
@@ -254,12 +251,12 @@ pub(crate) fn check_command<'a>(alloc: Global) -> Result<Command<'a>, AllocError
         "The file of the certificate",
         true,
     );
-    let first = Command::new(alloc, "check")
+    Command::new(alloc, "check")
         .about("Says whether a certificate proves its claim about a history")
         .after_help(help::CHECK)
-        .arg(large)?;
-    let second = first.arg(history)?;
-    second.arg(certificate)
+        .arg(large)?
+        .arg(history)?
+        .arg(certificate)
 }
 
 /// The subcommand that surveys, at one of these levels.
@@ -270,13 +267,13 @@ fn survey_command<'a>(alloc: Global, levels: &'a [&'a str]) -> Result<Command<'a
     let json = flag(alloc, "json", "Lists in lines of JSON");
     let large = large_flag(alloc);
     let history = records_path(alloc);
-    let first = Command::new(alloc, "survey")
+    Command::new(alloc, "survey")
         .about("Reads records and lists every contradicted read with its usual name")
         .after_help(help::SURVEY)
-        .arg(level)?;
-    let second = first.arg(json)?;
-    let third = second.arg(large)?;
-    third.arg(history)
+        .arg(level)?
+        .arg(json)?
+        .arg(large)?
+        .arg(history)
 }
 
 /// The command by which words are read, with these words for levels.
@@ -406,26 +403,19 @@ fn options_of(alloc: Global, matches: &ArgMatches) -> Result<Request, Error>
         // Another word is a fault by clap, so only memory can be wanting.
         return Err(Error::from(AllocError));
     };
-    let json = is_set(matches, "json");
-    let large = is_set(matches, "large");
-    let quiet = is_set(matches, "quiet");
-    let full = is_set(matches, "full");
-    let history = history_of(alloc, matches)?;
-    let certificate = path_for(alloc, matches, "certificate")?;
-    let slice = path_for(alloc, matches, "slice")?;
     Ok(Request::Explain {
         options: Options {
             level,
             workers,
-            json,
+            json: is_set(matches, "json"),
             required,
         },
-        history,
-        certificate,
-        large,
-        slice,
-        quiet,
-        full,
+        history: history_of(alloc, matches)?,
+        certificate: path_for(alloc, matches, "certificate")?,
+        large: is_set(matches, "large"),
+        slice: path_for(alloc, matches, "slice")?,
+        quiet: is_set(matches, "quiet"),
+        full: is_set(matches, "full"),
     })
 }
 
@@ -438,14 +428,11 @@ fn survey_of(alloc: Global, matches: &ArgMatches) -> Result<Request, Error>
         // Another word is a fault by clap, so only memory can be wanting.
         return Err(Error::from(AllocError));
     };
-    let json = is_set(matches, "json");
-    let large = is_set(matches, "large");
-    let history = history_of(alloc, matches)?;
     Ok(Request::Survey {
         level,
-        json,
-        large,
-        history,
+        json: is_set(matches, "json"),
+        large: is_set(matches, "large"),
+        history: history_of(alloc, matches)?,
     })
 }
 
