@@ -1,5 +1,5 @@
--- What is printed where a file can't be opened or made, and how the run then ends.
-use Rattle.std.specs.Prelude.{ℕ, Bool, List, Option, None, Some, false}
+-- What a check does with two files, and what is printed where a file can't be opened or made, and how the run then ends.
+use Rattle.std.specs.Prelude.{ℕ, Bool, List, Option, None, Some, false, true}
 use Rattle.std.specs.declared.io.ErrorKind.{ErrorKind}
 use Rattle.std.specs.declared.io.ErrorKind.TheVariants.{OutOfMemory}
 use Rattle.tcc_files.specs.declared.input.Input.{Input}
@@ -7,6 +7,9 @@ use Rattle.tcc_files.specs.declared.input.Input.TheVariants as input
 use Rattle.tcc_print.specs.declared.status.Status.{Status}
 use Rattle.tcc_print.specs.declared.status.Status.TheVariants.{Memory, Device}
 use Rattle.tcc_print.specs.Printed.{Prints, device_line, memory_line}
+use Rattle.tcc_verdict.specs.Checking.{IsRun, PrintsOutcome}
+use Rattle.tcc_verdict.specs.Checks.{IsCheckRun, PrintsSome}
+use Rattle.tcc_large_check.specs.LargeChecks.{large_check}
 
 -- the line for the device, or the one that says that memory is out
 abbrev pub unopened_text : Bool → ErrorKind → List ℕ
@@ -20,6 +23,16 @@ unopened_status _ = Device
 -- the line for a file that can't be opened, by the kind of the error, with its status
 abbrev pub PrintsUnopened : Bool → ErrorKind → Option (List ℕ) → Option (List ℕ) → ℕ → Type 0
 PrintsUnopened json kind before after code = Prints before after (unopened_text json kind) (unopened_status kind) code
+
+-- what a check does with the bytes of both files, within the large limits or the small ones
+abbrev pub IsRunWithin : Bool → List ℕ → List ℕ → Option (List ℕ) → Option (List ℕ) → ℕ → Type 0
+IsRunWithin false records text before after code = IsCheckRun records text before after code
+IsRunWithin true records text before after code = IsRun large_check records text before after code
+
+-- the text of some outcome of such a check and its status, whatever is known of the bytes
+abbrev pub PrintsWithin : Bool → Option (List ℕ) → Option (List ℕ) → ℕ → Type 0
+PrintsWithin false before after code = PrintsSome before after code
+PrintsWithin true before after code = PrintsOutcome large_check before after code
 
 -- the one is given exactly where the other is
 abbrev pub AreBothGiven : {A B : Type 0} → Option A → Option B → Type 0

@@ -1,10 +1,8 @@
 //! The check of a certificate for a history, whose files a command line names.
-ghost use Rattle.std.specs.Prelude.{◌≡◌, ◌⊎◌, IfOk, IfSome, MatchResult, false, true};
+ghost use Rattle.std.specs.Prelude.{◌≡◌, ◌⊎◌, IfOk, IfSome, MatchResult, false};
 ghost use Rattle.std.specs.IoError.{error_kind};
 ghost use Rattle.std.specs.declared.io.ErrorKind.{ErrorKind};
-ghost use Rattle.tcc_files.specs.Files.{PrintsUnopened};
-ghost use Rattle.tcc_large_check.specs.LargeChecks.{large_check};
-ghost use Rattle.tcc_verdict.specs.{Checking.IsRun, Checking.PrintsOutcome, Checks.IsCheckRun, Checks.PrintsSome};
+ghost use Rattle.tcc_files.specs.Files.{IsRunWithin, PrintsUnopened, PrintsWithin};
 
 use crate::files::{open, print_unopened};
 use crate::telling::Telling;
@@ -28,40 +26,29 @@ pub fn open_both<'a>(
     Ok((history, certificate))
 }
 
-/// Checks the certificate that the second of two readers gives for the history of the first, or writes that one of them couldn't be
-/// opened, and gives the status of the run. What to mend goes to the notes.
+/// Checks the certificate that the second of two readers gives for the history of the first, within the large limits if these are
+/// wanted, or writes that one of them couldn't be opened, and gives the status of the run. What to mend goes to the notes.
 pub fn check_opened<H: Read + Drop, C: Read + Drop, W: Write, N: Write>(
     alloc: Global,
     opened: io::Result<(H, C)>,
+    large: bool,
     out: &mut W,
     notes: &mut N,
 ) -> u8
     ensures run { IfOk opened (λ both. IfSome (H.remaining both.0) (λ records. IfSome (C.remaining both.1)
-        (λ text. IsCheckRun records text (W.contents out.old) (W.contents out.new) result))) }
-    ensures printed { MatchResult opened (λ _. PrintsSome (W.contents out.old) (W.contents out.new) result)
+        (λ text. IsRunWithin large records text (W.contents out.old) (W.contents out.new) result))) }
+    ensures printed { MatchResult opened (λ _. PrintsWithin large (W.contents out.old) (W.contents out.new) result)
         (λ error. PrintsUnopened false (error_kind error) (W.contents out.old) (W.contents out.new) result) }
 {
     match opened {
-        Ok((history, certificate)) => run_check(alloc, history, certificate, out, notes),
+        Ok((history, certificate)) => {
+            if large {
+                run_check_large(alloc, (history, certificate), out, notes)
+            } else {
+                run_check(alloc, history, certificate, out, notes)
+            }
+        }
         Err(error) => print_unopened(error.kind(), false, out),
-    }
-}
-
-/// Checks a certificate of any version, within the large limits, as `check_opened` does within the small ones.
-pub fn check_large_opened<H: Read + Drop, C: Read + Drop, W: Write, N: Write>(
-    alloc: Global,
-    opened: io::Result<(H, C)>,
-    out: &mut W,
-    notes: &mut N,
-) -> u8
-    ensures run { IfOk opened (λ both. IfSome (H.remaining both.0) (λ records. IfSome (C.remaining both.1)
-        (λ text. IsRun large_check records text (W.contents out.old) (W.contents out.new) result))) }
-    ensures printed { MatchResult opened (λ _. PrintsOutcome large_check (W.contents out.old) (W.contents out.new) result)
-        (λ error. PrintsUnopened false (error_kind error) (W.contents out.old) (W.contents out.new) result) }
-{
-    match opened {
-        Ok((history, certificate)) => run_check_large(alloc, history, certificate, out, notes),
-        Err(unopened) => print_unopened(unopened.kind(), false, out),
     }
 }
 
@@ -74,16 +61,9 @@ pub fn check_files<W: Write>(
     large: bool,
     out: &mut W,
 ) -> u8
-    ensures small { large ≡ false → PrintsSome (W.contents out.old) (W.contents out.new) result
-        ⊎ ((kind : ErrorKind) × PrintsUnopened false kind (W.contents out.old) (W.contents out.new) result) }
-    ensures large { large ≡ true → PrintsOutcome large_check (W.contents out.old) (W.contents out.new) result
+    ensures { PrintsWithin large (W.contents out.old) (W.contents out.new) result
         ⊎ ((kind : ErrorKind) × PrintsUnopened false kind (W.contents out.old) (W.contents out.new) result) }
 {
     let opened = open_both(rt, history, certificate);
-    let mut notes = rt.stderr();
-    if large {
-        check_large_opened(rt.alloc(), opened, out, &mut notes)
-    } else {
-        check_opened(rt.alloc(), opened, out, &mut notes)
-    }
+    check_opened(rt.alloc(), opened, large, out, &mut rt.stderr())
 }

@@ -10,7 +10,7 @@ mod quiet;
 mod telling;
 mod terminal;
 
-pub use checking::{check_files, check_large_opened, check_opened, open_both};
+pub use checking::{check_files, check_opened, open_both};
 pub use ending::exit_code;
 pub use files::{open_input, open_output, open_outputs, print_unopened};
 pub use input::Input;

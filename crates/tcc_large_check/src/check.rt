@@ -6,25 +6,23 @@ ghost use Rattle.tcc_large_check.specs.LargeChecks.{IsLargeShown, large_check};
 use crate::LargeJudgement;
 use crate::laws::accepted;
 use crate::printing::print_large_check;
-use crate::sized::{SizedGraph, sized_graph_of};
-use crate::versions::judged;
+use crate::sized::SizedGraph;
+use crate::versions::judged_text;
 use std::alloc::Global;
 use std::io::{Read, Write};
 use tcc_check::laws::certified;
+use tcc_graph::{Graph, LargeGraph};
 use tcc_print::Halt;
+use tcc_reads::resolve_large;
 use tcc_txn::{LargeLimits, LargeSnapshot};
-use tcc_verdict::{Checker, run_checker};
+use tcc_verdict::{Checker, noted, run_checker};
 
-/// The check of a history within the large limits, and of a certificate of any version.
-struct LargeChecker;
-
-impl Checker for LargeChecker {
+/// A certificate of any version is checked, for a history within the large limits.
+impl Checker for SizedGraph {
     ghost use Rattle.std.specs.Prelude.{refl};
     ghost use Rattle.tcc_large_check.specs.{LargeChecks.large_check, private.Stages.IsSizedHistory};
 
     type Limits = LargeLimits;
-
-    type Graph = SizedGraph;
 
     type Judgement = LargeJudgement;
 
@@ -32,24 +30,26 @@ impl Checker for LargeChecker {
 
     ghost is_made = { IsSizedHistory };
 
-    ghost within = { refl };
-
-    ghost tells = { record { text = λ why. refl; status = λ why. refl } };
+    ghost fits = { record { limited = refl; tells = record { text = λ why. refl; status = λ why. refl } } };
 
     fn graph_of<N: Write>(
         alloc: Global,
         snapshot: &LargeSnapshot,
         notes: &mut N,
-    ) -> Result<SizedGraph, Halt> {
-        sized_graph_of(alloc, snapshot, notes)
+    ) -> Result<Self, Halt> {
+        match snapshot.small_copy(alloc)? {
+            Some(small) => Ok(SizedGraph::Small(Graph::graph_of(alloc, &small, notes)?)),
+            None => {
+                let resolved = noted(alloc, snapshot, resolve_large(alloc, snapshot), notes)?;
+                let graph = LargeGraph::build(alloc, resolved)?;
+                Ok(SizedGraph::Large(graph))
+            }
+        }
     }
 
-    fn judged<R: Read + Drop>(
-        alloc: Global,
-        graph: &SizedGraph,
-        reader: R,
-    ) -> Result<LargeJudgement, Halt> {
-        judged(alloc, graph, reader)
+    fn judged<R: Read + Drop>(&self, alloc: Global, reader: R) -> Result<LargeJudgement, Halt> {
+        let judgement = judged_text(alloc, self, reader)?;
+        Ok(judgement)
     }
 
     fn print<W: Write>(alloc: Global, outcome: &Result<LargeJudgement, Halt>, out: &mut W) -> u8 {
@@ -57,23 +57,23 @@ impl Checker for LargeChecker {
     }
 }
 
-/// Writes the verdict on the certificate, of any version, for the history, within the large limits; or the first fault of the two; and
-/// gives the status of the run. Only where what the certificate claims is true is the status 0. A certificate of version 1 or 2 is
-/// judged as `tcc_verdict::run_check` does where the history is within the small limits, and rejected past them. What to mend,
-/// where records or reads have faults, goes to the notes.
+/// Writes the verdict on the certificate, of any version, that the second of two readers gives, for the history of the first, within
+/// the large limits; or the first fault of the two; and gives the status of the run. Only where what the certificate claims is true is
+/// the status 0. A certificate of version 1 or 2 is judged as `tcc_verdict::run_check` does where the history is within the small
+/// limits, and rejected past them. What to mend, where records or reads have faults, goes to the notes.
 pub fn run_check_large<H: Read + Drop, C: Read + Drop, W: Write, N: Write>(
     alloc: Global,
-    history: H,
-    certificate: C,
+    both: (H, C),
     out: &mut W,
     notes: &mut N,
 ) -> u8
-    ensures run { IfSome (H.remaining history)
-        (λ records. IfSome (C.remaining certificate) (λ text. IsRun large_check records text (W.contents out.old) (W.contents out.new) result)) }
+    ensures run { IfSome (H.remaining both.0) (λ records. IfSome (C.remaining both.1)
+        (λ text. IsRun large_check records text (W.contents out.old) (W.contents out.new) result)) }
     ensures printed { PrintsOutcome large_check (W.contents out.old) (W.contents out.new) result }
-    ensures shown { IfSome (H.remaining history) (λ records. IfSome (C.remaining certificate) (λ text. result ≡ 0 → IsLargeShown records text)) }
+    ensures shown { IfSome (H.remaining both.0) (λ records. IfSome (C.remaining both.1) (λ text. result ≡ 0 → IsLargeShown records text)) }
 {
     certified();
     accepted();
-    run_checker::<LargeChecker, H, C, W, N>(alloc, history, certificate, out, notes)
+    let (history, certificate) = both;
+    run_checker::<SizedGraph, H, C, W, N>(alloc, history, certificate, out, notes)
 }

@@ -1,10 +1,7 @@
 //! The verdict on a certificate, by the version that its first line says.
 ghost use Rattle.std.specs.Prelude.{◌≡◌, ℕ, List, IfSome, true};
 ghost use Rattle.tcc_cert.specs.{Ahead.IsAhead, Ahead.is_new, Parts.parts_read, Versions.IsLargeAt};
-ghost use Rattle.tcc_txn.specs.Snapshots.{Sessions};
-ghost use Rattle.tcc_verdict.specs.private.Stages.{MayBeOfText};
-ghost use Rattle.tcc_large_check.specs.LargeChecks.{large_check};
-ghost use Rattle.tcc_large_check.specs.private.Stages.{IsJudgedLarge, IsJudgedParts, IsJudgedText, IsSizedHistory};
+ghost use Rattle.tcc_large_check.specs.private.Stages.{IsJudgedLarge, IsJudgedParts, IsJudgedText};
 
 use crate::LargeJudgement;
 use crate::judgement::claim_of;
@@ -13,18 +10,13 @@ use std::alloc::Global;
 use std::io::Read;
 use tcc_cert::laws::no_first_line;
 use tcc_cert::{CertReader, LargeReader, VersionReader, reader_of};
-use tcc_check::{Judgement, Rule, StreamFault, Verdict, claim_in, judge_parts};
+use tcc_check::{Judgement, Judging, Rule, StreamFault, Verdict, claim_in, judge_parts};
 use tcc_graph::LargeGraph;
 use tcc_judge::judge;
-use tcc_print::Halt;
 
 /// Judges a certificate of version 1 or 2. These are of histories within the small limits, so past them its sizes are wrong,
 /// whatever it claims; its text is read to the end, since a fault of it comes first.
-fn judged_parts<R: Read>(
-    alloc: Global,
-    graph: &SizedGraph,
-    parts: &mut CertReader<R>,
-) -> Result<Judgement, StreamFault>
+fn judged_parts<R: Read>(alloc: Global, graph: &SizedGraph, parts: &mut CertReader<R>) -> Judging
     requires { is_new parts.old ≡ true }
     ensures { (bytes : List ℕ) → IsAhead R.remaining parts.old (parts_read bytes) → IsJudgedParts graph.now bytes result }
 {
@@ -55,8 +47,8 @@ fn judged_large<R: Read + Drop>(
     Ok(LargeJudgement::Large { claim, verdict })
 }
 
-/// Judges the certificate whose text the reader gives, by the rules for its version.
-fn judged_text<R: Read + Drop>(
+/// What the certificate claims whose text the reader gives, and the verdict on it, by the rules for its version.
+pub(crate) fn judged_text<R: Read + Drop>(
     alloc: Global,
     graph: &SizedGraph,
     reader: R,
@@ -71,16 +63,4 @@ fn judged_text<R: Read + Drop>(
         }
         VersionReader::Large(reader) => judged_large(alloc, graph.large(), reader),
     }
-}
-
-/// What the certificate claims whose text the reader gives, and the verdict on it.
-pub(crate) fn judged<R: Read + Drop>(
-    alloc: Global,
-    graph: &SizedGraph,
-    reader: R,
-) -> Result<LargeJudgement, Halt>
-    ensures { IfSome (R.remaining reader) (λ text. (s : Sessions) → IsSizedHistory s graph.now → MayBeOfText large_check s text result) }
-{
-    let judgement = judged_text(alloc, graph, reader)?;
-    Ok(judgement)
 }

@@ -14,8 +14,8 @@ use Rattle.tcc_print.specs.declared.halt.Halt.{Halt}
 use Rattle.tcc_print.specs.declared.halt.Halt.TheVariants.{Row, Reads, Text, NoMemory}
 use Rattle.tcc_print.specs.Halts.{by_row, is_memory}
 use Rattle.tcc_print.specs.private.Halts.{unresolved_by}
-use Rattle.tcc_verdict.specs.Checking.{Check, IsOfRecords, IsResolution, MayBe, MayBeResolution}
-use Rattle.tcc_verdict.specs.private.Stages.{IsMadeOf, MayBeOfText}
+use Rattle.tcc_verdict.specs.Checking.{Check, IsOfRecords, MayBe}
+use Rattle.tcc_verdict.specs.private.Stages.{IsMadeOf, IsResolution, MayBeOfText, MayBeResolution}
 
 -- ---- what is made of the records
 

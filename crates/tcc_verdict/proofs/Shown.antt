@@ -22,7 +22,6 @@ use Rattle.tcc_print.specs.declared.halt.Halt.TheVariants.{Row, Reads, Text, NoM
 use Rattle.tcc_print.specs.declared.status.Status.TheVariants as status
 use Rattle.tcc_print.specs.Statuses.{certificate_status, code_of, halt_status, row_status, verdict_status}
 use Rattle.tcc_print.specs.Printed.{Prints, PrintsOrMemory, memory_line}
-use Rattle.tcc_print.specs.Texts.{halt_text}
 use Rattle.tcc_verdict.specs.Checking.{Check, IsOfRecords, IsRun, MayBe, PrintsOutcome}
 use Rattle.tcc_verdict.specs.private.Stages.{TellsHalts}
 use Rattle.tcc_verdict.specs.Checks.{IsCheckRun, IsShown, small_check}

@@ -1,6 +1,6 @@
 -- What comes of a history and a certificate, and what a run does with their bytes, within some limits of the records and whatever
 -- may come of the certificate's text.
-use Rattle.std.specs.Prelude.{ℕ, ◌≡◌, ◌≢◌, ◌⊎◌, List, [], Option, None, Some, Result, Ok, Err}
+use Rattle.std.specs.Prelude.{ℕ, ◌≡◌, ◌≢◌, ◌⊎◌, List, [], Option, None, Some, Result, Err}
 use Rattle.tcc_txn.specs.Snapshots.{Sessions}
 use Rattle.tcc_txn.specs.declared.limits.Limits.{Limits}
 use Rattle.tcc_rows.specs.Answers.{answers_within, records_within}
@@ -10,8 +10,6 @@ use Rattle.tcc_rows.specs.declared.rows.Item.{Item}
 use Rattle.tcc_rows.specs.declared.fault.RowFault.{RowFault}
 use Rattle.tcc_rows.specs.declared.fault.RowFaultKind.TheVariants as row_kind
 use Rattle.tcc_reads.specs.Faults.{read_faults}
-use Rattle.tcc_reads.specs.History.{History}
-use Rattle.tcc_reads.specs.Sources.{history}
 use Rattle.tcc_print.specs.declared.halt.Halt.{Halt}
 use Rattle.tcc_print.specs.declared.halt.Halt.TheVariants.{Row, Reads, NoMemory}
 use Rattle.tcc_print.specs.declared.status.Status.{Status}
@@ -24,24 +22,6 @@ pub record Check (J : Type 0) : Type 1 where
   pub of_text : Sessions → List ℕ → Result J Halt → Type 0
   pub text : Result J Halt → List ℕ
   pub status : Result J Halt → Status
-
--- ---- what is made of a snapshot
-
--- what is made of a snapshot whose reads have no faults, else all their faults
-abbrev pub IsResolution : {G : Type 0} → (Sessions → G → Type 0) → Sessions → Result G Halt → Type 0
-IsResolution is_made s (Ok made) = (read_faults s ≡ []) × is_made s made
-IsResolution is_made s (Err (Reads faults)) = (read_faults s ≢ []) × (faults.items ≡ read_faults s)
-IsResolution is_made s (Err _) = ⊥
-
--- so, or `NoMemory`
-abbrev pub MayBeResolution : {G : Type 0} → (Sessions → G → Type 0) → Sessions → Result G Halt → Type 0
-MayBeResolution is_made s o = IsResolution is_made s o ⊎ (o ≡ Err NoMemory)
-
--- the history of a snapshot
-abbrev pub IsHistory : Sessions → History → Type 0
-IsHistory s h = h ≡ history s
-
--- ---- both
 
 -- all read faults
 abbrev pub AreReads : {J : Type 0} → Sessions → Result J Halt → Type 0

@@ -1,6 +1,6 @@
 //! From the bytes of a history and of a certificate to the verdict.
 ghost use Rattle.std.specs.Prelude.{◌≡◌, IfSome};
-ghost use Rattle.tcc_verdict.specs.{Checking.IsHistory, Checking.MayBeResolution, private.Stages.MayBeTextCheck};
+ghost use Rattle.tcc_verdict.specs.private.Stages.{MayBeTextCheck};
 ghost use Rattle.tcc_verdict.specs.Checks.{IsCheckRun, IsShown, PrintsSome};
 
 use crate::{Checker, run_checker};
@@ -30,15 +30,6 @@ pub fn noted<T, B: Bounds, N: Write>(
     resolved
 }
 
-/// The history of a snapshot, or all its read faults; of the first of these it is noted which write each of them is about.
-pub fn graph_of<N: Write>(alloc: Global, snapshot: &Snapshot, notes: &mut N) -> Result<Graph, Halt>
-    ensures { MayBeResolution IsHistory snapshot.now result }
-{
-    let resolved = noted(alloc, snapshot, resolve(alloc, snapshot), notes)?;
-    let graph = Graph::build(alloc, resolved)?;
-    Ok(graph)
-}
-
 /// What the certificate claims whose text the reader gives, and the verdict on it. The text is judged as it comes.
 fn judged<R: Read + Drop>(alloc: Global, graph: &Graph, reader: R) -> Result<Judgement, Halt>
     ensures { IfSome (R.remaining reader) (λ text. MayBeTextCheck graph.now text result) }
@@ -47,16 +38,12 @@ fn judged<R: Read + Drop>(alloc: Global, graph: &Graph, reader: R) -> Result<Jud
     Ok(judgement)
 }
 
-/// The check of a history within the small limits, and of a certificate of version 1 or 2.
-struct SmallChecker;
-
-impl Checker for SmallChecker {
+/// A certificate of version 1 or 2 is checked, for a history within the small limits.
+impl Checker for Graph {
     ghost use Rattle.std.specs.Prelude.{refl};
-    ghost use Rattle.tcc_verdict.specs.{Checking.IsHistory, Checks.small_check};
+    ghost use Rattle.tcc_verdict.specs.{Checks.small_check, private.Stages.IsHistory};
 
     type Limits = SmallLimits;
-
-    type Graph = Graph;
 
     type Judgement = Judgement;
 
@@ -64,20 +51,16 @@ impl Checker for SmallChecker {
 
     ghost is_made = { IsHistory };
 
-    ghost within = { refl };
+    ghost fits = { record { limited = refl; tells = record { text = λ why. refl; status = λ why. refl } } };
 
-    ghost tells = { record { text = λ why. refl; status = λ why. refl } };
-
-    fn graph_of<N: Write>(
-        alloc: Global,
-        snapshot: &Snapshot,
-        notes: &mut N,
-    ) -> Result<Graph, Halt> {
-        graph_of(alloc, snapshot, notes)
+    fn graph_of<N: Write>(alloc: Global, snapshot: &Snapshot, notes: &mut N) -> Result<Self, Halt> {
+        let resolved = noted(alloc, snapshot, resolve(alloc, snapshot), notes)?;
+        let graph = Graph::build(alloc, resolved)?;
+        Ok(graph)
     }
 
-    fn judged<R: Read + Drop>(alloc: Global, graph: &Graph, reader: R) -> Result<Judgement, Halt> {
-        judged(alloc, graph, reader)
+    fn judged<R: Read + Drop>(&self, alloc: Global, reader: R) -> Result<Judgement, Halt> {
+        judged(alloc, self, reader)
     }
 
     fn print<W: Write>(alloc: Global, outcome: &Result<Judgement, Halt>, out: &mut W) -> u8 {
@@ -101,5 +84,5 @@ pub fn run_check<H: Read + Drop, C: Read + Drop, W: Write, N: Write>(
     ensures shown { IfSome (H.remaining history) (λ records. IfSome (C.remaining certificate) (λ text. result ≡ 0 → IsShown records text)) }
 {
     certified();
-    run_checker::<SmallChecker, H, C, W, N>(alloc, history, certificate, out, notes)
+    run_checker::<Graph, H, C, W, N>(alloc, history, certificate, out, notes)
 }

@@ -11,49 +11,41 @@ use tcc_print::Halt;
 use tcc_rows::{RecordingWithin, RowFault, RowFaultKind};
 use tcc_txn::{Bounds, SnapshotWithin};
 
-/// How the history is made of a snapshot, how a certificate is judged for it, and how that is printed.
-pub trait Checker {
+/// A history for which certificates are judged: how it is made of a snapshot, how one is judged for it, and how that is printed.
+pub trait Checker: Drop {
     ghost use Rattle.std.specs.Prelude.{◌≡◌, IfSome, false};
     ghost use Rattle.tcc_txn.specs.Snapshots.{Sessions};
     ghost use Rattle.tcc_print.specs.Printed.{PrintsOrMemory};
-    ghost use Rattle.tcc_verdict.specs.{Checking.Check, Checking.MayBeResolution, private.Stages.MayBeOfText, private.Stages.TellsHalts};
+    ghost use Rattle.tcc_verdict.specs.Checking.{Check};
+    ghost use Rattle.tcc_verdict.specs.private.Stages.{IsCheckWithin, MayBeOfText, MayBeResolution};
 
     /// The limits of the records.
     type Limits: Bounds;
-
-    /// The history.
-    type Graph: Drop;
 
     /// What is said of a certificate.
     type Judgement: Drop;
 
     ghost check: { Check Self.Judgement };
 
-    ghost is_made: { Sessions → Self.Graph → Type 0 };
+    ghost is_made: { Sessions → Self → Type 0 };
 
     /// The history of a snapshot, or all its read faults; of the first of these it is noted which write each of them is about.
     fn graph_of<N: Write>(
         alloc: Global,
         snapshot: &SnapshotWithin<Self::Limits>,
         notes: &mut N,
-    ) -> Result<Self::Graph, Halt>
+    ) -> Result<Self, Halt>
         ensures { MayBeResolution is_made snapshot.now result };
 
     /// What the certificate claims whose text the reader gives, and the verdict on it.
-    fn judged<R: Read + Drop>(
-        alloc: Global,
-        graph: &Self::Graph,
-        reader: R,
-    ) -> Result<Self::Judgement, Halt>
-        ensures { IfSome (R.remaining reader) (λ text. (s : Sessions) → is_made s graph.now → MayBeOfText check s text result) };
+    fn judged<R: Read + Drop>(&self, alloc: Global, reader: R) -> Result<Self::Judgement, Halt>
+        ensures { IfSome (R.remaining reader) (λ text. (s : Sessions) → is_made s self.now → MayBeOfText check s text result) };
 
     /// Writes the outcome, and gives the status of the run. Where memory is out, that is written in its place.
     fn print<W: Write>(alloc: Global, outcome: &Result<Self::Judgement, Halt>, out: &mut W) -> u8
         ensures { PrintsOrMemory false (W.contents out.old) (W.contents out.new) (check.text outcome.now) (check.status outcome.now) result };
 
-    ghost within: { check.limits ≡ Self.Limits.limits };
-
-    ghost tells: { TellsHalts check };
+    ghost fits: { IsCheckWithin Self.Limits.limits check };
 }
 
 /// The recording of all that the records finish within the limits that `B` stands for, whatever they seal; of a record's fault it
@@ -87,7 +79,7 @@ fn history_of<C: Checker, R: Read + Drop, N: Write>(
     alloc: Global,
     reader: R,
     notes: &mut N,
-) -> Result<C::Graph, Halt>
+) -> Result<C, Halt>
     ensures { IfSome (R.remaining reader) (λ records. IsMadeOf C.Limits.limits C.is_made records result) }
 {
     let recording = recorded::<R, C::Limits, N>(alloc, reader, notes)?;
@@ -104,7 +96,7 @@ fn checked<C: Checker, H: Read + Drop, R: Read + Drop, N: Write>(
     ensures { IfSome (H.remaining history) (λ records. IfSome (R.remaining certificate) (λ text. MayBe C.check records text result)) }
 {
     let graph = history_of::<C, H, N>(alloc, history, notes)?;
-    C::judged(alloc, &graph, certificate)
+    graph.judged(alloc, certificate)
 }
 
 /// Writes the verdict on the certificate for the history, or the first fault of the two, and gives the status of the

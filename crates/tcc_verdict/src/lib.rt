@@ -5,6 +5,6 @@ mod check;
 mod checker;
 mod stopping;
 
-pub use check::{graph_of, noted, run_check};
+pub use check::{noted, run_check};
 pub use checker::{Checker, recorded, run_checker};
 pub use stopping::stop;

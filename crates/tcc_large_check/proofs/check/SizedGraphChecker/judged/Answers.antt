@@ -2,7 +2,7 @@
 use Rattle.std.proofs.Common.{inl}
 use Rattle.std.proofs.lemmas.Option.{IfSome_then}
 use Rattle.tcc_large_check.proofs.Judgements.{of_fault, of_judgement}
-use Rattle.tcc_large_check.proofs.versions.judged.Goals as goal
+use Rattle.tcc_large_check.proofs.check.SizedGraphChecker.judged.Goals as goal
 
 pub returns-in_err-judgement : goal.returns-in_err-judgement
 returns-in_err-judgement g c = IfSome_then (g.R.Read.remaining c.args.reader) c.in_err-judgement.ensures
@@ -10,4 +10,4 @@ returns-in_err-judgement g c = IfSome_then (g.R.Read.remaining c.args.reader) c.
 
 pub returns : goal.returns
 returns g c = IfSome_then (g.R.Read.remaining c.args.reader) c.in_ok-judgement.ensures
-    (λ text is s sized. inl (of_judgement s c.args.graph.now text c.in_ok-judgement.judgement sized is))
+    (λ text is s sized. inl (of_judgement s c.args.self.now text c.in_ok-judgement.judgement sized is))
