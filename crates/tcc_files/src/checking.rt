@@ -43,7 +43,7 @@ pub fn check_opened<H: Read + Drop, C: Read + Drop, W: Write, N: Write>(
     match opened {
         Ok((history, certificate)) => {
             if large {
-                run_check_large(alloc, (history, certificate), out, notes)
+                run_check_large(alloc, history, certificate, out, notes)
             } else {
                 run_check(alloc, history, certificate, out, notes)
             }

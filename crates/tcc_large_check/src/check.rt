@@ -57,23 +57,23 @@ impl Checker for SizedGraph {
     }
 }
 
-/// Writes the verdict on the certificate, of any version, that the second of two readers gives, for the history of the first, within
-/// the large limits; or the first fault of the two; and gives the status of the run. Only where what the certificate claims is true is
-/// the status 0. A certificate of version 1 or 2 is judged as `tcc_verdict::run_check` does where the history is within the small
-/// limits, and rejected past them. What to mend, where records or reads have faults, goes to the notes.
+/// Writes the verdict on the certificate, of any version, for the history, within the large limits; or the first fault of the two; and
+/// gives the status of the run. Only where what the certificate claims is true is the status 0. A certificate of version 1 or 2 is
+/// judged as `tcc_verdict::run_check` does where the history is within the small limits, and rejected past them. What to mend,
+/// where records or reads have faults, goes to the notes.
 pub fn run_check_large<H: Read + Drop, C: Read + Drop, W: Write, N: Write>(
     alloc: Global,
-    both: (H, C),
+    history: H,
+    certificate: C,
     out: &mut W,
     notes: &mut N,
 ) -> u8
-    ensures run { IfSome (H.remaining both.0) (λ records. IfSome (C.remaining both.1)
-        (λ text. IsRun large_check records text (W.contents out.old) (W.contents out.new) result)) }
+    ensures run { IfSome (H.remaining history)
+        (λ records. IfSome (C.remaining certificate) (λ text. IsRun large_check records text (W.contents out.old) (W.contents out.new) result)) }
     ensures printed { PrintsOutcome large_check (W.contents out.old) (W.contents out.new) result }
-    ensures shown { IfSome (H.remaining both.0) (λ records. IfSome (C.remaining both.1) (λ text. result ≡ 0 → IsLargeShown records text)) }
+    ensures shown { IfSome (H.remaining history) (λ records. IfSome (C.remaining certificate) (λ text. result ≡ 0 → IsLargeShown records text)) }
 {
     certified();
     accepted();
-    let (history, certificate) = both;
     run_checker::<SizedGraph, H, C, W, N>(alloc, history, certificate, out, notes)
 }
