@@ -11,8 +11,8 @@ fn main(rt: HostRuntime) -> ExitCode {
     let code = match read_check(&rt, &mut out) {
         Ok(files) => check_files(
             &rt,
-            files.history.as_str(),
-            files.certificate.as_str(),
+            &files.history,
+            &files.certificate,
             files.large,
             &mut out,
         ),
