@@ -1,6 +1,6 @@
 //! What is said of a snapshot: its answer, or all its read faults.
 ghost use Rattle.std.specs.Prelude.{◌≡◌, IfOk, IfSome, MatchResult};
-ghost use Rattle.tcc_txn.specs.Snapshots.{Sessions};
+ghost use Rattle.tcc_txn.specs.{Finished.KeepsLimits, Snapshots.Sessions};
 ghost use Rattle.tcc_graph.specs.declared.level.Level.{Level};
 ghost use Rattle.tcc_explain.specs.Explained.{IsAnswerOfSnapshot, IsRefusal};
 ghost use Rattle.tcc_print.specs.Saying.{IsTold};
@@ -12,6 +12,7 @@ use std::io::Write;
 use std::thread::Threads;
 use tcc_explain::laws::grown;
 use tcc_explain::{Anomaly, Answer, ExplainFault, Gate, NextFault};
+use tcc_graph::Level;
 use tcc_print::printing::{send_answer, send_unresolved};
 use tcc_print::{Last, Options, Run, Statement};
 use tcc_reads::ReadFault;
@@ -28,6 +29,20 @@ pub(crate) enum Outcome {
     },
 }
 
+/// The first answer for a snapshot at a level, or all its read faults, by the workers and the gate of a run.
+pub fn first_answer<T: Threads + Sync, G: Gate>(
+    run: &Run<T, G>,
+    snapshot: &Snapshot,
+    level: Level,
+) -> Result<Answer, ExplainFault>
+    ensures answer { MatchResult result (IsAnswerOfSnapshot snapshot.now level) (IsRefusal snapshot.now) }
+    ensures limits { KeepsLimits snapshot.now }
+{
+    snapshot.keeps_limits();
+    let workers = run.options.workers;
+    explain_snapshot(run.rt, run.alloc, snapshot, level, workers, run.gate)
+}
+
 /// The answer for a snapshot at the level; after an anomaly the search begins with what that one costs now.
 fn work_out<T: Threads + Sync, G: Gate>(
     run: &Run<T, G>,
@@ -37,27 +52,13 @@ fn work_out<T: Threads + Sync, G: Gate>(
     requires earlier { IfSome earlier.now (IsEarlier run.now.options.now.level snapshot.now) }
     ensures { MatchResult result (IsAnswerOfSnapshot snapshot.now run.now.options.now.level) (IsRefusal snapshot.now) }
 {
-    let options = run.options;
     let Some(anomaly) = earlier else {
-        return explain_snapshot(
-            run.rt,
-            run.alloc,
-            snapshot,
-            options.level,
-            options.workers,
-            run.gate,
-        );
+        return first_answer(run, snapshot, run.options.level);
     };
     grown();
     snapshot.keeps_limits();
-    match explain_snapshot_next(
-        run.rt,
-        run.alloc,
-        snapshot,
-        anomaly,
-        options.workers,
-        run.gate,
-    ) {
+    let workers = run.options.workers;
+    match explain_snapshot_next(run.rt, run.alloc, snapshot, anomaly, workers, run.gate) {
         Ok(answer) => Ok(answer),
         Err(NextFault::Reads(faults)) => Err(ExplainFault::Reads(faults)),
         Err(NextFault::NoMemory) => Err(ExplainFault::NoMemory),

@@ -73,13 +73,8 @@ outcome_said options o = record {
 
 -- the course of a run
 abbrev pub course : Options → Course Outcome
-course options = record {
-  limits = Small;
-  options = options;
-  is_said = IsSaidOfSnapshot options;
-  is_outcome = IsOutcome options.level;
-  say = outcome_said options;
-}
+course options =
+    record { limits = Small; options = options; is_said = IsSaidOfSnapshot options; is_outcome = IsOutcome options.level; say = outcome_said options }
 
 -- ---- the certificate
 
