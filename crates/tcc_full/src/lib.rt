@@ -8,5 +8,5 @@ mod objects;
 mod rows;
 
 pub use lookup::Lookup;
-pub use objects::{Asked, anomaly_line, consistent_line, ended_line, row_line, unresolved_line};
+pub use objects::{Asked, Report, ended_line, row_line};
 pub use rows::{OperationRows, operation_rows};

@@ -21,52 +21,6 @@ pub(crate) fn row_json(alloc: Global, row: Option<u32>) -> Result<Value, AllocEr
     }
 }
 
-fn session_json<B: Bounds>(
-    alloc: Global,
-    lookup: &Lookup<B>,
-    from: u32,
-    to: u32,
-) -> Result<Value, AllocError>
-    ensures { IfOk result (λ v. view v ≡ session_json (records_of lookup.now) from to) }
-{
-    json!(in alloc; {
-        "from": lookup.labels.at(from),
-        "kind": "session",
-        "to": lookup.labels.at(to)
-    })
-}
-
-fn reads_json<B: Bounds>(
-    alloc: Global,
-    lookup: &Lookup<B>,
-    from: u32,
-    to: u32,
-    key: &Name,
-) -> Result<Value, AllocError>
-    ensures { IfOk result (λ v. view v ≡ reads_json (records_of lookup.now) from to key.now) }
-{
-    json!(in alloc; {
-        "from": lookup.labels.at(from),
-        "key": key.to_string(alloc)?,
-        "kind": "reads",
-        "read": row_json(alloc, lookup.read_row(from, to, key))?,
-        "to": lookup.labels.at(to),
-        "value": lookup.value_from(from, key),
-        "written": row_json(alloc, lookup.write_row(from, key))?
-    })
-}
-
-impl<B: Bounds> Values<Step> for Lookup<'_, B> {
-    ghost json = { λ lookup step. step_json (records_of lookup) step };
-
-    fn value(&self, alloc: Global, step: &Step) -> Result<Value, AllocError> {
-        match step {
-            Step::Session { from, to } => session_json(alloc, self, *from, *to),
-            Step::Reads { from, to, key } => reads_json(alloc, self, *from, *to, key),
-        }
-    }
-}
-
 /// A derived link, by the names of its transactions, its rows, its value and its walk.
 fn derived_object(
     alloc: Global,
@@ -96,30 +50,67 @@ fn derived_object(
     })
 }
 
-/// `reader` reads the key from `to`, and misses the write of `from`.
-fn derived_json<B: Bounds>(
-    alloc: Global,
-    lookup: &Lookup<B>,
-    from: u32,
-    to: u32,
-    key: &Name,
-    reader: u32,
-    walk: &[Step],
-) -> Result<Value, AllocError>
-    ensures { IfOk result (λ v. view v ≡ derived_json (records_of lookup.now) from to key.now reader walk.now) }
-{
-    let missed = row_json(alloc, lookup.write_row(from, key))?;
-    let read = row_json(alloc, lookup.read_row(to, reader, key))?;
-    let value = lookup.value_from(to, key);
-    let written = row_json(alloc, lookup.write_row(to, key))?;
-    let walk = list_json(alloc, lookup, walk)?;
-    let from = lookup.labels.at(from);
-    let reader = lookup.labels.at(reader);
-    let to = lookup.labels.at(to);
-    let key = key.to_string(alloc)?;
-    derived_object(
-        alloc, from, key, reader, to, missed, read, value, walk, written,
-    )
+impl<B: Bounds> Lookup<'_, B> {
+    fn session_json(&self, alloc: Global, from: u32, to: u32) -> Result<Value, AllocError>
+        ensures { IfOk result (λ v. view v ≡ session_json (records_of self.now) from to) }
+    {
+        json!(in alloc; {
+            "from": self.labels.at(from),
+            "kind": "session",
+            "to": self.labels.at(to)
+        })
+    }
+
+    fn reads_json(&self, alloc: Global, from: u32, to: u32, key: &Name) -> Result<Value, AllocError>
+        ensures { IfOk result (λ v. view v ≡ reads_json (records_of self.now) from to key.now) }
+    {
+        json!(in alloc; {
+            "from": self.labels.at(from),
+            "key": key.to_string(alloc)?,
+            "kind": "reads",
+            "read": row_json(alloc, self.read_row(from, to, key))?,
+            "to": self.labels.at(to),
+            "value": self.value_from(from, key),
+            "written": row_json(alloc, self.write_row(from, key))?
+        })
+    }
+
+    /// `reader` reads the key from `to`, and misses the write of `from`.
+    fn derived_json(
+        &self,
+        alloc: Global,
+        from: u32,
+        to: u32,
+        key: &Name,
+        reader: u32,
+        walk: &[Step],
+    ) -> Result<Value, AllocError>
+        ensures { IfOk result (λ v. view v ≡ derived_json (records_of self.now) from to key.now reader walk.now) }
+    {
+        let missed = row_json(alloc, self.write_row(from, key))?;
+        let read = row_json(alloc, self.read_row(to, reader, key))?;
+        let value = self.value_from(to, key);
+        let written = row_json(alloc, self.write_row(to, key))?;
+        let walk = list_json(alloc, self, walk)?;
+        let from = self.labels.at(from);
+        let reader = self.labels.at(reader);
+        let to = self.labels.at(to);
+        let key = key.to_string(alloc)?;
+        derived_object(
+            alloc, from, key, reader, to, missed, read, value, walk, written,
+        )
+    }
+}
+
+impl<B: Bounds> Values<Step> for Lookup<'_, B> {
+    ghost json = { λ lookup step. step_json (records_of lookup) step };
+
+    fn value(&self, alloc: Global, step: &Step) -> Result<Value, AllocError> {
+        match step {
+            Step::Session { from, to } => self.session_json(alloc, *from, *to),
+            Step::Reads { from, to, key } => self.reads_json(alloc, *from, *to, key),
+        }
+    }
 }
 
 impl<B: Bounds> Values<Link> for Lookup<'_, B> {
@@ -128,14 +119,14 @@ impl<B: Bounds> Values<Link> for Lookup<'_, B> {
     fn value(&self, alloc: Global, link: &Link) -> Result<Value, AllocError> {
         let (from, to) = (link.from(), link.to());
         match link {
-            Link::Session { .. } => session_json(alloc, self, from, to),
-            Link::Reads { key, .. } => reads_json(alloc, self, from, to, key),
+            Link::Session { .. } => self.session_json(alloc, from, to),
+            Link::Reads { key, .. } => self.reads_json(alloc, from, to, key),
             Link::Derived {
                 key,
                 reader,
                 walk,
                 ..
-            } => derived_json(alloc, self, from, to, key, *reader, walk.as_slice()),
+            } => self.derived_json(alloc, from, to, key, *reader, walk.as_slice()),
         }
     }
 }

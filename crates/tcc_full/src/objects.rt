@@ -15,6 +15,7 @@ use tcc_answer::{Values, labels_json, list_json, object_line, shape_of, shape_wo
 use tcc_graph::{LargeGraph, Level, Link};
 use tcc_print::Status;
 use tcc_print::json::row_fault_json;
+use tcc_print::large::steps_of;
 use tcc_print::status::row_status;
 use tcc_print::texts::read_word;
 use tcc_reads::{ReadFault, ReadFaultKind};
@@ -27,6 +28,14 @@ pub struct Asked<'a> {
     pub version: &'a str,
     pub level: Level,
     pub limits: Limits,
+}
+
+/// What is told of a snapshot: it says what was asked for, and looks up the operations that an answer speaks of.
+#[derive(Drop)]
+pub struct Report<'a, B: Bounds> {
+    pub alloc: Global,
+    pub asked: &'a Asked<'a>,
+    pub lookup: &'a Lookup<'a, B>,
 }
 
 fn level_word(level: Level) -> &'static str
@@ -65,89 +74,6 @@ fn committed_count(graph: &LargeGraph) -> u32
     ensures { result ≡ committed_count graph.now }
 {
     graph.count().saturating_sub(1)
-}
-
-fn consistent_json<B: Bounds>(
-    alloc: Global,
-    asked: &Asked,
-    lookup: &Lookup<B>,
-    order: &[u32],
-    status: Status,
-) -> Result<Value, AllocError>
-    ensures { IfOk result (λ v. view v ≡ consistent_json asked.now (records_of lookup.now) order.now status) }
-{
-    json!(in alloc; {
-        "answer": "consistent",
-        "large": is_large(asked.limits),
-        "level": level_word(asked.level),
-        "limits": limits_json(alloc, asked.limits)?,
-        "order": labels_json(alloc, lookup.labels, order)?,
-        "sessions": lookup.graph.sessions().len(),
-        "status": status.code(),
-        "transactions": committed_count(lookup.graph),
-        "version": asked.version
-    })
-}
-
-/// The line of an order of all transactions, with the status of the run.
-pub fn consistent_line<B: Bounds>(
-    alloc: Global,
-    asked: &Asked,
-    lookup: &Lookup<B>,
-    order: &[u32],
-    status: Status,
-) -> Result<Vec<u8>, NoMemory>
-    ensures { IfOk result (λ line. line.items ≡ json_line (consistent_json asked.now (records_of lookup.now) order.now status)) }
-{
-    object_line(
-        alloc,
-        &consistent_json(alloc, asked, lookup, order, status)?,
-    )
-}
-
-fn anomaly_json<B: Bounds>(
-    alloc: Global,
-    asked: &Asked,
-    lookup: &Lookup<B>,
-    links: &[Link],
-    steps: usize,
-    least: bool,
-) -> Result<Value, AllocError>
-    requires { steps ≡ cost links.now }
-    ensures { IfOk result (λ v. view v ≡ anomaly_json asked.now (records_of lookup.now) links.now least) }
-{
-    json!(in alloc; {
-        "answer": "anomaly",
-        "cycle": list_json(alloc, lookup, links)?,
-        "large": is_large(asked.limits),
-        "least": least,
-        "level": level_word(asked.level),
-        "limits": limits_json(alloc, asked.limits)?,
-        "sessions": lookup.graph.sessions().len(),
-        "shape": shape_word(shape_of(links)),
-        "status": Status::Anomaly.code(),
-        "steps": steps,
-        "transactions": committed_count(lookup.graph),
-        "version": asked.version
-    })
-}
-
-/// The line of a cycle of so many steps, and whether none has fewer.
-pub fn anomaly_line<B: Bounds>(
-    alloc: Global,
-    asked: &Asked,
-    lookup: &Lookup<B>,
-    links: &[Link],
-    steps: usize,
-    least: bool,
-) -> Result<Vec<u8>, NoMemory>
-    requires { steps ≡ cost links.now }
-    ensures { IfOk result (λ line. line.items ≡ json_line (anomaly_json asked.now (records_of lookup.now) links.now least)) }
-{
-    object_line(
-        alloc,
-        &anomaly_json(alloc, asked, lookup, links, steps, least)?,
-    )
 }
 
 /// The name that the field has for a kind of read fault, where it has one.
@@ -190,37 +116,83 @@ impl<B: Bounds> Values<ReadFault> for Lookup<'_, B> {
     }
 }
 
-fn unresolved_json<B: Bounds>(
-    alloc: Global,
-    asked: &Asked,
-    lookup: &Lookup<B>,
-    faults: &[ReadFault],
-) -> Result<Value, AllocError>
-    ensures { IfOk result (λ v. view v ≡ unresolved_json asked.now (records_of lookup.now) faults.now) }
-{
-    json!(in alloc; {
-        "answer": "unresolved",
-        "faults": list_json(alloc, lookup, faults)?,
-        "large": is_large(asked.limits),
-        "level": level_word(asked.level),
-        "limits": limits_json(alloc, asked.limits)?,
-        "sessions": lookup.graph.sessions().len(),
-        "status": Status::ReadFaults.code(),
-        "transactions": committed_count(lookup.graph),
-        "version": asked.version
-    })
-}
+impl<B: Bounds> Report<'_, B> {
+    fn consistent_json(&self, order: &[u32], status: Status) -> Result<Value, AllocError>
+        ensures { IfOk result (λ v. view v ≡ consistent_json self.now.asked.now (records_of self.now.lookup.now) order.now status) }
+    {
+        let (alloc, asked, lookup) = (self.alloc, self.asked, self.lookup);
+        json!(in alloc; {
+            "answer": "consistent",
+            "large": is_large(asked.limits),
+            "level": level_word(asked.level),
+            "limits": limits_json(alloc, asked.limits)?,
+            "order": labels_json(alloc, lookup.labels, order)?,
+            "sessions": lookup.graph.sessions().len(),
+            "status": status.code(),
+            "transactions": committed_count(lookup.graph),
+            "version": asked.version
+        })
+    }
 
-/// The line of all read faults.
-pub fn unresolved_line<B: Bounds>(
-    alloc: Global,
-    asked: &Asked,
-    lookup: &Lookup<B>,
-    faults: &[ReadFault],
-) -> Result<Vec<u8>, NoMemory>
-    ensures { IfOk result (λ line. line.items ≡ json_line (unresolved_json asked.now (records_of lookup.now) faults.now)) }
-{
-    object_line(alloc, &unresolved_json(alloc, asked, lookup, faults)?)
+    /// The line of an order of all transactions, with the status of the run.
+    pub fn consistent_line(&self, order: &[u32], status: Status) -> Result<Vec<u8>, NoMemory>
+        ensures { IfOk result (λ line. line.items ≡ json_line (consistent_json self.now.asked.now (records_of self.now.lookup.now) order.now status)) }
+    {
+        object_line(self.alloc, &self.consistent_json(order, status)?)
+    }
+
+    fn anomaly_json(&self, links: &[Link], steps: usize, least: bool) -> Result<Value, AllocError>
+        requires { steps ≡ cost links.now }
+        ensures { IfOk result (λ v. view v ≡ anomaly_json self.now.asked.now (records_of self.now.lookup.now) links.now least) }
+    {
+        let (alloc, asked, lookup) = (self.alloc, self.asked, self.lookup);
+        json!(in alloc; {
+            "answer": "anomaly",
+            "cycle": list_json(alloc, lookup, links)?,
+            "large": is_large(asked.limits),
+            "least": least,
+            "level": level_word(asked.level),
+            "limits": limits_json(alloc, asked.limits)?,
+            "sessions": lookup.graph.sessions().len(),
+            "shape": shape_word(shape_of(links)),
+            "status": Status::Anomaly.code(),
+            "steps": steps,
+            "transactions": committed_count(lookup.graph),
+            "version": asked.version
+        })
+    }
+
+    /// The line of a cycle, and whether none has fewer steps.
+    pub fn anomaly_line(&self, links: &[Link], least: bool) -> Result<Vec<u8>, NoMemory>
+        ensures { IfOk result (λ line. line.items ≡ json_line (anomaly_json self.now.asked.now (records_of self.now.lookup.now) links.now least)) }
+    {
+        let steps = steps_of(links)?;
+        object_line(self.alloc, &self.anomaly_json(links, steps, least)?)
+    }
+
+    fn unresolved_json(&self, faults: &[ReadFault]) -> Result<Value, AllocError>
+        ensures { IfOk result (λ v. view v ≡ unresolved_json self.now.asked.now (records_of self.now.lookup.now) faults.now) }
+    {
+        let (alloc, asked, lookup) = (self.alloc, self.asked, self.lookup);
+        json!(in alloc; {
+            "answer": "unresolved",
+            "faults": list_json(alloc, lookup, faults)?,
+            "large": is_large(asked.limits),
+            "level": level_word(asked.level),
+            "limits": limits_json(alloc, asked.limits)?,
+            "sessions": lookup.graph.sessions().len(),
+            "status": Status::ReadFaults.code(),
+            "transactions": committed_count(lookup.graph),
+            "version": asked.version
+        })
+    }
+
+    /// The line of all read faults.
+    pub fn unresolved_line(&self, faults: &[ReadFault]) -> Result<Vec<u8>, NoMemory>
+        ensures { IfOk result (λ line. line.items ≡ json_line (unresolved_json self.now.asked.now (records_of self.now.lookup.now) faults.now)) }
+    {
+        object_line(self.alloc, &self.unresolved_json(faults)?)
+    }
 }
 
 fn none_json(

@@ -1,7 +1,8 @@
 //! What is found for a snapshot.
-ghost use Rattle.std.specs.Prelude.{◌≡◌, IfOk, true};
+ghost use Rattle.std.specs.Prelude.{◌≡◌, IfOk, MatchResult, true};
 ghost use Rattle.tcc_txn.specs.{Finished.KeepsLimits, Snapshots.Sessions};
-ghost use Rattle.tcc_graph.specs.Levels.{judged};
+ghost use Rattle.tcc_graph.specs.{Levels.judged, declared.level.Level.Level};
+ghost use Rattle.tcc_explain.specs.Explained.{IsAnswerOfSnapshot, IsRefusal};
 ghost use Rattle.tcc_least.specs.Shapes.{AreLeast};
 ghost use Rattle.tcc_large.specs.{Decisions.IsDecision, Explained.IsLargeAnswer};
 ghost use Rattle.tcc_full_run.specs.Found.{IsFound};
@@ -9,14 +10,15 @@ ghost use Rattle.tcc_full_run.specs.Found.{IsFound};
 use std::alloc::Global;
 use std::thread::Threads;
 use tcc_answer::Answer;
-use tcc_explain::{ExplainFault, Gate, explain};
+use tcc_explain::{ExplainFault, Gate};
 use tcc_graph::{LargeGraph, Level, Link};
 use tcc_judge::laws::is_least;
 use tcc_large::{Decision, LargeAnswer, explain_large_with_order};
 use tcc_print::Run;
 use tcc_proving::proved_claim;
 use tcc_reads::{ReadFault, ResolveFault};
-use tcc_txn::{LargeSnapshot, NoMemory, Snapshot};
+use tcc_run::first_answer;
+use tcc_txn::{LargeSnapshot, NoMemory};
 
 /// What is found for a snapshot.
 #[derive(Drop)]
@@ -29,23 +31,12 @@ pub enum Found {
     Unresolved(Vec<ReadFault>),
 }
 
-/// What is found for a small snapshot.
-pub(crate) fn find_small<T: Threads + Sync, G: Gate>(
-    run: &Run<T, G>,
-    snapshot: &Snapshot,
-    level: Level,
-) -> Result<Found, NoMemory>
-    ensures { IfOk result (IsFound level snapshot.now) }
+/// What is found for a small snapshot, by its first answer or its read faults.
+pub(crate) fn found_small(first: Result<Answer, ExplainFault>) -> Result<Found, NoMemory>
+    ensures { (s : Sessions) (level : Level) → KeepsLimits s → MatchResult first (IsAnswerOfSnapshot s level) (IsRefusal s)
+        → IfOk result (IsFound level s) }
 {
-    snapshot.keeps_limits();
-    match explain(
-        run.rt,
-        run.alloc,
-        snapshot,
-        level,
-        run.options.workers,
-        run.gate,
-    ) {
+    match first {
         Ok(answer) => Ok(Found::Answered(answer)),
         Err(ExplainFault::Reads(faults)) => Ok(Found::Unresolved(faults)),
         Err(ExplainFault::NoMemory) => Err(NoMemory),
@@ -96,20 +87,6 @@ fn settled(
     }
 }
 
-/// What is found by what is decided of a snapshot past the small limits, and by an order that may come with a cycle.
-fn found_by(
-    alloc: Global,
-    level: Level,
-    answer: LargeAnswer,
-    order: Option<Vec<u32>>,
-) -> Result<Found, NoMemory>
-    ensures { (s : Sessions) → (KeepsLimits s → ⊥) → IsLargeAnswer s level answer → IfOk result (IsFound level s) }
-{
-    let LargeAnswer { graph, decision } = answer;
-    let settled = settled(alloc, &graph, level, decision, order)?;
-    Ok(Found::Decided(settled))
-}
-
 /// What is found for a large snapshot.
 pub(crate) fn find_large<T: Threads + Sync, G: Gate>(
     run: &Run<T, G>,
@@ -119,10 +96,14 @@ pub(crate) fn find_large<T: Threads + Sync, G: Gate>(
     ensures { IfOk result (IsFound level snapshot.now) }
 {
     if let Some(small) = snapshot.small_copy(run.alloc)? {
-        return find_small(run, &small, level);
+        return found_small(first_answer(run, &small, level));
     }
     match explain_large_with_order(run.alloc, snapshot, level) {
-        Ok((answer, order)) => found_by(run.alloc, level, answer, order),
+        Ok((answer, order)) => {
+            let LargeAnswer { graph, decision } = answer;
+            let settled = settled(run.alloc, &graph, level, decision, order)?;
+            Ok(Found::Decided(settled))
+        }
         Err(ResolveFault::Reads(faults)) => Ok(Found::Unresolved(faults)),
         Err(ResolveFault::NoMemory) => Err(NoMemory),
     }

@@ -3,7 +3,7 @@ ghost use Rattle.std.specs.Prelude.{◌≡◌, ◌++◌, ℕ, Err, IfOk, IfSome,
 ghost use Rattle.tcc_rows.specs.Recordings.{IsRecorded};
 ghost use Rattle.tcc_full_run.specs.{Found.IsFound, Runs.IsFullRun};
 
-use crate::finding::{Found, find_large, find_small};
+use crate::finding::{Found, find_large, found_small};
 use crate::reading::{Failed, within};
 use crate::telling::{tell_fault, tell_found, tell_memory};
 use std::alloc::Global;
@@ -14,6 +14,7 @@ use tcc_full::Asked;
 use tcc_print::Run;
 use tcc_print::notes::{note_last, note_reads};
 use tcc_rows::{LargeRecording, Recording, RowFault, RowFaultKind};
+use tcc_run::first_answer;
 use tcc_txn::{Bounds, LargeLimits, Limits, NoMemory, SmallLimits, SnapshotWithin};
 use tcc_verdict::recorded;
 
@@ -72,7 +73,7 @@ fn run_lawful<T: Threads + Sync, G: Gate, W: Write, N: Write>(
         Limits::Small => {
             let recording: Recording<&[u8]> = recorded(run.alloc, text, notes)?;
             let snapshot = recording.snapshot();
-            let found = find_small(run, snapshot, asked.level);
+            let found = found_small(first_answer(run, snapshot, asked.level));
             Ok(say(run, asked, text, snapshot, found, out, notes))
         }
         Limits::Large => {
@@ -81,22 +82,6 @@ fn run_lawful<T: Threads + Sync, G: Gate, W: Write, N: Write>(
             let found = find_large(run, snapshot, asked.level);
             Ok(say(run, asked, text, snapshot, found, out, notes))
         }
-    }
-}
-
-/// The run of a text that was read whole.
-fn run_text<T: Threads + Sync, G: Gate, W: Write, N: Write>(
-    run: &Run<T, G>,
-    asked: &Asked,
-    text: &[u8],
-    out: &mut W,
-    notes: &mut N,
-) -> u8
-    ensures { IsFullRun asked.now run.now.options.now.required text.now (W.contents out.old) (W.contents out.new) result }
-{
-    match run_lawful(run, asked, text, out, notes) {
-        Ok(code) => code,
-        Err(fault) => tell_fault(run.alloc, asked, &fault, out),
     }
 }
 
@@ -158,7 +143,10 @@ pub fn run_full<T: Threads + Sync, G: Gate, R: Read + Drop, W: Write, N: Write>(
     let mut taken = reader.take(asked.limits.bytes() + 1);
     let mut text = Vec::new(run.alloc);
     match taken.read_to_end(&mut text) {
-        Ok(_) => run_text(run, asked, &text, out, notes),
+        Ok(_) => match run_lawful(run, asked, &text, out, notes) {
+            Ok(code) => code,
+            Err(fault) => tell_fault(run.alloc, asked, &fault, out),
+        },
         Err(error) if error.kind() == ErrorKind::OutOfMemory => {
             tell_memory(run.alloc, asked, out)
         }

@@ -1,7 +1,7 @@
 //! What is told of a snapshot, or why nothing was judged, and the number that the run then ends with.
 ghost use Rattle.std.specs.Prelude.{◌≡◌, ◌⊎◌, IfOk, true, false};
 ghost use Rattle.tcc_answer.specs.Json.{json_line};
-ghost use Rattle.tcc_full.specs.{Objects.anomaly_json, Records.records_of, Rows.HasRowsOf, declared.rows.OperationRows.OperationRows};
+ghost use Rattle.tcc_full.specs.{Records.records_of, Rows.HasRowsOf, declared.rows.OperationRows.OperationRows};
 ghost use Rattle.tcc_full_run.specs.Found.{found_json, found_status, order_json, records_by};
 ghost use Rattle.tcc_full_run.specs.Runs.{TellsDevice, TellsFault, TellsFound, TellsMemory};
 
@@ -9,13 +9,9 @@ use crate::finding::Found;
 use std::alloc::Global;
 use std::io::Write;
 use tcc_answer::{Answer, Labels};
-use tcc_full::{
-    Asked, Lookup, anomaly_line, consistent_line, ended_line, operation_rows, row_line,
-    unresolved_line,
-};
-use tcc_graph::{LargeGraph, Link};
+use tcc_full::{Asked, Lookup, Report, ended_line, operation_rows, row_line};
+use tcc_graph::LargeGraph;
 use tcc_large::Decision;
-use tcc_print::large::steps_of;
 use tcc_print::printing::{print_memory, print_text};
 use tcc_print::status::{order_status, row_status};
 use tcc_print::{Run, Status};
@@ -23,56 +19,32 @@ use tcc_reads::{Traced, resolve_traced};
 use tcc_rows::{RowFault, RowFaultKind};
 use tcc_txn::{Bounds, NoMemory, SnapshotWithin};
 
-/// The line of a cycle, and whether none has fewer steps.
-fn cycle_line<B: Bounds>(
-    alloc: Global,
-    asked: &Asked,
-    lookup: &Lookup<B>,
-    links: &[Link],
-    least: bool,
-) -> Result<Vec<u8>, NoMemory>
-    ensures { IfOk result (λ line. line.items ≡ json_line (anomaly_json asked.now (records_of lookup.now) links.now least)) }
-{
-    let steps = steps_of(links)?;
-    anomaly_line(alloc, asked, lookup, links, steps, least)
-}
-
 /// The line of an order, where so many transactions are required.
 fn order_line<B: Bounds>(
-    alloc: Global,
-    asked: &Asked,
+    report: &Report<B>,
     required: u32,
-    lookup: &Lookup<B>,
     order: &[u32],
 ) -> Result<Vec<u8>, NoMemory>
-    ensures { IfOk result (λ line. line.items ≡ json_line (order_json asked.now required (records_of lookup.now) order.now)) }
+    ensures { IfOk result (λ line. line.items ≡ json_line (order_json report.now.asked.now required (records_of report.now.lookup.now) order.now)) }
 {
-    consistent_line(alloc, asked, lookup, order, order_status(order, required))
+    report.consistent_line(order, order_status(order, required))
 }
 
 /// The line of what is found, where so many transactions are required of an order.
 fn found_line<B: Bounds>(
-    alloc: Global,
-    asked: &Asked,
+    report: &Report<B>,
     required: u32,
-    lookup: &Lookup<B>,
     found: &Found,
 ) -> Result<Vec<u8>, NoMemory>
-    ensures { IfOk result (λ line. line.items ≡ json_line (found_json asked.now required (records_of lookup.now) found.now)) }
+    ensures { IfOk result (λ line. line.items ≡ json_line (found_json report.now.asked.now required (records_of report.now.lookup.now) found.now)) }
 {
     match found {
-        Found::Answered(Answer::Commit(commit)) => {
-            order_line(alloc, asked, required, lookup, commit.order())
-        }
-        Found::Decided(Decision::Order(order)) => {
-            order_line(alloc, asked, required, lookup, order)
-        }
-        Found::Answered(Answer::Anomaly(anomaly)) => {
-            cycle_line(alloc, asked, lookup, anomaly.links(), true)
-        }
-        Found::Decided(Decision::Least(links)) => cycle_line(alloc, asked, lookup, links, true),
-        Found::Decided(Decision::Cycle(links)) => cycle_line(alloc, asked, lookup, links, false),
-        Found::Unresolved(faults) => unresolved_line(alloc, asked, lookup, faults),
+        Found::Answered(Answer::Commit(commit)) => order_line(report, required, commit.order()),
+        Found::Decided(Decision::Order(order)) => order_line(report, required, order),
+        Found::Answered(Answer::Anomaly(anomaly)) => report.anomaly_line(anomaly.links(), true),
+        Found::Decided(Decision::Least(links)) => report.anomaly_line(links, true),
+        Found::Decided(Decision::Cycle(links)) => report.anomaly_line(links, false),
+        Found::Unresolved(faults) => report.unresolved_line(faults),
     }
 }
 
@@ -111,7 +83,12 @@ fn told_line<T, G, B: Bounds>(
         labels: &labels,
         rows: &rows,
     };
-    found_line(alloc, asked, run.options.required, &lookup, found)
+    let report = Report {
+        alloc,
+        asked,
+        lookup: &lookup,
+    };
+    found_line(&report, run.options.required, found)
 }
 
 /// Tells that memory is out.

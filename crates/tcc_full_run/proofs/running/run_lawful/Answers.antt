@@ -14,7 +14,7 @@ pub returns-in_ok-recording-in-Small : goal.returns-in_ok-recording-in-Small
 returns-in_ok-recording-in-Small g c =
     c.say.ensures
     (recorded _ _ _ c.in_ok-recording-in-Small.recording.snapshot _ c.in-Small.is c.snapshot-snapshot.ensures.value c.in_ok-recording-in-Small.ensures)
-    c.find_small-found.ensures
+    (c.found_small-found.ensures _ _ c.first_answer.ensures.limits c.first_answer.ensures.answer)
 
 pub returns-in_ok-recording-in-Large : goal.returns-in_ok-recording-in-Large
 returns-in_ok-recording-in-Large g c =

@@ -12,7 +12,7 @@ returns-in-Answered-Commit g c =
 pub returns-in-Answered-Anomaly : goal.returns-in-Answered-Anomaly
 returns-in-Answered-Anomaly g c =
     let is : c.args.found.now ≡ found.Answered (answer.Anomaly c.in-Answered-Anomaly.anomaly) = search rules in
-    rw is (rw c.links.ensures at c.cycle_line.ensures)
+    rw is (rw c.links.ensures at c.anomaly_line.ensures)
 
 pub returns-in-Decided-Order : goal.returns-in-Decided-Order
 returns-in-Decided-Order g c =
@@ -22,12 +22,12 @@ returns-in-Decided-Order g c =
 pub returns-in-Decided-Least : goal.returns-in-Decided-Least
 returns-in-Decided-Least g c =
     let is : c.args.found.now ≡ found.Decided (decision.Least c.in-Decided-Least.links) = search rules in
-    rw is (rw c.deref-in-Decided-Least.ensures.value at c.cycle_line-in-Decided-Least.ensures)
+    rw is (rw c.deref-in-Decided-Least.ensures.value at c.anomaly_line-in-Decided-Least.ensures)
 
 pub returns-in-Decided-Cycle : goal.returns-in-Decided-Cycle
 returns-in-Decided-Cycle g c =
     let is : c.args.found.now ≡ found.Decided (decision.Cycle c.in-Decided-Cycle.links) = search rules in
-    rw is (rw c.deref-in-Decided-Cycle.ensures.value at c.cycle_line-in-Decided-Cycle.ensures)
+    rw is (rw c.deref-in-Decided-Cycle.ensures.value at c.anomaly_line-in-Decided-Cycle.ensures)
 
 pub returns-in-Unresolved : goal.returns-in-Unresolved
 returns-in-Unresolved g c = rw c.in-Unresolved.is (rw c.deref-in-Unresolved.ensures.value at c.unresolved_line.ensures)

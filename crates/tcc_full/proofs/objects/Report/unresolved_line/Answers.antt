@@ -2,7 +2,7 @@ use Rattle.std.proofs.Common.{◌∙◌, ap}
 use Rattle.serde_json.specs.Written.{has_float}
 use Rattle.tcc_full.specs.Records.{records_of}
 use Rattle.tcc_full.proofs.NoFloats.{in_unresolved}
-use Rattle.tcc_full.proofs.objects.unresolved_line.Goals as goal
+use Rattle.tcc_full.proofs.objects.Report.unresolved_line.Goals as goal
 
 pub object_line-requires : goal.object_line-requires
-object_line-requires g c = ap has_float c.in_ok-unresolved_json.ensures ∙ in_unresolved c.args.asked.now (records_of c.args.lookup.now) c.args.faults.now
+object_line-requires g c = ap has_float c.in_ok-unresolved_json.ensures ∙ in_unresolved c.args.self.now.asked.now (records_of c.args.self.now.lookup.now) c.args.faults.now

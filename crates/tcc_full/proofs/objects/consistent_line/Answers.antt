@@ -1,8 +1,0 @@
-use Rattle.std.proofs.Common.{◌∙◌, ap}
-use Rattle.serde_json.specs.Written.{has_float}
-use Rattle.tcc_full.specs.Records.{records_of}
-use Rattle.tcc_full.proofs.NoFloats.{in_consistent}
-use Rattle.tcc_full.proofs.objects.consistent_line.Goals as goal
-
-pub object_line-requires : goal.object_line-requires
-object_line-requires g c = ap has_float c.in_ok-consistent_json.ensures ∙ in_consistent c.args.asked.now (records_of c.args.lookup.now) c.args.order.now c.args.status
