@@ -20,6 +20,13 @@ use tcc_survey_run::{SurveyOptions, run_survey};
 use tcc_words::{Request, VERSION, read};
 use watch::Watch;
 
+/// The paths of the files for what comes behind the answers, if they are given: the certificate of the last, and a slice.
+#[derive(Clone, Copy)]
+struct Paths<'a> {
+    certificate: Option<&'a str>,
+    slice: Option<&'a str>,
+}
+
 /// Runs `explain --large`, with files for the certificate and for a slice if they are given. At a terminal a run that takes longer
 /// shows what it is doing.
 fn run_shown<W: Write>(
@@ -64,11 +71,10 @@ fn explain_large<W: Write>(
     threads: &(impl Threads + Wait + Clock + Sync),
     options: Options,
     input: Telling<'_, Input>,
-    certificate: &Option<String>,
-    slice: &Option<String>,
+    paths: Paths<'_>,
     out: &mut W,
 ) -> u8 {
-    match open_outputs(rt, certificate.as_deref(), slice.as_deref(), input.stream()) {
+    match open_outputs(rt, paths.certificate, paths.slice, input.stream()) {
         Ok(files) => {
             let (certificate, slice) = files;
             run_shown(rt, threads, options, input, certificate, slice, out)
@@ -84,10 +90,10 @@ fn explain<W: Write>(
     threads: &(impl Threads + Wait + Clock + Sync),
     options: Options,
     input: Telling<'_, Input>,
-    certificate: &Option<String>,
+    certificate: Option<&str>,
     out: &mut W,
 ) -> u8 {
-    match open_output(rt, certificate.as_deref(), input.stream()) {
+    match open_output(rt, certificate, input.stream()) {
         Ok(file) => {
             let mut file = file;
             let mut notes = rt.stderr();
@@ -145,17 +151,16 @@ fn explain_records<W: Write>(
     threads: &(impl Threads + Wait + Clock + Sync),
     options: Options,
     history: Option<&str>,
-    certificate: &Option<String>,
+    paths: Paths<'_>,
     large: bool,
-    slice: &Option<String>,
     out: &mut W,
 ) -> u8 {
     match open_input(rt, history) {
         Ok(input) => {
             if large {
-                explain_large(rt, threads, options, input, certificate, slice, out)
+                explain_large(rt, threads, options, input, paths, out)
             } else {
-                explain(rt, threads, options, input, certificate, out)
+                explain(rt, threads, options, input, paths.certificate, out)
             }
         }
         Err(error) => print_unopened(error.kind(), options.json, out),
@@ -194,16 +199,12 @@ fn main(rt: HostRuntime) -> ExitCode {
             if full {
                 explain_full(&rt, &rt, options, large, history.as_deref(), &mut out)
             } else {
-                explain_records(
-                    &rt,
-                    &rt,
-                    options,
-                    history.as_deref(),
-                    &certificate,
-                    large,
-                    &slice,
-                    &mut out,
-                )
+                let paths = Paths {
+                    certificate: certificate.as_deref(),
+                    slice: slice.as_deref(),
+                };
+                let history = history.as_deref();
+                explain_records(&rt, &rt, options, history, paths, large, &mut out)
             }
         }
         Ok(

@@ -2,7 +2,8 @@
 ghost use Rattle.std.specs.Prelude.{◌≡◌, IfOk, MatchResult, true};
 ghost use Rattle.tcc_txn.specs.{Finished.KeepsLimits, Snapshots.Sessions};
 ghost use Rattle.tcc_graph.specs.{Levels.judged, declared.level.Level.Level};
-ghost use Rattle.tcc_explain.specs.Explained.{IsAnswerOfSnapshot, IsRefusal};
+ghost use Rattle.tcc_reads.specs.Refusals.{IsRefusal};
+ghost use Rattle.tcc_explain.specs.Explained.{IsAnswerOfSnapshot};
 ghost use Rattle.tcc_least.specs.Shapes.{AreLeast};
 ghost use Rattle.tcc_large.specs.{Decisions.IsDecision, Explained.IsLargeAnswer};
 ghost use Rattle.tcc_full_run.specs.Found.{IsFound};

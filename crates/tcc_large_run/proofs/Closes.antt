@@ -12,7 +12,7 @@ use Rattle.tcc_print.specs.declared.options.Options.{Options}
 use Rattle.tcc_print.specs.declared.status.Status.TheVariants.{Device, Memory}
 use Rattle.tcc_print.proofs.LastSaid.{certified_last, device_code, last_of_all, texts_end}
 use Rattle.tcc_large_run.specs.LargeClosing.{IsAcceptedWith, PrintsDecided}
-use Rattle.tcc_large_run.specs.LargeRuns.{AllGoesOut, CertificateStops, Files, IsLargeRun, IsSaidOfSnapshot, Stops, answers_of, finished}
+use Rattle.tcc_large_run.specs.LargeRuns.{AllGoesOut, CertificateStops, Files, IsLargeRun, IsSaidWithLarge, Stops, answers_of, finished}
 use Rattle.tcc_large_run.specs.private.Laws.{Laws}
 use Rattle.tcc_large_run.proofs.Accepted.{said_accepted, said_certified}
 use Rattle.tcc_large_run.proofs.GoesOut.{goes_out}
@@ -24,18 +24,18 @@ module _ (laws : Laws) (options : Options) (records : List ℕ) where
   -- ---- what is left in a file
 
   of_said : (last : Said) (text : List ℕ) → last.certificate ≡ Some text → (answers_of records).fault ≡ None
-      → IsSaidOfSnapshot options (finished records) last → IsAcceptedWith options records text
+      → IsSaidWithLarge options (finished records) last → IsAcceptedWith options records text
   of_said last text has unfaulted (inl (resolved, is)) = said_accepted laws options records unfaulted resolved last text has is
   of_said last text has unfaulted (inr (faulty, same)) = absurd (nothing text (sym (ap (λ (s : Said). s.certificate) same) ∙ has))
 
   closes : (said : List Said) (last : Said) (text : List ℕ) → last_or None said ≡ Some last → last.certificate ≡ Some text
-      → IsWhole (IsSaidOfSnapshot options) (answers_of records) said ⊎ IsEnded Large (IsSaidOfSnapshot options) options records said
+      → IsWhole (IsSaidWithLarge options) (answers_of records) said ⊎ IsEnded Large (IsSaidWithLarge options) options records said
       → IsAcceptedWith options records text
   closes said last text end has ends =
-      let all = certified_last Large (IsSaidOfSnapshot options) options records said last end ends text has in of_said last text has all.0 all.1
+      let all = certified_last Large (IsSaidWithLarge options) options records said last end ends text has in of_said last text has all.0 all.1
 
   module _ (text : List ℕ) (some : text ≢ []) (said : List Said) (last : Said) (end : last_or None said ≡ Some last)
-      (ends : IsWhole (IsSaidOfSnapshot options) (answers_of records) said ⊎ IsEnded Large (IsSaidOfSnapshot options) options records said) where
+      (ends : IsWhole (IsSaidWithLarge options) (answers_of records) said ⊎ IsEnded Large (IsSaidWithLarge options) options records said) where
     of_gains : Gains (Some (Some [])) (Some (Some text)) (unwrap_or last.certificate []) → IsAcceptedWith options records text
     of_gains gains = go last.certificate refl
       where
@@ -76,7 +76,7 @@ module _ (laws : Laws) (options : Options) (records : List ℕ) where
     Printed = PrintsDecided options records before after files files' code
 
     of_resolved : (said : List Said) (last : Said) → last_or None said ≡ Some last
-        → AllGoesOut options (finished records) before after files files' (texts said) last code → IsSaidOfSnapshot options (finished records) last → Printed
+        → AllGoesOut options (finished records) before after files files' (texts said) last code → IsSaidWithLarge options (finished records) last → Printed
     of_resolved said last end (out, gains, sliced, ends_by) (inl (none, is)) =
         let (front, whole) = texts_end said last end in
         let (text, has) = said_certified laws options records unfaulted resolved last is in
@@ -96,10 +96,10 @@ module _ (laws : Laws) (options : Options) (records : List ℕ) where
 
     of_ends : (said : List Said) (last : Said) → last_or None said ≡ Some last
         → AllGoesOut options (finished records) before after files files' (texts said) last code
-        → IsWhole (IsSaidOfSnapshot options) (answers_of records) said ⊎ IsEnded Large (IsSaidOfSnapshot options) options records said → Printed
+        → IsWhole (IsSaidWithLarge options) (answers_of records) said ⊎ IsEnded Large (IsSaidWithLarge options) options records said → Printed
     of_ends said last end goes ends =
         of_resolved said last end goes
-        (last_of_all Large (IsSaidOfSnapshot options) options records said last end ends unfaulted code fine space goes.3)
+        (last_of_all Large (IsSaidWithLarge options) options records said last end ends unfaulted code fine space goes.3)
 
     pub prints : IsLargeRun options records before after files files' code → Printed
     prints run = let (said, last, ends, end, goes) = goes_out options records before after files files' code fine space run in of_ends said last end goes ends

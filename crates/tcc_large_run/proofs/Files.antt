@@ -36,22 +36,17 @@ unmade certificate claim (Ok done) file is out = absurd out
 unmade {A = A} certificate claim (Err why) file is out =
     subst (λ (w : WriteFault). SendsCertificate {A = A} certificate (Err w) file file) (sym out) (claim, is, Gains-none (Some file))
 
--- the run stops at a file that is given
-pub device_stops : (options : Options) (last : Said) (before after file file' : Option (List ℕ)) (why : WriteFault) (code : ℕ)
-    → why ≡ write.Device → SendsCertificate {A = Unit {0}} last.certificate (Err why) file file' → Prints before after (device_line options.json) Device code
-    → CertificateStops options last before after (Some file) (Some file') code
-device_stops options last before after file file' why code device went prints =
-    let certificate : SendsCertificate {A = Unit {0}} last.certificate (Err write.Device) file file' =
-    subst (λ (why : WriteFault). SendsCertificate {A = Unit {0}} last.certificate (Err why) file file') device went in
-    inl (certificate.0, certificate.1, (certificate.2.0, certificate.2.1, nothing file), prints)
+-- what is printed where a file stops a run
+abbrev pub fault_printed : Options → WriteFault → Option (List ℕ) → Option (List ℕ) → ℕ → Type 0
+fault_printed options write.Device before after code = Prints before after (device_line options.json) Device code
+fault_printed options write.NoMemory before after code = Prints before after (memory_line options.json) Memory code
 
-pub memory_stops : (options : Options) (last : Said) (before after file file' : Option (List ℕ)) (why : WriteFault) (code : ℕ)
-    → why ≡ write.NoMemory → SendsCertificate {A = Unit {0}} last.certificate (Err why) file file' → Prints before after (memory_line options.json) Memory code
+-- the run stops at a file that is given
+pub certificate_stops : (options : Options) (last : Said) (before after file file' : Option (List ℕ)) (why : WriteFault) (code : ℕ)
+    → SendsCertificate {A = Unit {0}} last.certificate (Err why) file file' → fault_printed options why before after code
     → CertificateStops options last before after (Some file) (Some file') code
-memory_stops options last before after file file' why code memory went prints =
-    let certificate : SendsCertificate {A = Unit {0}} last.certificate (Err write.NoMemory) file file' =
-    subst (λ (why : WriteFault). SendsCertificate {A = Unit {0}} last.certificate (Err why) file file') memory went in
-    inr (certificate.0, certificate.1, (certificate.2, nothing file), prints)
+certificate_stops options last before after file file' write.Device code (text, is, n, part) prints = inl (text, is, (n, part, nothing file), prints)
+certificate_stops options last before after file file' write.NoMemory code (claim, is, none) prints = inr (claim, is, (none, nothing file), prints)
 
 -- the slice of what was said
 pub slice_given : {A : Type 0} (options : Options) (whole : Sessions) (o : Outcome) (links : List Link) (r : Result A ℕ) (before after file file' : Option (List ℕ))

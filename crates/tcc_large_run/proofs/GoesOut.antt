@@ -7,7 +7,7 @@ use Rattle.tcc_print.specs.Statuses.{code_of}
 use Rattle.tcc_print.specs.declared.options.Options.{Options}
 use Rattle.tcc_print.specs.declared.status.Status.TheVariants.{Device, Memory}
 use Rattle.tcc_print.proofs.LastSaid.{device_code}
-use Rattle.tcc_large_run.specs.LargeRuns.{AllGoesOut, CertificateStops, FileFails, Files, IsLargeRun, IsSaidOfSnapshot, SliceStops, finished}
+use Rattle.tcc_large_run.specs.LargeRuns.{AllGoesOut, CertificateStops, FileFails, Files, IsLargeRun, IsSaidWithLarge, SliceStops, finished}
 
 -- what is printed where memory is out has its status, or that of a device
 memory_code : (before after : Option (List ℕ)) (text : List ℕ) (code : ℕ) → Prints before after text Memory code → (code ≡ code_of Memory) ⊎ (code ≡ code_of Device)
@@ -35,7 +35,7 @@ module _ (options : Options) (records : List ℕ) (before after : Option (List �
   file_fails text last (between, out, inr stops) = slice_fails last between stops.1
 
   pub goes_out : IsLargeRun options records before after files files' code
-      → IsCourse Large (IsSaidOfSnapshot options) options records
+      → IsCourse Large (IsSaidWithLarge options) options records
       (λ text last. AllGoesOut options (finished records) before after files files' text last code)
   goes_out (said, last, ends, end, inl goes) = (said, last, ends, end, goes)
   goes_out (said, last, ends, end, inr (inl fails)) = absurd (fine fails.0.0.1)

@@ -21,7 +21,7 @@ use Rattle.tcc_large.specs.declared.decision.Decision.TheVariants as decision
 use Rattle.tcc_print.specs.Courses.{Said, faults_said}
 use Rattle.tcc_print.specs.declared.options.Options.{Options}
 use Rattle.tcc_print.specs.declared.status.Status.TheVariants.{Anomaly}
-use Rattle.tcc_large_run.specs.LargeRuns.{HasSaid, IsProvedLeast, IsSaidOfSnapshot, bare_cycle, claim_of, decision_said, proved_claim, proved_said}
+use Rattle.tcc_large_run.specs.LargeRuns.{HasSaid, IsProvedLeast, IsSaidWithLarge, bare_cycle, claim_of, decision_said, proved_claim, proved_said}
 use Rattle.tcc_large_run.specs.private.Stages.{IsDecided, IsFoundOf, IsOutcome, IsProved, answer_links, outcome_links, outcome_of, outcome_said}
 use Rattle.tcc_large_run.specs.declared.outcome.Outcome.{Outcome}
 use Rattle.tcc_large_run.specs.declared.outcome.Outcome.TheVariants as outcome
@@ -37,7 +37,7 @@ decided_said : (options : Options) (s : Sessions) (h : History) (o : Outcome) (i
 decided_said options s h o is =
     ap (outcome_said options) is.outcome ∙ decided options h is.decided ∙ ap (λ (h : History). decision_said options h is.decided) is.own
 
-past_limits : (options : Options) (s : Sessions) (h : History) (o : Outcome) → IsDecided options.level s h o → IsSaidOfSnapshot options s (outcome_said options o)
+past_limits : (options : Options) (s : Sessions) (h : History) (o : Outcome) → IsDecided options.level s h o → IsSaidWithLarge options s (outcome_said options o)
 past_limits options s h o is =
     inl (
       is.resolved,
@@ -50,7 +50,7 @@ proved_is : (options : Options) (s : Sessions) (h : History) (o : Outcome) (is :
 proved_is options s h o is =
     ap (outcome_said options) is.outcome ∙ ap (λ (h : History). proved_said options h is.links is.runs) is.own
 
-past_proved : (options : Options) (s : Sessions) (h : History) (o : Outcome) → IsProved options.level s h o → IsSaidOfSnapshot options s (outcome_said options o)
+past_proved : (options : Options) (s : Sessions) (h : History) (o : Outcome) → IsProved options.level s h o → IsSaidWithLarge options s (outcome_said options o)
 past_proved options s h o is =
     inl (
       is.resolved,
@@ -62,7 +62,7 @@ past_proved options s h o is =
       ),
     )
 
-pub said_of : (options : Options) (s : Sessions) (o : Outcome) → IsOutcome options.level s o → IsSaidOfSnapshot options s (outcome_said options o)
+pub said_of : (options : Options) (s : Sessions) (o : Outcome) → IsOutcome options.level s o → IsSaidWithLarge options s (outcome_said options o)
 said_of options s (outcome.Unresolved faults) (faulty, same) = inr (faulty, ap (faults_said options) same)
 said_of options s (outcome.Small a) (resolved, keeps, is) = inl (resolved, inl (keeps, a, is, refl))
 said_of options s (outcome.Large h a) is = past_limits options s h (outcome.Large h a) is

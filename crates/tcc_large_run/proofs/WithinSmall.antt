@@ -26,16 +26,16 @@ use Rattle.tcc_large_run.proofs.GoesOut.{goes_out}
 
 -- ---- of one snapshot
 
-said_small : (options : Options) (s : Sessions) (said : Said) → KeepsLimits s → large.IsSaidOfSnapshot options s said → small.IsSaidOfSnapshot options s said
+said_small : (options : Options) (s : Sessions) (said : Said) → KeepsLimits s → large.IsSaidWithLarge options s said → small.IsSaidOfSnapshot options s said
 said_small options s said keeps (inl (none, inl (kept, a, is, same))) = inl (none, a, is, same)
 said_small options s said keeps (inl (none, inr (beyond, claim, is, room))) = absurd (beyond keeps)
 said_small options s said keeps (inr faulty) = inr faulty
 
-said_large : (options : Options) (s : Sessions) (said : Said) → KeepsLimits s → small.IsSaidOfSnapshot options s said → large.IsSaidOfSnapshot options s said
+said_large : (options : Options) (s : Sessions) (said : Said) → KeepsLimits s → small.IsSaidOfSnapshot options s said → large.IsSaidWithLarge options s said
 said_large options s said keeps (inl (none, a, is, same)) = inl (none, inl (keeps, a, is, same))
 said_large options s said keeps (inr faulty) = inr faulty
 
-pub said_alike : (options : Options) (s : Sessions) (said : Said) → KeepsLimits s → large.IsSaidOfSnapshot options s said ↔ small.IsSaidOfSnapshot options s said
+pub said_alike : (options : Options) (s : Sessions) (said : Said) → KeepsLimits s → large.IsSaidWithLarge options s said ↔ small.IsSaidOfSnapshot options s said
 said_alike options s said keeps = (said_small options s said keeps, said_large options s said keeps)
 
 -- ---- of several
@@ -101,20 +101,20 @@ module _ (law : (text : List ℕ) (n : ℕ) → KeepsLimits (finished_in (take n
       whole = ap (take (length items)) (sym (append-nil items)) ∙ take-append_seam items []
 
   -- all that was said
-  pub whole_small : (said : List Said) → IsWhole (large.IsSaidOfSnapshot options) (large.answers_of records) said
+  pub whole_small : (said : List Said) → IsWhole (large.IsSaidWithLarge options) (large.answers_of records) said
       → IsWhole (small.IsSaidOfSnapshot options) (rows.answers_of records) said
   whole_small said is =
-      let here : IsWhole (large.IsSaidOfSnapshot options) (rows.answers_of records) said
-      = subst (λ (all : rows.Answers). IsWhole (large.IsSaidOfSnapshot options) all said) same is in
-      (here.0, (each_said (large.IsSaidOfSnapshot options) (small.IsSaidOfSnapshot options) (said_small options) (sealed_in items ++ at_end items) said answered here.1.0, here.1.1))
+      let here : IsWhole (large.IsSaidWithLarge options) (rows.answers_of records) said
+      = subst (λ (all : rows.Answers). IsWhole (large.IsSaidWithLarge options) all said) same is in
+      (here.0, (each_said (large.IsSaidWithLarge options) (small.IsSaidOfSnapshot options) (said_small options) (sealed_in items ++ at_end items) said answered here.1.0, here.1.1))
 
   whole_large : (said : List Said) → IsWhole (small.IsSaidOfSnapshot options) (rows.answers_of records) said
-      → IsWhole (large.IsSaidOfSnapshot options) (large.answers_of records) said
+      → IsWhole (large.IsSaidWithLarge options) (large.answers_of records) said
   whole_large said is =
-      subst (λ (all : rows.Answers). IsWhole (large.IsSaidOfSnapshot options) all said) (sym same)
-      (is.0, (each_said (small.IsSaidOfSnapshot options) (large.IsSaidOfSnapshot options) (said_large options) (sealed_in items ++ at_end items) said answered is.1.0, is.1.1))
+      subst (λ (all : rows.Answers). IsWhole (large.IsSaidWithLarge options) all said) (sym same)
+      (is.0, (each_said (small.IsSaidOfSnapshot options) (large.IsSaidWithLarge options) (said_large options) (sealed_in items ++ at_end items) said answered is.1.0, is.1.1))
 
-  pub whole_alike : (said : List Said) → IsWhole (large.IsSaidOfSnapshot options) (large.answers_of records) said
+  pub whole_alike : (said : List Said) → IsWhole (large.IsSaidWithLarge options) (large.answers_of records) said
       ↔ small.IsWhole options (rows.answers_of records) said
   whole_alike said = (whole_small said, whole_large said)
 
@@ -138,50 +138,50 @@ module _ (law : (text : List ℕ) (n : ℕ) → KeepsLimits (finished_in (take n
   may_large n (halt.Reads faults) may = absurd may
   may_large n (halt.Text fault) may = absurd may
 
-  ended_small : (said : List Said) → IsEnded Large (large.IsSaidOfSnapshot options) options records said
+  ended_small : (said : List Said) → IsEnded Large (large.IsSaidWithLarge options) options records said
       → IsEnded Small (small.IsSaidOfSnapshot options) options records said
   ended_small said (answers, (n, why, may, are, is)) =
-      let here : AreSaid (large.IsSaidOfSnapshot options) (sealed_in (take n items)) answers
-      = subst (λ (all : rows.Answers). AreSaid (large.IsSaidOfSnapshot options) (sealed_in (take n all.items)) answers) same are in (
+      let here : AreSaid (large.IsSaidWithLarge options) (sealed_in (take n items)) answers
+      = subst (λ (all : rows.Answers). AreSaid (large.IsSaidWithLarge options) (sealed_in (take n all.items)) answers) same are in (
         answers,
         (
           n,
           why,
           may_small n why may,
-          (each_said (large.IsSaidOfSnapshot options) (small.IsSaidOfSnapshot options) (said_small options) (sealed_in (take n items)) answers (sealed n) here.0, here.1),
+          (each_said (large.IsSaidWithLarge options) (small.IsSaidOfSnapshot options) (said_small options) (sealed_in (take n items)) answers (sealed n) here.0, here.1),
           is,
         ),
       )
 
   ended_large : (said : List Said) → IsEnded Small (small.IsSaidOfSnapshot options) options records said
-      → IsEnded Large (large.IsSaidOfSnapshot options) options records said
+      → IsEnded Large (large.IsSaidWithLarge options) options records said
   ended_large said (answers, (n, why, may, are, is)) = (
     answers,
     (
       n,
       why,
       may_large n why may,
-      subst (λ (all : rows.Answers). AreSaid (large.IsSaidOfSnapshot options) (sealed_in (take n all.items)) answers) (sym same)
-          (each_said (small.IsSaidOfSnapshot options) (large.IsSaidOfSnapshot options) (said_large options) (sealed_in (take n items)) answers (sealed n) are.0, are.1),
+      subst (λ (all : rows.Answers). AreSaid (large.IsSaidWithLarge options) (sealed_in (take n all.items)) answers) (sym same)
+          (each_said (small.IsSaidOfSnapshot options) (large.IsSaidWithLarge options) (said_large options) (sealed_in (take n items)) answers (sealed n) are.0, are.1),
       is,
     ),
   )
 
-  pub ended_alike : (said : List Said) → IsEnded Large (large.IsSaidOfSnapshot options) options records said
+  pub ended_alike : (said : List Said) → IsEnded Large (large.IsSaidWithLarge options) options records said
       ↔ small.IsEnded options records said
   ended_alike said = (ended_small said, ended_large said)
 
   -- ---- what goes out
 
   ends_small : (said : List Said)
-      → IsWhole (large.IsSaidOfSnapshot options) (large.answers_of records) said ⊎ IsEnded Large (large.IsSaidOfSnapshot options) options records said
+      → IsWhole (large.IsSaidWithLarge options) (large.answers_of records) said ⊎ IsEnded Large (large.IsSaidWithLarge options) options records said
       → IsWhole (small.IsSaidOfSnapshot options) (rows.answers_of records) said ⊎ IsEnded Small (small.IsSaidOfSnapshot options) options records said
   ends_small said (inl whole) = inl (whole_small said whole)
   ends_small said (inr ended) = inr (ended_small said ended)
 
   ends_large : (said : List Said)
       → IsWhole (small.IsSaidOfSnapshot options) (rows.answers_of records) said ⊎ IsEnded Small (small.IsSaidOfSnapshot options) options records said
-      → IsWhole (large.IsSaidOfSnapshot options) (large.answers_of records) said ⊎ IsEnded Large (large.IsSaidOfSnapshot options) options records said
+      → IsWhole (large.IsSaidWithLarge options) (large.answers_of records) said ⊎ IsEnded Large (large.IsSaidWithLarge options) options records said
   ends_large said (inl whole) = inl (whole_large said whole)
   ends_large said (inr ended) = inr (ended_large said ended)
 

@@ -117,8 +117,8 @@ IsResolvedAs options s said =
     ⊎ ((KeepsLimits s → ⊥) × (claim : LargeCertificate) × IsClaimedOf options (history s) claim said × HasLargeText claim)
 
 -- what is said of a snapshot; all its read faults, where there are some
-abbrev pub IsSaidOfSnapshot : Options → Sessions → Said → Type 0
-IsSaidOfSnapshot options s said =
+abbrev pub IsSaidWithLarge : Options → Sessions → Said → Type 0
+IsSaidWithLarge options s said =
     ((read_faults s ≡ []) × IsResolvedAs options s said)
     ⊎ ((read_faults s ≢ []) × (said ≡ faults_said options (read_faults s)))
 
@@ -212,7 +212,7 @@ FileFails options whole before after files files' text last code =
 -- the last
 abbrev pub IsLargeRun : Options → List ℕ → Option (List ℕ) → Option (List ℕ) → Files → Files → ℕ → Type 0
 IsLargeRun options bytes before after files files' code =
-    IsCourse Large (IsSaidOfSnapshot options) options bytes
+    IsCourse Large (IsSaidWithLarge options) options bytes
     (λ text last. AllGoesOut options (finished bytes) before after files files' text last code
     ⊎ ((TextFails before after files.certificate files'.certificate text code × Gains files.slice files'.slice [])
     ⊎ FileFails options (finished bytes) before after files files' text last code))

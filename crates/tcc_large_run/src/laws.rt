@@ -9,8 +9,8 @@ ghost use Rattle.tcc_large.specs.{Decisions.IsDecision, declared.decision.Decisi
 ghost use Rattle.tcc_print.specs.{Statuses.code_of, declared.options.Options.Options, declared.status.Status.TheVariants.Device, declared.status.Status.TheVariants.Memory};
 ghost use Rattle.tcc_print.specs.Courses.{Contents, Gains, IsEnded, IsWhole, Said};
 ghost use Rattle.tcc_large_run.specs.{LargeClosing.IsAcceptedWith, LargeClosing.PrintsDecided, private.Laws.Laws};
-ghost use Rattle.tcc_large_run.specs.LargeRuns.{Files, IsAcceptedOf, IsLargeRun, IsSaidOfSnapshot, answers_of, decision_said, finished};
-ghost use Rattle.tcc_run.specs.Runs.{AskAlike, IsRun, IsSaidOfSnapshot as IsSaidSmall};
+ghost use Rattle.tcc_large_run.specs.LargeRuns.{Files, IsAcceptedOf, IsLargeRun, IsSaidWithLarge, answers_of, decision_said, finished};
+ghost use Rattle.tcc_run.specs.Runs.{AskAlike, IsRun, IsSaidOfSnapshot};
 
 use tcc_cert::laws::large_text_is_read;
 use tcc_check::laws::certified;
@@ -69,14 +69,14 @@ pub fn headline()
 /// too; and so may a run with `--large` whatever one without it does, where nothing goes into the file of a slice.
 pub fn within_small()
     ensures snapshot { (options : Options) (s : Sessions) (said : Said) → KeepsLimits s
-        → IsSaidOfSnapshot options s said ↔ IsSaidSmall options s said }
+        → IsSaidWithLarge options s said ↔ IsSaidOfSnapshot options s said }
     ensures whole { (options : Options) (records : List ℕ) → KeepsSmall records → (said : List Said)
-        → IsWhole (IsSaidOfSnapshot options) (answers_of records) said ↔ IsWhole (IsSaidSmall options) (answers_within Small records) said }
+        → IsWhole (IsSaidWithLarge options) (answers_of records) said ↔ IsWhole (IsSaidOfSnapshot options) (answers_within Small records) said }
     ensures alike { (options others : Options) (records : List ℕ) → KeepsSmall records → (said again : List Said)
-        → AskAlike options others → IsWhole (IsSaidOfSnapshot options) (answers_of records) said
-        → IsWhole (IsSaidSmall others) (answers_within Small records) again → said ≡ again }
+        → AskAlike options others → IsWhole (IsSaidWithLarge options) (answers_of records) said
+        → IsWhole (IsSaidOfSnapshot others) (answers_within Small records) again → said ≡ again }
     ensures ended { (options : Options) (records : List ℕ) → KeepsSmall records → (said : List Said)
-        → IsEnded Large (IsSaidOfSnapshot options) options records said ↔ IsEnded Small (IsSaidSmall options) options records said }
+        → IsEnded Large (IsSaidWithLarge options) options records said ↔ IsEnded Small (IsSaidOfSnapshot options) options records said }
     ensures without_large { (options : Options) (records : List ℕ) → KeepsSmall records
         → (before after : Option (List ℕ)) (files files' : Files) (code : ℕ)
         → IsLargeRun options records before after files files' code → code ≢ code_of Device → code ≢ code_of Memory

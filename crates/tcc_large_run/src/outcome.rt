@@ -1,6 +1,5 @@
 //! What is said of a snapshot: what is known of its history, or all its read faults.
 ghost use Rattle.std.specs.Prelude.{◌≡◌, IfOk, IfSome, Some};
-ghost use Rattle.tcc_txn.specs.Finished.{KeepsLimits};
 ghost use Rattle.tcc_reads.specs.History.{History};
 ghost use Rattle.tcc_graph.specs.Levels.{judged};
 ghost use Rattle.tcc_cert.specs.LargeTexts.{HasLargeText};
@@ -18,7 +17,7 @@ use std::io::Write;
 use std::thread::Threads;
 use tcc_answer::{Anomaly, Answer, CappedRows, Commit, Labels};
 use tcc_cert::{LargeCertificate, Links, Numbers, Table};
-use tcc_explain::{ExplainFault, Gate, explain};
+use tcc_explain::{ExplainFault, Gate};
 use tcc_graph::{LargeGraph, Level, Link};
 use tcc_judge::laws::is_least;
 use tcc_large::{Decision, LargeAnswer, explain_large_with_order};
@@ -28,6 +27,7 @@ use tcc_print::status::answer_status;
 use tcc_print::{Options, Run, Statement, Status};
 use tcc_proving::{proved_claim, steps_of};
 use tcc_reads::{ReadFault, ResolveFault};
+use tcc_run::first_answer;
 use tcc_txn::{LargeSnapshot, NoMemory, Snapshot};
 
 /// What is said of a snapshot.
@@ -98,18 +98,9 @@ impl Outcome {
         run: &Run<T, G>,
         snapshot: &Snapshot,
     ) -> Result<Outcome, NoMemory>
-        requires small { KeepsLimits snapshot.now }
         ensures { IfOk result (IsOutcome run.now.options.now.level snapshot.now) }
     {
-        let options = run.options;
-        match explain(
-            run.rt,
-            run.alloc,
-            snapshot,
-            options.level,
-            options.workers,
-            run.gate,
-        ) {
+        match first_answer(run, snapshot, run.options.level) {
             Ok(answer) => Ok(Outcome::Small(answer)),
             Err(ExplainFault::Reads(faults)) => Ok(Outcome::Unresolved(faults)),
             Err(ExplainFault::NoMemory) => Err(NoMemory),

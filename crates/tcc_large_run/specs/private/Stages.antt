@@ -36,7 +36,7 @@ use Rattle.tcc_print.specs.declared.options.Options.{Options}
 use Rattle.tcc_print.specs.declared.status.Status.{Status}
 use Rattle.tcc_print.specs.declared.status.Status.TheVariants.{Anomaly, Device, Memory, ReadFaults}
 use Rattle.tcc_print.specs.Saying.{Course}
-use Rattle.tcc_large_run.specs.LargeRuns.{CertificateStops, Files, IsCertified, IsProvedLeast, IsSaidOfSnapshot, IsSliceText, IsSliced, SliceStops, Stops, bare_cycle, bare_order, claim_of, proved_claim, short_runs}
+use Rattle.tcc_large_run.specs.LargeRuns.{CertificateStops, Files, IsCertified, IsProvedLeast, IsSaidWithLarge, IsSliceText, IsSliced, SliceStops, Stops, bare_cycle, bare_order, claim_of, proved_claim, short_runs}
 use Rattle.tcc_large_run.specs.declared.outcome.Outcome.{Outcome}
 use Rattle.tcc_large_run.specs.declared.outcome.Outcome.TheVariants as outcome
 
@@ -134,13 +134,8 @@ outcome_links (outcome.Cycle h labels links) = Some links.items
 
 -- the course of a run
 abbrev pub course : Options → Course Outcome
-course options = record {
-  limits = Large;
-  options = options;
-  is_said = IsSaidOfSnapshot options;
-  is_outcome = IsOutcome options.level;
-  say = outcome_said options;
-}
+course options =
+    record { limits = Large; options = options; is_said = IsSaidWithLarge options; is_outcome = IsOutcome options.level; say = outcome_said options }
 
 -- ---- the certificate
 

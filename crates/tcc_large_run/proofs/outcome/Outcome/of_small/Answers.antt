@@ -4,5 +4,5 @@ use Rattle.tcc_large_run.proofs.outcome.Outcome.of_small.Goals as goal
 
 pub returns-in-Err-Reads : goal.returns-in-Err-Reads
 returns-in-Err-Reads g c =
-    let is = subst (IsRefusal c.args.snapshot.now) c.in-Err-Reads.field-0-is c.in-Err-Reads.ensures in
+    let is = subst (IsRefusal c.args.snapshot.now) c.in-Err-Reads.field-0-is c.in-Err-Reads.ensures.answer in
     ((λ none. is.1 (is.0 ∙ none)), is.0)
