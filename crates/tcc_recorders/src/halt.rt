@@ -1,109 +1,57 @@
 //! Why the demonstration ends before its last answer.
 
-use std::alloc::{AllocError, AllocFailed};
+use std::alloc::AllocError;
+use std::io::{self, ErrorKind};
 use tcc_answer::WriteFault;
 use tcc_audit::AuditFault;
 use tcc_book::{OpenFault, RecordFault, SealFault, WholeFault};
 use tcc_explain::ExplainFault;
 use tcc_txn::{NameFault, NoMemory, TxnFault};
+use thiserror::Error;
 
-/// Why there is no further answer.
-#[derive(Clone, Copy, Drop)]
+/// Why there is no further answer: memory was refused, standard output failed, or the script isn't one that can be played.
+#[derive(Debug, Drop, Error)]
+#[error("there is no further answer")]
 pub enum Halt {
-    /// Memory was refused.
-    NoMemory,
-    /// Standard output failed.
-    Device,
-    /// The script isn't one that can be played.
-    Script,
+    Memory(#[from] NoMemory),
+    Allocation(#[from(alloc)] AllocError),
+    Arguments(#[from] io::Error),
+    Name(#[from] NameFault),
+    Txn(#[from] TxnFault),
+    Open(#[from] OpenFault),
+    Record(#[from] RecordFault),
+    Seal(#[from] SealFault),
+    Whole(#[from] WholeFault),
+    Explain(#[from] ExplainFault),
+    Audit(#[from] AuditFault),
+    Write(#[from] WriteFault),
 }
 
-/// Why there is no further answer after a fault of the book, which is that memory is out, or says that the script is wrong.
-fn halt_by(is_memory: bool) -> Halt {
-    if is_memory {
-        Halt::NoMemory
-    } else {
-        Halt::Script
-    }
-}
-
-impl From<NoMemory> for Halt {
-    fn from(_error: NoMemory) -> Halt {
-        Halt::NoMemory
-    }
-}
-
-impl From<AllocError> for Halt {
-    fn from(_error: AllocError) -> Halt {
-        Halt::NoMemory
-    }
-}
-
-impl<T: Drop> From<AllocFailed<T>> for Halt {
-    fn from(_error: AllocFailed<T>) -> Halt {
-        Halt::NoMemory
-    }
-}
-
-impl From<NameFault> for Halt {
-    fn from(_fault: NameFault) -> Halt {
-        Halt::Script
-    }
-}
-
-impl From<TxnFault> for Halt {
-    fn from(_fault: TxnFault) -> Halt {
-        Halt::Script
-    }
-}
-
-impl From<OpenFault> for Halt {
-    fn from(fault: OpenFault) -> Halt {
-        halt_by(matches!(fault, OpenFault::NoMemory))
-    }
-}
-
-impl From<RecordFault> for Halt {
-    fn from(fault: RecordFault) -> Halt {
-        halt_by(matches!(fault, RecordFault::NoMemory))
-    }
-}
-
-impl From<SealFault> for Halt {
-    fn from(fault: SealFault) -> Halt {
-        halt_by(matches!(fault, SealFault::NoMemory))
-    }
-}
-
-impl From<WholeFault> for Halt {
-    fn from(fault: WholeFault) -> Halt {
-        halt_by(matches!(fault, WholeFault::NoMemory))
-    }
-}
-
-impl From<ExplainFault> for Halt {
-    fn from(fault: ExplainFault) -> Halt {
-        match fault {
-            ExplainFault::NoMemory => Halt::NoMemory,
-            ExplainFault::Reads(_) => Halt::Script,
+impl Halt {
+    /// Whether memory was refused.
+    pub fn is_memory(&self) -> bool {
+        match self {
+            Halt::Memory(_)
+            | Halt::Allocation(_)
+            | Halt::Open(OpenFault::NoMemory)
+            | Halt::Record(RecordFault::NoMemory)
+            | Halt::Seal(SealFault::NoMemory)
+            | Halt::Whole(WholeFault::NoMemory)
+            | Halt::Explain(ExplainFault::NoMemory)
+            | Halt::Audit(AuditFault::Whole(WholeFault::NoMemory))
+            | Halt::Audit(AuditFault::Explain(ExplainFault::NoMemory))
+            | Halt::Write(WriteFault::NoMemory) => true,
+            Halt::Arguments(error) => error.kind() == ErrorKind::OutOfMemory,
+            _ => false,
         }
     }
-}
 
-impl From<AuditFault> for Halt {
-    fn from(fault: AuditFault) -> Halt {
-        match fault {
-            AuditFault::Whole(fault) => Halt::from(fault),
-            AuditFault::Explain(fault) => Halt::from(fault),
-        }
-    }
-}
-
-impl From<WriteFault> for Halt {
-    fn from(fault: WriteFault) -> Halt {
-        match fault {
-            WriteFault::NoMemory => Halt::NoMemory,
-            WriteFault::Device => Halt::Device,
+    /// The status that the process ends with.
+    pub fn status(&self) -> u8 {
+        match self {
+            halt if halt.is_memory() => 5,
+            Halt::Write(_) => 6,
+            _ => 64,
         }
     }
 }

@@ -13,7 +13,7 @@ use client::Client;
 use halt::Halt;
 use script::{ROLES, ROUNDS, SEALED};
 use std::alloc::{Alloc, Global};
-use std::io::{Eprint, ErrorKind, Write};
+use std::io::{Eprint, Write};
 use std::process::ExitCode;
 use std::sync::Wait;
 use std::thread::Threads;
@@ -149,11 +149,11 @@ fn play<W: Write>(
 
 /// Whether the first argument asks for one thread.
 fn is_alone(rt: &HostRuntime) -> Result<bool, Halt> {
-    match env::args(rt) {
-        Ok(mut words) => Ok(words.nth(1).is_some_and(|word| word.as_str() == "alone")),
-        Err(error) if error.kind() == ErrorKind::OutOfMemory => Err(Halt::NoMemory),
-        Err(_) => Err(Halt::Script),
-    }
+    Ok(
+        env::args(rt)?
+            .nth(1)
+            .is_some_and(|word| word.as_str() == "alone"),
+    )
 }
 
 fn main(rt: HostRuntime) -> ExitCode {
@@ -161,11 +161,11 @@ fn main(rt: HostRuntime) -> ExitCode {
     let played = is_alone(&rt).and_then(|alone| play(&rt, rt.alloc(), alone, &mut out));
     match played {
         Ok(()) => ExitCode::SUCCESS,
-        Err(Halt::NoMemory) => {
-            let _ = out.write_all(b"memory\n");
-            ExitCode::from(5)
+        Err(halt) => {
+            if halt.is_memory() {
+                let _ = out.write_all(b"memory\n");
+            }
+            ExitCode::from(halt.status())
         }
-        Err(Halt::Device) => ExitCode::from(6),
-        Err(Halt::Script) => ExitCode::from(64),
     }
 }
