@@ -45,7 +45,7 @@ fault_printed options write.NoMemory before after code = Prints before after (me
 pub certificate_stops : (options : Options) (last : Said) (before after file file' : Option (List ℕ)) (why : WriteFault) (code : ℕ)
     → SendsCertificate {A = Unit {0}} last.certificate (Err why) file file' → fault_printed options why before after code
     → CertificateStops options last before after (Some file) (Some file') code
-certificate_stops options last before after file file' write.Device code (text, is, n, part) prints = inl (text, is, (n, part, nothing file), prints)
+certificate_stops options last before after file file' write.Device code (text, is, (n, part)) prints = inl (text, is, (n, part, nothing file), prints)
 certificate_stops options last before after file file' write.NoMemory code (claim, is, none) prints = inr (claim, is, (none, nothing file), prints)
 
 -- the slice of what was said
