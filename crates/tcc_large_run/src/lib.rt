@@ -8,7 +8,7 @@ pub mod laws;
 mod outcome;
 mod room;
 mod running;
-mod slicing;
+mod slice_records;
 mod watching;
 
 pub use running::run_large;

@@ -9,7 +9,7 @@ ghost use Rattle.tcc_print.specs.{Saying.IsTold, Saying.SaysAt, private.Courses.
 
 use crate::certifying::write_certificate;
 use crate::outcome::Outcome;
-use crate::slicing::slice_text;
+use crate::slice_records::slice_text;
 use crate::watching::{Stage, Watcher};
 use std::alloc::Global;
 use std::io::{Read, Write};

@@ -2,7 +2,7 @@
 use Rattle.std.proofs.Common.{subst}
 use Rattle.tcc_large_run.specs.private.Stages.{IsOutcome}
 use Rattle.tcc_large_run.specs.declared.outcome.Outcome.{Outcome}
-use Rattle.tcc_large_run.proofs.slicing.slice_text.Goals as goal
+use Rattle.tcc_large_run.proofs.slice_records.slice_text.Goals as goal
 
 pub returns-in-Large : goal.returns-in-Large
 returns-in-Large c = λ is.

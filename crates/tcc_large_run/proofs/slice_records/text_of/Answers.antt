@@ -5,7 +5,7 @@ use Rattle.tcc_txn.specs.Snapshots.{Sessions}
 use Rattle.tcc_slices.specs.Cuts.{IsCutOf}
 use Rattle.tcc_slices.specs.Slices.{IsSliceOf}
 use Rattle.tcc_large_run.specs.LargeRuns.{Finishes}
-use Rattle.tcc_large_run.proofs.slicing.text_of.Goals as goal
+use Rattle.tcc_large_run.proofs.slice_records.text_of.Goals as goal
 
 -- the slice is what was cut, of the snapshot's own history
 pub returns-then-is_whole : goal.returns-then-is_whole
