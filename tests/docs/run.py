@@ -10,7 +10,8 @@ In the documents, a link has to lead to a file, and what stands in backquotes ha
     a crate               `tcc_run`
     a name of a crate     `tcc_run::explain_snapshot`: its last word stands in the sources of that crate
     a call of a type      `Book::new`: its last word stands in some source
-    a name before a file  `answer_text` (`tcc_answer/specs`): the files there have the name
+    a definition          `IsFirstOrder`, and any name of several humps: some source has it, or it is a file of proofs
+    a name before a file  `answer_text` (`tcc_answer/specs`), or of it: the files there have the name
 
 ARCHITECTURE has to have a row for each crate; CONTRACTS and MODULES have to be what the sources give
 (`contracts.py`, `modules.py`), and so have the examples in doc comments (`examples.py`) and
@@ -54,7 +55,8 @@ FOLDERS = re.compile(r"(?:crates|docs|tests|bench|recipes|examples|tcc_[a-z_]+)(
 CRATE = re.compile(r"tcc_[a-z_]+")
 OF_CRATE = re.compile(r"(tcc_[a-z_]+)(?:::[A-Za-z_]+)*::([A-Za-z_]+)")
 OF_TYPE = re.compile(r"[A-Z][A-Za-z]+::([A-Za-z_]+)")
-BEFORE_FILE = re.compile(r"`([A-Za-z_]+)` \(`((?:tcc_[a-z_]+)(?:/[A-Za-z_./]+)?)`")
+HUMPS = re.compile(r"(?:[A-Z][a-z]+){2,}")
+BEFORE_FILE = re.compile(r"`([A-Za-z_]+)` (?:\(|of )`((?:tcc_[a-z_]+)(?:/[A-Za-z_./]+)?)`")
 WORD = re.compile(r"`([a-z0-9_/]+)`")
 LEVELS = (ast.Module, ast.ClassDef, ast.FunctionDef)
 # Types of the toolchain, and files that a reader has, makes or names.
@@ -112,6 +114,8 @@ def outcome_of_name(name: str) -> Iterator[Optional[str]]:
         yield None if last in words(crate, "") else "the sources of %s have no %s" % (crate, last)
     elif of_type and name.split("::")[0] not in ELSEWHERE:
         yield None if of_type.group(1) in words("", "") else "no source has it"
+    elif HUMPS.fullmatch(name):
+        yield None if name in words("", "") or is_there(name + ".antt") else "no source has it"
 
 
 def faults_of_names(line: str) -> Iterator[Outcome]:
