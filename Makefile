@@ -8,10 +8,11 @@
 # make demo     records clients of a real Redis and shows both answers
 # make demo-postgres   the same with a real PostgreSQL, at two levels of isolation and at a replica
 # make demo-galera     the same with three nodes of MariaDB with Galera: reads at another node, with and without wsrep_sync_wait
+# make demo-etcd       the same with three nodes of etcd: reads that are stale by its own revisions are those that are found
 # make test     the merge gate and all tests, which CONTRIBUTING.md lists; the last line is `N passed, M failed`
 #
 # The toolchain's `rt` has to be on the path, and Python 3; for `make test` a C compiler too, for `make demo` redis-server and
-# redis-py, for `make demo-postgres` PostgreSQL and psycopg2, for `make demo-galera` MariaDB with Galera, rsync and PyMySQL. Nothing has to be done before.
+# redis-py, for `make demo-postgres` PostgreSQL and psycopg2, for `make demo-galera` MariaDB with Galera, rsync and PyMySQL, for `make demo-etcd` etcd. Nothing has to be done before.
 
 PREFIX ?= /usr/local
 # So many processors are used to prove the program; a crate that waits for another one takes a lane too.
@@ -25,7 +26,7 @@ CHECKED = ../../examples/stale-read.csv ../../examples/stale-read.certificate
 UNPROVED = the program is not built from these sources yet: this is a trial run of them (a minute and a half), of which \
 nothing is proved; make build proves and builds the program
 
-.PHONY: run build checker install dist pack demo demo-postgres demo-galera test
+.PHONY: run build checker install dist pack demo demo-postgres demo-galera demo-etcd test
 
 # Whether the program is built, and no older than a source.
 IS_BUILT = { test -x out/tcc && test -z "$$(find ../../crates.txt ../*/src ../*/specs ../*/proofs -newer out/tcc -print -quit)"; }
@@ -56,11 +57,10 @@ install: build
 dist: build pack
 
 # Packs what is built: the same bytes for the same files.
-PACKED = LICENSE-APACHE LICENSE-MIT README.md CHANGELOG.md docs/GUIDE.md docs/RECORDING.md docs/FORMATS.md docs/tcc.1 docs/tcc.bash \
-docs/stale-read.svg docs/answer.schema.json docs/full.schema.json examples recipes python
+PACKED = LICENSE-APACHE LICENSE-MIT README.md CHANGELOG.md CONTRIBUTING.md docs tests/README.md tests/rows/README.md examples recipes python
 pack:
 	@version=$$($(TCC) --version | cut -d' ' -f2) && name=tcc-$$version-x86_64-linux && folder=$$(mktemp -d) && \
-	mkdir -p $$folder/$$name/docs $(DIST) && \
+	mkdir -p $$folder/$$name/tests/rows $(DIST) && \
 	install -m 755 $(TCC) $$folder/$$name/tcc && \
 	for one in $(PACKED); do cp -R $$one $$folder/$$name/$$one; done && \
 	find $$folder -name __pycache__ -prune -exec rm -r {} + && \
@@ -75,6 +75,9 @@ demo-postgres:
 
 demo-galera:
 	@python3 recipes/galera/demo.py
+
+demo-etcd:
+	@python3 recipes/etcd/demo.py
 
 test:
 	@python3 tests/run.py

@@ -1,5 +1,6 @@
 """Counts what tests find."""
-from typing import Iterable, Optional, Tuple
+import traceback
+from typing import Iterable, Iterator, Optional, Tuple
 
 # The name of a test, and what is wrong or None.
 Outcome = Tuple[str, Optional[str]]
@@ -20,3 +21,12 @@ def status_of(outcomes: Iterable[Outcome]) -> int:
         failed = 1
     print("%d passed, %d failed" % (passed, failed))
     return 1 if failed else 0
+
+
+def guarded(name: str, outcomes: Iterable[Outcome]) -> Iterator[Outcome]:
+    """The outcomes of a part of a test. Where it raises an error, that is one more that is wrong, and other parts go on."""
+    try:
+        yield from outcomes
+    except Exception as error:  # pylint: disable=broad-except
+        place = traceback.extract_tb(error.__traceback__)[-1]
+        yield name, "%s, in %s line %s: %s" % (type(error).__name__, place.filename, place.lineno, str(error)[:300])

@@ -1,58 +1,116 @@
 #!/usr/bin/env python3
-"""All tests: the merge gate, which proves everything from nothing, and then on the program that it built the rows, by 32
-workers, and those with an anomaly by two as well; the seals of a history that grows, small histories decided as large ones,
-what a long run shows at a terminal, random histories surveyed, the altered certificates, the refused allocations and the
-hostile records; the scripts of recipes/ on stored inputs, and the package of python/ as pip installs it; and that what the
-documents name is there, and no script defines a name twice.
+"""All tests: the merge gate, which proves everything from nothing, and then on what it built: the mutants, which the check must
+refuse; the rows, by 32 workers, and those with an anomaly by two as well; the seals of a history that grows, small histories
+decided as large ones, what a long run shows at a terminal, random histories surveyed, the altered certificates, the refused
+allocations and the hostile records; the scripts of recipes/ on stored inputs, and the package of python/ as pip installs it;
+and that what the documents name is there, and no script defines a name twice.
 
-The last line is `N passed, M failed`, the sum of all; the status is 0 only where all passed.
+The scripts run side by side, and the output of each is shown when it ends; those that measure time run last and alone.
+A table says where the time went (`spent.py`). What failed is shown once more after it, as a log may keep its end alone. The last
+line is `N passed, M failed`, the sum of all; the status is 0 only where all passed.
 """
+import collections
+import concurrent.futures
 import pathlib
 import re
 import subprocess
 import sys
+import time
+
+from machine import processors
+from spent import Watch, table, waited
 
 TOP = pathlib.Path(__file__).resolve().parent.parent
-ON_THE_PROGRAM = ("rows/run.py --workers 32", "rows/run.py --workers 2 --searched", "rows/run.py --checker", "rows/numbers.py", "seals/run.py",
-                  "large/run.py", "large/watched.py", "survey/run.py", "certificates/run.py", "memory/run.py", "hostile/run.py", "recipes/run.py", "python/run.py", "docs/run.py")
+GATE = ["rt", "ci"]
+ON_THE_PROGRAM = ("wrong/run.py --after-gate", "rows/run.py --workers 32", "certificates/run.py", "memory/run.py",
+                  "rows/run.py --workers 2 --searched", "rows/run.py --checker", "recipes/run.py", "large/run.py", "survey/run.py",
+                  "python/run.py", "docs/run.py", "seals/run.py", "rows/numbers.py", "rows/filled.py", "rows/options.py", "wrong/trial.py")
+# (these go by time, and by a terminal)
+ALONE = ("large/watched.py", "hostile/run.py")
 CLOSING = re.compile(r"(\d+) passed, (\d+) failed$")
+# So much of what failed is shown again: lines of each command, and characters of each line.
+AGAIN, WIDE = 12, 300
 
 
-def counts(command):
-    """Runs a command, shows what it prints, and gives the two numbers of its closing line.
+class Counts:
+    """How many passed and how many failed so far, and by command what time it took."""
 
-    A command that can't be run, ends with a status other than 0, or has no such line has failed at least once.
-    """
-    last = ""
-    try:
+    def __init__(self):
+        self.passed = self.failed = 0
+        self.spent = {}
+        self.wrong = []
+
+    def add(self, command, status, lines):
+        """Adds what a command came to, by the two numbers of the last of its lines.
+
+        A command that ends with a status other than 0, or has no such line, has failed at least once.
+        """
+        closing = CLOSING.search(lines[-1] if lines else "")
+        passed, failed = map(int, closing.groups()) if closing else (0, 0)
+        if failed == 0 and (status != 0 or not closing):
+            print("%s: no success: status %d" % (" ".join(command), status))
+            failed = 1
+        if failed:
+            self.wrong += ["== " + name_of(command), *(line[:WIDE] for line in lines)]
+        self.passed, self.failed = self.passed + passed, self.failed + failed
+
+    def run(self, command):
+        """Runs a command, shows what it prints as it comes, and adds what it came to."""
+        lines, began = collections.deque(maxlen=AGAIN), time.time()
         with subprocess.Popen(command, cwd=TOP, stdout=subprocess.PIPE, text=True, errors="replace") as running:
             for line in running.stdout:
                 sys.stdout.write(line)
                 sys.stdout.flush()
-                last = line.strip() or last
-        status = running.returncode
-    except OSError as error:
-        print("%s: %s" % (command[0], error.strerror))
-        status = 127
-    closing = CLOSING.search(last)
-    passed, failed = map(int, closing.groups()) if closing else (0, 0)
-    if failed == 0 and (status != 0 or not closing):
-        print("%s: no success: status %d" % (" ".join(command), status))
-        failed = 1
-    return passed, failed
+                if line.strip():
+                    lines.append(line.strip())
+            self.spent[name_of(command)] = waited(running, began)
+        self.add(command, running.returncode, list(lines))
+
+    def run_side_by_side(self, commands, lanes):
+        """Runs commands, so many at a time, and shows and adds each when it ends."""
+        with concurrent.futures.ThreadPoolExecutor(lanes) as pool:
+            running = {pool.submit(output_of, command): command for command in commands}
+            for ended in concurrent.futures.as_completed(running):
+                status, text, self.spent[name_of(running[ended])] = ended.result()
+                print("== %s\n%s" % (name_of(running[ended]), text), end="", flush=True)
+                self.add(running[ended], status, text.strip().splitlines()[-AGAIN:])
+
+
+def output_of(command):
+    """The status of a command, what it prints, and what time it took."""
+    began = time.time()
+    with subprocess.Popen(command, cwd=TOP, stdout=subprocess.PIPE, text=True, errors="replace") as running:
+        text = running.stdout.read()
+        spent = waited(running, began)
+    return running.returncode, text, spent
+
+
+def name_of(command):
+    """What the table calls a command."""
+    return " ".join(command[1:]).replace("tests/", "", 1) if command[0] == sys.executable else " ".join(command)
+
+
+def of_script(test):
+    """The command that runs a script of this folder."""
+    script, *words = test.split()
+    return [sys.executable, "tests/" + script, *words]
 
 
 def main():
-    passed, failed = counts(["rt", "ci"])
-    if failed:
-        print("the rows were not run: the gate comes first")
-    else:
-        for test in ON_THE_PROGRAM:
-            script, *words = test.split()
-            more, less = counts([sys.executable, "tests/" + script, *words])
-            passed, failed = passed + more, failed + less
-    print("%d passed, %d failed" % (passed, failed), flush=True)
-    return 1 if failed else 0
+    counts = Counts()
+    with Watch() as watch:
+        counts.run(GATE)
+        if counts.failed:
+            print("the rows were not run: the gate comes first")
+        else:
+            # (the mutants take each processor that the other scripts leave)
+            counts.run_side_by_side(map(of_script, ON_THE_PROGRAM), processors() + 1)
+            for test in ALONE:
+                counts.run(of_script(test))
+    whole = counts.spent.pop(name_of(GATE))
+    print("\n".join([*table(watch, whole, counts.spent), *counts.wrong]))
+    print("%d passed, %d failed" % (counts.passed, counts.failed), flush=True)
+    return 1 if counts.failed else 0
 
 
 if __name__ == "__main__":

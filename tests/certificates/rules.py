@@ -6,8 +6,10 @@ STATUS = {"accepted": 0, "rejected": 7, "certificate": 8}
 # Up to this cost it is judged without an order that no cycle costs less, and up to the next one with it.
 MOST_JUDGED = 4
 MOST_STEPS = 64
-# So many transactions may be spanned, and so many keys have a derived link into `init`.
+# So many transactions may be spanned and near, to so many may derived links lead back, and so many keys may have one into `init`.
 MOST_MEMBERS = 4096
+# From so many may derived links lead back, times the cost.
+MOST_SWEPT = 262144
 
 
 def ends(link):
@@ -133,18 +135,47 @@ def large_cycle_rules(history, said):
     if cost > MOST_JUDGED:
         order = told(history, least)
         yield 5, first_of((a, c) for a, c in history.read_pairs() if not stands_before(order, a, c))
-        yield 6, None if is_bounded(history, order, cost) else (0, 0)
+        yield 6, None if is_bounded(history, order, cost, said["level"]) else (0, 0)
     yield 7, (0, 0) if history.least_cost(said["level"]) < cost else None
 
 
-def is_bounded(history, order, cost):
-    """Whether the cost, the transactions over which a derived link leads back in the order, and the keys by which one leads into
-    `init` are within their limits, all at `causal`."""
+def is_bounded(history, order, cost, level):
+    """Whether the cost, the transactions from which a derived link leads back in the order, those to which one does, those over which
+    one does and that are near, and the keys by which one leads into `init` are within their limits. All but what is near is asked at
+    `causal`."""
     walks = history.walks("causal")
     reasons = [(b, a, key) for b, a, key, c in history.contradicted_by_key() if (b, c) in walks]
-    spanned = {v for b, a, _ in reasons if a != INIT for v in order
-               if not stands_before(order, v, a) and not stands_before(order, b, v)}
-    return cost <= MOST_STEPS and len(spanned) <= MOST_MEMBERS and len({key for _, a, key in reasons if a == INIT}) <= MOST_MEMBERS
+    back = {(b, a) for b, a, _ in reasons if a != INIT and not stands_before(order, b, a)}
+    spanned = {v for b, a in back for v in order if not stands_before(order, v, a) and not stands_before(order, b, v)}
+    near = spanned & near_ones(order, cost, closings(history, order, cost, level), history.is_pair)
+    return (cost <= MOST_STEPS and len({b for b, _ in back}) <= MOST_SWEPT // cost and len({a for _, a in back}) <= MOST_MEMBERS
+            and len(near) <= MOST_MEMBERS and len({key for _, a, key in reasons if a == INIT}) <= MOST_MEMBERS)
+
+
+def closings(history, order, cost, level):
+    """The derived links of the level that lead back in the order, not into `init`, each as (b, a, price), of so low a price that a cycle
+    which costs less has another link beside it."""
+    walks = history.walks(level)
+    return [(b, a, walks[b, c] + 1) for b, a, c in history.contradictions()
+            if a != INIT and (b, c) in walks and not stands_before(order, b, a) and walks[b, c] + 2 < cost]
+
+
+def near_ones(order, cost, closings, is_pair):
+    """The transactions through which what leads forward from the end of a closing, and on to where one begins, comes with its price to
+    less than the cost."""
+    at = {number: place for place, number in enumerate(order)}
+
+    def leads_on(u, v):
+        return at[u] < at[v] and all(any(at[a] <= place < at[b] for b, a, _ in closings) for place in range(at[u], at[v]))
+
+    def forward(u, v):
+        return [0] * (u == v) + [1] * is_pair(u, v) + [2] * leads_on(u, v)
+
+    def onward(u, v):
+        return [0] * (u == v) + [1] * leads_on(u, v)
+
+    return {v for v in order if any(come + go + price < cost for _, a, _ in closings for come in forward(a, v)
+                                    for b, _, price in closings for go in onward(v, b))}
 
 
 def is_round(history, cost, a, c):

@@ -25,6 +25,7 @@ TOP = pathlib.Path(__file__).resolve().parent.parent.parent
 sys.path.insert(0, str(TOP / "tests"))
 from claims import altered, claims, order_text, own_claim, runs_of  # noqa: E402
 from counted import status_of  # noqa: E402
+from machine import processors  # noqa: E402
 from definitions import History  # noqa: E402
 from drawn import small_history, text_of  # noqa: E402
 from rules import outcome  # noqa: E402
@@ -79,7 +80,7 @@ def written(tcc, records, level, folder, *more):
     """What the program answers, and the certificate that it writes."""
     path = os.path.join(folder, "written")
     run = subprocess.run([tcc, "explain", *more, "--level", level, "--certificate", path], input=records.encode(),
-                         stdout=subprocess.PIPE, timeout=60, check=False)
+                         stdout=subprocess.PIPE, timeout=300, check=False)
     return run.stdout.decode(), pathlib.Path(path).read_bytes()
 
 
@@ -122,7 +123,7 @@ class Judge:
         """What the program says of a certificate: its line and its status."""
         with tempfile.NamedTemporaryFile(dir=self.folder, buffering=0) as file:
             file.write(text)
-            run = subprocess.run([*self.words, self.path, file.name], capture_output=True, timeout=60, check=False)
+            run = subprocess.run([*self.words, self.path, file.name], capture_output=True, timeout=300, check=False)
         return run.stdout.decode(errors="backslashreplace"), run.returncode
 
     def differences(self, cases):
@@ -178,7 +179,7 @@ def wrongly_written(tcc, judge, level, folder):
 
 def outcomes(tcc, count, seed):
     """What was done to each certificate, each with what is wrong, or None."""
-    with tempfile.TemporaryDirectory() as folder, concurrent.futures.ThreadPoolExecutor(os.cpu_count()) as pool:
+    with tempfile.TemporaryDirectory() as folder, concurrent.futures.ThreadPoolExecutor(processors()) as pool:
         yield from with_digits(tcc, folder, pool)
         dice = random.Random(seed)
         for number in range(count):

@@ -33,10 +33,11 @@ COMMENT = re.compile(r"^ *//.*$", re.MULTILINE)
 BEGINNING = """# Contracts
 
 Every public call of the libraries, in words, with the definitions that its clauses cite: of what it asks for, and of what it \
-promises. `tests/docs/contracts.py --write` writes this page from the sources. The clauses themselves stand at the call, in the \
-`src/` of its crate, the definitions in the `specs/` of the crates, and [MODEL.md](MODEL.md) tells them. [HEADLINE.md](HEADLINE.md) \
-says how the main theorem rests on them, under which premises the words hold (memory, known bytes, joins), and what no contract \
-says. The last row of a table has the calls whose clauses speak of their values alone, as of a part that was handed in and is lent.
+promises. `tests/docs/contracts.py --write` writes this page from the sources. The clauses themselves are at the call, in the \
+`src/` of its crate, the definitions in the `specs/` of the crates, and [DEFINITIONS.md](DEFINITIONS.md) has them in words. \
+[HEADLINE.md](HEADLINE.md) says under which premises the words hold (memory, known bytes, joins), [PROOF.md](PROOF.md) how the main \
+theorem rests on them, and [OPEN.md](OPEN.md) what no contract says. The last row of a table has the calls whose clauses are about \
+their values alone, as of a part that was passed in and is returned borrowed.
 """
 HEAD = "| call | in words | its clauses cite |\n|---|---|---|\n"
 NO_CLAUSE = "it has no clause"
@@ -51,13 +52,13 @@ class Call(NamedTuple):
 
 
 def libraries() -> List[str]:
-    """The crates whose public calls have contracts that are told: all libraries but those of tests."""
+    """The crates whose public calls the page has: all libraries but those of tests."""
     return [crate for crate in stands_on()
             if not crate.startswith("tcc_tests_") and (TOP / "crates" / crate / "src/lib.rt").exists()]
 
 
 def paragraph(lines: List[str], mark: str) -> str:
-    """The first paragraph of the comment that these lines are, behind its marks."""
+    """The first paragraph of the comment that these lines are, without its marks."""
     texts = [line.strip()[len(mark):].strip() for line in lines if line.lstrip().startswith(mark)]
     return " ".join(texts[:texts.index("")] if "" in texts else texts).replace("|", "\\|")
 
@@ -96,7 +97,7 @@ def defined() -> Tuple[Dict[str, Set[str]], Set[str]]:
 
 
 def definitions(text: str) -> Set[str]:
-    """The functions and relations of specs that a file brings in, also behind a word of its own; no shapes, and nothing of code."""
+    """The functions and relations of specs that a file brings in, also after a word of its own; no shapes, and nothing of code."""
     files, shapes = defined()
     names: Set[str] = set()
     for one in imports(text):
@@ -106,7 +107,7 @@ def definitions(text: str) -> Set[str]:
 
 
 def standing(path: pathlib.Path) -> Tuple[bool, str, bool]:
-    """Where a file's calls stand among those of its crate: laws at the end, and what is large behind what isn't."""
+    """Where a file's calls come among those of its crate: laws at the end, and what is large after what isn't."""
     return path.stem == "laws", path.stem.replace("large_", ""), "large_" in path.stem
 
 

@@ -3,7 +3,7 @@
 
     examples.py [--write]
 
-What stands between "```rust" and "```" in a doc comment is, line by line, the body of the function of `crates/tcc_examples` that is
+What is between "```rust" and "```" in a doc comment is, line by line, the body of the function of `crates/tcc_examples` that is
 named for the item below: `example_resolve` for `resolve`, `example_rows` for the type `Rows`, `example_graph_build` for
 `Graph::build`. With `--write` each such text is written anew from there. Without it each one that is another is one line, as
 `run.py` has it, which asks this too, and so is a function there that no doc comment shows, or a text that no function has. The
@@ -72,7 +72,7 @@ def outcomes() -> Iterator[Outcome]:
     for path in sources():
         for shown in shown_in(path.read_text().split("\n")):
             found.append(shown.example)
-            wrong = "it isn't what stands there: tests/docs/examples.py --write" if shown.example in wanted else "there is no such function"
+            wrong = "it isn't what is there: tests/docs/examples.py --write" if shown.example in wanted else "there is no such function"
             yield "%s: %s" % (path.relative_to(TOP), shown.example), None if wanted.get(shown.example) == shown.code else wrong
     for name in wanted:
         yield name, None if found.count(name) == 1 else "%d doc comments show it" % found.count(name)

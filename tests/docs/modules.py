@@ -1,10 +1,10 @@
 #!/usr/bin/env python3
-"""The modules of each crate, from the first sentence of each.
+"""The crates and their modules, from the first sentence of each.
 
     modules.py [--write]
 
 docs/MODULES.md has a row for each module but those of tests and benchmarks: its path in `src/`, and the first sentence of its `//!`;
-and above them what the crate stands on, as crates.txt has it.
+and above them that of the crate's root, and what the crate depends on, as crates.txt has it.
 With `--write` the page is written anew. Without it a page that is another is one line, as `run.py` has it, which asks this too, and
 so is a module whose first sentence is missing, has more than 60 words, or is that of another one in its crate. The last line is
 `N passed, M failed`.
@@ -23,7 +23,7 @@ from crates import stands_on  # noqa: E402
 PAGE = TOP / "docs/MODULES.md"
 BEGINNING = """# Modules
 
-What each module of the crates is, as it says itself, and what each crate stands on, beside what these stand on: \
+What each crate and each of its modules is, as it says itself, and what each crate depends on directly: \
 `tests/docs/modules.py --write` writes this page from the sources. \
 [ARCHITECTURE.md](ARCHITECTURE.md) says how the crates go together.
 """
@@ -52,8 +52,14 @@ def modules() -> Iterator[Tuple[str, str, str]]:
                     yield crate, path.relative_to(source).as_posix()[:-3], sentence_of(path)
 
 
+def root_file(crate: str) -> pathlib.Path:
+    """The root file of a crate, a library or a program."""
+    library = TOP / "crates" / crate / "src/lib.rt"
+    return library if library.exists() else library.with_name("main.rt")
+
+
 def nearest(crate: str) -> List[str]:
-    """What a crate stands on by name, and not by another that it names."""
+    """What a crate depends on by name, and not by another that it names."""
     told = stands_on()
 
     def below(one: str) -> Set[str]:
@@ -63,10 +69,10 @@ def nearest(crate: str) -> List[str]:
 
 
 def head_of(crate: str) -> str:
-    """What stands above the modules of a crate."""
+    """What comes above the modules of a crate."""
     below = nearest(crate)
-    told = "Stands on %s.\n\n" % ", ".join("`%s`" % one for one in below) if below else ""
-    return "\n## `%s`\n\n%s| module | what it is |\n|---|---|\n" % (crate, told)
+    told = " Depends on %s." % ", ".join("`%s`" % one for one in below) if below else ""
+    return "\n## `%s`\n\n%s%s\n\n| module | what it is |\n|---|---|\n" % (crate, sentence_of(root_file(crate)), told)
 
 
 def page() -> str:

@@ -2,25 +2,26 @@
 """Whether what the documents name is there, whether the man page and the completion have what the program has, and whether
 each script defines a name once.
 
-    run.py [--tcc PATH]
+    run.py [--tcc PATH] [--write]
 
-In the documents, a link has to lead to a file, and what stands in backquotes has to be there where it is
+With `--write` all that scripts write is written anew first. In the documents, a link has to lead to a file, and to a heading where
+it names one, and what is in backquotes has to be there where it is
 
     a path                `docs/MODEL.md`, `specs/Texts.antt`, `crates/tcc`: it or the end of a path of the repository
     a crate               `tcc_run`
-    a name of a crate     `tcc_run::explain_snapshot`: its last word stands in the sources of that crate
-    a call of a type      `Book::new`: its last word stands in some source
+    a name of a crate     `tcc_run::explain_snapshot`: its last word is in the sources of that crate
+    a call of a type      `Book::new`: its last word is in some source
     a definition          `IsFirstOrder`, and any name of several humps: some source has it, or it is a file of proofs
     a name before a file  `answer_text` (`tcc_answer/specs`), or of it: the files there have the name
 
-ARCHITECTURE has to have a row for each crate; CONTRACTS and MODULES have to be what the sources give
-(`contracts.py`, `modules.py`), and so have the examples in doc comments (`examples.py`) and
-what is told of statuses and limits (`told.py`). The public names that callers rely on have to be there (`surface.py`), and the
-JSON schema of answers has to be that of the answers in the rows (`schema.py`). What has to be believed stands in `specs/`, and
-nothing else does (`trust.py`). CHANGELOG tells of the past, and is left out. No script may define a name twice at one level, and
-what a wrong body replaces has to stand once in its file. The man page and the completion for bash have to name each command and
-option of the program's help, and the completion to complete them; and the stack that docs/GUIDE.md names has to be enough. Each
-difference is one line; the last line is `N passed, M failed`.
+ARCHITECTURE has to have each crate in a layer. CONTRACTS, DEFINITIONS, MODULES and the pages of claims/ have to be what the sources
+give (`contracts.py`, `definitions.py`, `modules.py`, `claims.py`). So have the examples in doc comments (`examples.py`), and what
+documents say about statuses and limits (`told.py`). Sentences have to be short, and words usual (`plain.py`). The public names that
+callers rely on have to be there (`surface.py`), and the JSON schema of answers has to be that of the answers in the rows
+(`schema.py`). What has to be believed is in `specs/`, and nothing else is (`trust.py`). CHANGELOG is about the past, and is left
+out. No script may define a name twice at one level, and what a mutant replaces has to be once in its file. The man page and the
+completion for bash have to name each command and option of the program's help, and the completion to complete them; the stack that
+docs/GUIDE.md names has to be enough; and what documents show of the program is what it prints. Each difference is one line; the last line is `N passed, M failed`.
 """
 import ast
 import collections
@@ -28,6 +29,7 @@ import functools
 import itertools
 import pathlib
 import re
+import shlex
 import shutil
 import subprocess
 import sys
@@ -35,20 +37,27 @@ import tempfile
 from typing import Dict, Iterator, List, Optional, Tuple
 
 TOP = pathlib.Path(__file__).resolve().parent.parent.parent
-sys.path.insert(0, str(TOP / "tests"))
+sys.path[:0] = [str(TOP / "tests"), str(TOP / "tests/wrong")]
+import claims  # noqa: E402
 import contracts  # noqa: E402
+import definitions  # noqa: E402
 import examples  # noqa: E402
 import modules  # noqa: E402
+import plain  # noqa: E402
 import schema  # noqa: E402
 import surface  # noqa: E402
 import told  # noqa: E402
-from arguments import status_on_tcc  # noqa: E402
-from counted import Outcome  # noqa: E402
+from arguments import ask_for_tcc  # noqa: E402
+from counted import Outcome, status_of  # noqa: E402
 from crates import stands_on  # noqa: E402
+from mutants import Mutant, Unusable  # noqa: E402
 from trust import QUOTED, faults_of_trust  # noqa: E402
 
+SHOWN = re.compile(r"^```\n(\$ tcc .*?)^```", re.DOTALL | re.MULTILINE)
 CODE = re.compile(r"```.*?```", re.DOTALL)
 LINK = re.compile(r"\]\(([^)#\s]+)(?:#[^)]*)?\)")
+ANCHOR = re.compile(r"\]\(([^)#\s]*)#([^)\s]+)\)")
+HEADING = re.compile(r"^#+ +(.*)$", re.MULTILINE)
 ENDINGS = ("antt", "bash", "csv", "edit", "json", "md", "py", "rt", "toml", "txt", "c", "certificate", "svg")
 PATH = re.compile(r"[A-Za-z0-9_.-]+(?:/[A-Za-z0-9_.-]+)*(?:/|\.(?:%s))" % "|".join(ENDINGS))
 FOLDERS = re.compile(r"(?:crates|docs|tests|bench|recipes|examples|tcc_[a-z_]+)(?:/[A-Za-z0-9_.-]+)+")
@@ -103,7 +112,7 @@ def is_there(path: str) -> bool:
 
 
 def outcome_of_name(name: str) -> Iterator[Optional[str]]:
-    """What is wrong with what stands in backquotes, None where nothing is; nothing where it is no name of this house."""
+    """What is wrong with what is in backquotes, None where nothing is; nothing where it is no name of this project."""
     of_crate, of_type = OF_CRATE.fullmatch(name), OF_TYPE.fullmatch(name)
     if CRATE.fullmatch(name):
         yield None if is_there("crates/" + name) or name in words("", "") else "no such crate or name"
@@ -119,21 +128,36 @@ def outcome_of_name(name: str) -> Iterator[Optional[str]]:
 
 
 def faults_of_names(line: str) -> Iterator[Outcome]:
-    """Whether what stands in backquotes is there."""
+    """Whether what is in backquotes is there."""
     for name in QUOTED.findall(line):
         for wrong in outcome_of_name(name):
             yield "`%s`" % name, wrong
 
 
 def faults_of_links(line: str, folder: pathlib.Path) -> Iterator[Outcome]:
-    """Whether the links of a document in the folder lead to files; what other houses have isn't asked for."""
+    """Whether the links of a document in the folder lead to files; what other projects have isn't asked for."""
     for target in LINK.findall(line):
         if "://" not in target:
             yield target, None if (folder / target).exists() else "no such file"
 
 
+@functools.lru_cache(maxsize=None)
+def anchors(document: pathlib.Path) -> frozenset:
+    """The anchors of a document's headings, as forges make them: small letters, digits and hyphens."""
+    headings = HEADING.findall(CODE.sub("", document.read_text()))
+    return frozenset(re.sub(r"[^\w -]", "", heading.lower()).strip().replace(" ", "-") for heading in headings)
+
+
+def faults_of_anchors(line: str, document: pathlib.Path) -> Iterator[Outcome]:
+    """Whether the links of a document into documents of this repository lead to headings."""
+    for target, anchor in ANCHOR.findall(line):
+        path = document.parent / target if target else document
+        if "://" not in target and path.suffix == ".md" and path.exists():
+            yield "%s#%s" % (target, anchor), None if anchor in anchors(path.resolve()) else "no such heading"
+
+
 def faults_of_files(line: str) -> Iterator[Outcome]:
-    """Whether the files that stand behind a name have it."""
+    """Whether the files that come after a name have it."""
     for name, path in BEFORE_FILE.findall(line):
         crate, _, part = path.partition("/")
         has_name = name in words(crate, part) or not is_there("crates/" + path)
@@ -144,7 +168,8 @@ def faults_of_document(document: pathlib.Path) -> Iterator[Outcome]:
     """Whether what the lines of a document name is there, but for those of its code."""
     text = CODE.sub(lambda block: "\n" * block.group().count("\n"), document.read_text())
     for number, line in enumerate(text.splitlines(), 1):
-        found = itertools.chain(faults_of_names(line), faults_of_links(line, document.parent), faults_of_files(line))
+        found = itertools.chain(faults_of_names(line), faults_of_links(line, document.parent), faults_of_anchors(line, document),
+                                faults_of_files(line))
         for what, wrong in found:
             yield "%s, line %d: %s" % (document.relative_to(TOP), number, what), wrong
 
@@ -158,11 +183,11 @@ def table(heading: str) -> Iterator[List[str]]:
 
 def faults_of_crates() -> Iterator[Outcome]:
     """Whether the table of crates has each one."""
-    told = {name for cells in table("| crate | what it is |") for name in WORD.findall(cells[0])}
+    told = {name for cells in table("| layer | crates |") for name in WORD.findall(cells[1])}
     for crate in stands_on():
-        yield "crate %s" % crate, None if crate in told else "ARCHITECTURE has no row"
+        yield "crate %s" % crate, None if crate in told else "ARCHITECTURE has it in no layer"
     for crate in sorted(told - set(stands_on())):
-        yield "crate %s" % crate, "ARCHITECTURE has a row, and crates.txt no such crate"
+        yield "crate %s" % crate, "ARCHITECTURE has it, and crates.txt no such crate"
 
 
 def defined(level: ast.AST) -> Iterator[str]:
@@ -174,18 +199,14 @@ def defined(level: ast.AST) -> Iterator[str]:
             yield from (target.id for target in one.targets if isinstance(target, ast.Name))
 
 
-def faults_of_edits() -> Iterator[Outcome]:
-    """Whether what each wrong body replaces stands once in the file that it names: else it shows nothing, and the gate fails late."""
+def faults_of_mutants() -> Iterator[Outcome]:
+    """Whether what each mutant replaces is once in the file that it names: else it shows nothing, and the gate fails late."""
     for path in (path[1:] for path in files() if path.endswith(".edit")):
-        file, wrong = "", []
-        for line in (TOP / path).read_text().splitlines():
-            word, _, text = line.partition(" ")
-            if word == "file:":
-                named = (TOP / path).parent.parent / text
-                file = named.read_text() if named.is_file() else ""
-            elif word == "old:" and file.count(text) != 1:
-                wrong.append("'%s' stands in it %d times" % (text.strip(), file.count(text)))
-        yield path, "; ".join(wrong) or None
+        try:
+            Mutant(TOP / path)
+            yield path, None
+        except Unusable as error:
+            yield path, str(error)
 
 
 def faults_of_scripts() -> Iterator[Outcome]:
@@ -240,28 +261,55 @@ def faults_of_stack(tcc: List[str]) -> Iterator[Outcome]:
             yield "%s in %s KB of stack" % (words_after[0], stack), None if got == wanted else "status %d" % got
 
 
+def shown() -> Iterator[Tuple[str, List[str], str]]:
+    """The runs that documents show of files that are there: the document, the words of the command, and what is printed."""
+    for document in documents():
+        for block in SHOWN.findall(document.read_text()):
+            for part in re.split(r"^\$ ", block, flags=re.MULTILINE)[1:]:
+                command, _, printed = part.partition("\n")
+                words_after = shlex.split(command)[1:]
+                if all((TOP / word).exists() for word in words_after if re.search(r"\.(csv|certificate)$", word)):
+                    yield document.relative_to(TOP).as_posix(), words_after, printed
+
+
+def faults_of_shown(tcc: List[str]) -> Iterator[Outcome]:
+    """Whether the program prints what the documents show."""
+    for document, words_after, printed in shown():
+        done = subprocess.run([*tcc, *words_after], cwd=TOP, capture_output=True, text=True, timeout=60, check=False)
+        yield "%s: tcc %s" % (document, " ".join(words_after)), None if done.stdout == printed else "it prints %r" % done.stdout
+
+
 def outcomes(tcc: List[str]) -> Iterator[Outcome]:
     for document in documents():
         yield from faults_of_document(document)
     yield from modules.outcomes()
     yield from faults_of_crates()
     yield from contracts.outcomes()
+    yield from claims.outcomes()
+    yield from definitions.outcomes()
     yield from examples.outcomes()
     yield from told.outcomes()
+    yield from plain.outcomes()
     yield from surface.outcomes()
     yield from schema.outcomes()
     yield from faults_of_trust()
     yield from faults_of_scripts()
-    yield from faults_of_edits()
+    yield from faults_of_mutants()
     if not shutil.which(tcc[0]):
         yield tcc[0], "there is no such program"
         return
     yield from faults_of_options(tcc)
     yield from faults_of_stack(tcc)
+    yield from faults_of_shown(tcc)
 
 
 def main() -> int:
-    return status_on_tcc("Whether what the documents name is there.", outcomes)
+    ask = ask_for_tcc("Whether what the documents name is there.")
+    ask.add_argument("--write", action="store_true", help="writes the pages that scripts write anew first")
+    asked = ask.parse_args()
+    for page in (contracts, claims, definitions, modules, examples, told) if asked.write else ():
+        page.write()
+    return status_of(outcomes(asked.tcc))
 
 
 if __name__ == "__main__":

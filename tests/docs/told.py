@@ -1,14 +1,14 @@
 #!/usr/bin/env python3
-"""What the documents tell of statuses and limits, from the sources.
+"""What the documents say about statuses and limits, from the sources.
 
     told.py [--write]
 
 The words of a status are those of its variant in `crates/tcc_print/src/status.rt`, its number is that of `code` there, the
 limits are the constants of `crates/tcc_txn/src/limits.rt` and of `crates/tcc_workers/src/workers.rt`, and which status a
 fault has is in `crates/tcc_print/src/kinds.rt`. From these come the exit statuses and the limits of docs/GUIDE.md and of the man
-page, which `--write` writes anew. What else tells a limit or a status is held against them: the row faults of
+page, which `--write` writes anew. What else names a limit or a status is compared with them: the row faults of
 docs/FORMATS.md, the kinds that the man page names, help, and some sentences; where a limit changes, each of them that is
-wrong is named, with what has to stand there. And README has no more words than it may have. Each difference is one line, as
+wrong is named, with what has to be there. And README has no more words than it may have. Each difference is one line, as
 `run.py` has it, which asks this too; the last line is `N passed, M failed`.
 """
 import pathlib
@@ -28,17 +28,26 @@ VARIANT = re.compile(r"((?: *///.*\n)+) *(\w+),\n")
 CODE = re.compile(r"((?:Status::\w+[ |]*)+) => (\d+),")
 FAULT = re.compile(r"(Row|Cert)FaultKind::(\w+)[^=]*=> Told::new\(\"\w+\", Status::(\w+)\)")
 QUOTED = re.compile(r"`([^`]+)`")
-# In braces an expression over the limits: with a comma before each three digits, or plain behind an exclamation mark.
+# In braces an expression over the limits: with a comma before each three digits, or plain after an exclamation mark.
 TEMPLATE = re.compile(r"\{(!?)([A-Z_+1 ]+)\}")
 LIMITS = ("{MAX_SESSIONS} sessions, {MAX_TRANSACTIONS} transactions%s of {MAX_OPERATIONS} operations%s, {MAX_KEYS} keys, "
           "{MAX_SEALS} seals%s {MAX_INPUT_BYTES} bytes")
 LARGE = "{LARGE_SESSIONS} sessions, {LARGE_TRANSACTIONS} transactions, {LARGE_KEYS} keys%s {LARGE_INPUT_BYTES} bytes"
-IN_GUIDE = "A history has at most " + LIMITS % (" (aborted ones counted)", "", " and") + "; with `--large` " + LARGE % " and" + "."
+IN_GUIDE = """| of a history, at most | by default | with `--large` |
+|---|---|---|
+| sessions | {MAX_SESSIONS} | {LARGE_SESSIONS} |
+| transactions, aborted ones counted | {MAX_TRANSACTIONS} | {LARGE_TRANSACTIONS} |
+| operations of a transaction | {MAX_OPERATIONS} | {MAX_OPERATIONS} |
+| keys | {MAX_KEYS} | {LARGE_KEYS} |
+| seals | {MAX_SEALS} | {MAX_SEALS} |
+| bytes | {MAX_INPUT_BYTES} | {LARGE_INPUT_BYTES} |
+"""
 IN_PAGE = (".SH LIMITS\n" + LIMITS % (", aborted ones counted,", " each", ",") + ".\n.PP\nWith \\fB\\-\\-large\\fR " + LARGE % ","
            + "; as many operations and seals.\n")
 HELD = {
     "README.md": ("up to {MAX_TRANSACTIONS} transactions, or a million with `--large`",),
     "docs/GUIDE.md": (
+        "more than {MAX_SESSIONS} sessions or {MAX_TRANSACTIONS} transactions",
         "Names of sessions and keys have 1 to {MAX_NAME_BYTES} bytes",
         "lets N threads search for an anomaly, 1 to {MAX_WORKERS}."),
     "python/tcc/clients.py": ("MOST_TRANSACTIONS = {!LARGE_TRANSACTIONS}", "MOST_KEYS = {!LARGE_KEYS}"),
@@ -66,9 +75,9 @@ HELD = {
         "| TooManySeals | `seal` number {MAX_SEALS+1} |",
         "gave more than {MAX_INPUT_BYTES} bytes",
         "TooManySessions at a {LARGE_SESSIONS+1}th session, TooManyTransactions at transaction {LARGE_TRANSACTIONS+1}, TooManyKeys "
-        "at a {LARGE_KEYS+1}th key, and Read behind {LARGE_INPUT_BYTES} bytes",
+        "at a {LARGE_KEYS+1}th key, and Read after {LARGE_INPUT_BYTES} bytes",
         "up to {MAX_SESSIONS} sessions with up to {MAX_TRANSACTIONS} transactions"),
-    "docs/tcc.1": ("names: 1 to {MAX_NAME_BYTES} bytes", "So many threads, 1 to {MAX_WORKERS}, search"),
+    "docs/tcc.1": ("names: 1 to {MAX_NAME_BYTES} bytes", "N threads, 1 to {MAX_WORKERS}, search"),
     "docs/HEADLINE.md": ("`Workers`, a type of 1 to {MAX_WORKERS}",),
     "crates/tcc_words/src/command_line.rt": ("so many workers, 1 to {!MAX_WORKERS};",),
     "crates/tcc_words/src/help.rt": (
@@ -129,7 +138,7 @@ def statuses_of_guide() -> str:
 
 
 def statuses_of_page() -> str:
-    """The statuses as the man page has them; what stands in backquotes is bold there."""
+    """The statuses as the man page has them; what is in backquotes is bold there."""
     items = []
     for code, words in statuses():
         text = QUOTED.sub(lambda found: "\\fB%s\\fR" % found.group(1).replace("-", "\\-"), lowered(words))
@@ -137,10 +146,10 @@ def statuses_of_page() -> str:
     return "of its last answer, or of the fault that ended the run.\n" + "".join(items)
 
 
-# A file, what stands before and behind a part of it, and how the part reads.
+# A file, what comes before and after a part of it, and how the part reads.
 WRITTEN = (
     (GUIDE, r"## Exit statuses\n.*?\|\n(?=\n)", statuses_of_guide),
-    (GUIDE, r"A history has at most (?=[0-9,]+ sessions).*?bytes;.*?bytes\.", lambda: filled(IN_GUIDE)),
+    (GUIDE, r"\| of a history, at most .*?\n(?=\n)", lambda: filled(IN_GUIDE)),
     (PAGE, r"of its last answer, or of the fault that ended the run\.\n.*?(?=\.SH )", statuses_of_page),
     (PAGE, r"\.SH LIMITS\n.*?(?=\.SH )", lambda: filled(IN_PAGE)),
 )
@@ -187,7 +196,7 @@ def outcomes() -> Iterator[Outcome]:
 
 
 def main() -> int:
-    return status_of_written("What the documents tell of statuses and limits, from the sources.", write, outcomes)
+    return status_of_written("What the documents say about statuses and limits, from the sources.", write, outcomes)
 
 
 if __name__ == "__main__":

@@ -1,8 +1,8 @@
-"""What has to be believed: whether the definitions that contracts cite stand in `specs/`, and all others in `specs/private/`.
+"""What has to be believed: whether the definitions that contracts cite are in `specs/`, and all others in `specs/private/`.
 
-A contract counts where its call is public, or stands behind one that has no words for what it does; and so does what values of a
+A contract counts where its call is public, or is called by one that has no words for what it does; and so does what values of a
 public type are seen as. What these cite, and what that is defined by, has to be believed. Names are followed through the imports of
-each file. A definition that a document names may stand in `specs/` beside them.
+each file. A definition that a document names may be in `specs/` beside them.
 """
 import collections
 import functools
@@ -20,7 +20,7 @@ VALUE = re.compile(r" *ghost Value = \{(.*)\};")
 OPENS_BODY = re.compile(r" *(?:\)|(?:pub )?(?:const )?fn ).*[{;]$")
 HEAD = re.compile(r"(?:abbrev |unfoldable )?pub (?:record |data )?([\w'-]+)")
 WORD = re.compile(r"[^\W\d][\w'-]*(?:\.[^\W\d][\w'-]*)*|◌?[^\s\w()\[\]{},;.]+")
-# Modules whose calls stand behind public ones about the process's own words and files, of which no clause can speak.
+# Modules whose calls are called by public ones about the process's own words and files, of which no clause can speak.
 BEHIND = {"tcc_words": ("command_line", "checker"), "tcc_files": ("opening",)}
 QUOTED = re.compile(r"`([^`\n]+)`")
 
@@ -40,12 +40,12 @@ class Definition(NamedTuple):
 
 
 def written(text: str) -> List[Import]:
-    """What a file brings in that stands in a file of specs; what code declares doesn't."""
+    """What a file brings in that is in a file of specs; what code declares doesn't."""
     return [one for one in imports(text) if not one.module.startswith("declared")]
 
 
 class Names:
-    """What the words of a file stand for, by its imports and its own definitions."""
+    """What the words of a file mean, by its imports and its own definitions."""
 
     def __init__(self, text: str, own: Optional[Tuple[str, str]] = None, defined: FrozenSet[str] = frozenset()):
         self.of = {name: Definition(*own, name) for name in defined} if own else {}
@@ -97,7 +97,7 @@ def bodies_of(text: str) -> Dict[str, str]:
 
 
 def contract(lines: List[str], first: int) -> str:
-    """What stands before the body of the function that begins there."""
+    """What comes before the body of the function that begins there."""
     indent = lines[first][:len(lines[first]) - len(lines[first].lstrip())]
     taken = []
     for line in lines[first:]:
@@ -157,13 +157,13 @@ def believed() -> Dict[Definition, str]:
 
 @functools.lru_cache(maxsize=None)
 def named() -> FrozenSet[str]:
-    """What stands in backquotes in the documents."""
-    texts = (path.read_text() for path in (CRATES.parent / "docs").glob("*.md"))
+    """What is in backquotes in the documents, but for the page that has every definition."""
+    texts = (path.read_text() for path in (CRATES.parent / "docs").glob("*.md") if path.name != "DEFINITIONS.md")
     return frozenset(name for text in texts for name in QUOTED.findall(text))
 
 
 def faults_of_trust() -> Iterator[Outcome]:
-    """Whether what contracts cite stands in `specs/` and all else in `specs/private/`, of which the former imports nothing."""
+    """Whether what contracts cite is in `specs/` and all else in `specs/private/`, of which the former imports nothing."""
     for one in sorted(definitions()):
         wrong = None
         if one.is_private() and one in believed():

@@ -186,6 +186,33 @@ def one_stale_among_many(count: int, sessions: int) -> Transactions:
     yield "s0", ["r,k0,1"]
 
 
+def read_initial(writers: int, readers: int) -> Transactions:
+    """Session a writes x again and again, unseen by c, who knows of d alone and reads the initial x."""
+    yield "d", ["w,z,1"]
+    for n in range(writers):
+        yield "a", ["w,x,%d" % (n + 1)]
+    yield "c", ["r,z,1"]
+    for _ in range(readers):
+        yield "c", ["r,x,0"]
+
+
+def known_by_steps(writers: int, readers: int) -> Transactions:
+    """Session a writes x again and again; c knows of all that by way of d, by no single pair, and reads the first write."""
+    for n in range(writers):
+        yield "a", ["w,x,%d" % (n + 1)]
+    yield "a", ["w,y,1"]
+    yield "d", ["r,y,1", "w,z,1"]
+    yield "c", ["r,z,1"]
+    for _ in range(readers):
+        yield "c", ["r,x,1"]
+
+
+def each_its_own(sessions: int) -> Transactions:
+    """Each session has one transaction, which writes a key of its own and reads that of the session before it."""
+    for n in range(sessions):
+        yield "s%d" % n, ["w,k%d,1" % n, *(["r,k%d,1" % (n - 1)] if n else [])]
+
+
 def ordinary(size: int) -> str:
     """A history with so many bytes at least: 32 sessions, of whose transactions each writes a key and reads the last value of
     another one."""
@@ -224,3 +251,8 @@ def hard() -> Iterator[Hard]:
     yield Hard("circling", large, records_of(circling(4095, 100)), "anomaly: 2 steps, cyclic-causality\n")
     yield Hard("circling at atomic", small, records_of(circling(4095, 100)), "anomaly: 2 steps, cyclic-causality\n")
     yield Hard("one stale among many", large, records_of(one_stale_among_many(60000, 4096)), "anomaly: 3 steps, overwritten-read\n")
+    survey = ["survey", "--large"]
+    yield Hard("surveyed: initial reads", survey, records_of(read_initial(60000, 60000)), "0 contradicted reads of 60001, 0 faults\n")
+    yield Hard("surveyed: known by steps", [*survey, "--level", "atomic"], records_of(known_by_steps(60000, 60000)),
+               "0 contradicted reads of 60002, 0 faults\n")
+    yield Hard("surveyed: a session each", survey, records_of(each_its_own(60000)), "0 contradicted reads of 59999, 0 faults\n")

@@ -140,7 +140,7 @@ def harder(tcc, one):
     # an ordinary one of as many bytes has more transactions, so it may be past the small limits
     _, _, usual, _ = run(tcc, [*one.words, *([] if "--large" in one.words else ["--large"])], [ordinary(len(one.records)).encode()])
     got, said, took, _ = run(tcc, one.words, [one.records.encode()])
-    if got != (0 if one.begins.startswith("consistent") else 1) or not said.startswith(one.begins.encode()):
+    if got != (0 if one.begins.startswith(("consistent", "0 contradicted")) else 1) or not said.startswith(one.begins.encode()):
         return "status %d, standard output %s" % (got, shown(said[:200]))
     most = TIMES_ORDINARY * usual + BESIDE_ORDINARY
     return "%.2f seconds, and %.2f for an ordinary one" % (took, usual) if took > most else None

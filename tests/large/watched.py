@@ -1,6 +1,7 @@
 #!/usr/bin/env python3
-"""What a run of `tcc explain --large` shows at a terminal while it lasts: after two seconds what it is doing, on one line that is
-cleared before anything else is written; elsewhere, and where the run is short or its records are typed, nothing.
+"""What a run of `tcc explain --large` or `tcc check --large` shows at a terminal while it lasts: after two seconds what it is doing, on one
+line that is cleared before anything else is written; elsewhere, and where the run is short or its records are typed, nothing. A check
+says how far it is where it reads a file whose size is known.
 
     watched.py [--tcc PATH]
 
@@ -12,8 +13,10 @@ import os
 import pathlib
 import re
 import select
+import signal
 import subprocess
 import sys
+import tempfile
 import termios
 import time
 
@@ -24,19 +27,31 @@ from counted import status_of  # noqa: E402
 
 QUIET = 2.0
 LONGEST = 120.0
-LINE = re.compile(rb"(reading records|deciding|cutting a slice), (\d+) s\r")
+LINE = re.compile(rb"(reading records|reading the certificate|tracing reads|deciding|cutting a slice|judging)(?:, (\d+) %)?, (\d+) s\r")
 ONE = b"a,begin\na,w,x,1\na,commit\n"
 CONSISTENT = b"consistent: 1 transactions, 1 sessions\norder: init a/1\n"
 
 
-def terminal(held):
-    """A terminal that changes no line feed: the end of whoever sits there, and that of the program."""
-    person, program = os.openpty()
+def terminal(held, number=None):
+    """A terminal that changes no line feed: the end of whoever sits there, and that of the program. If a number is wanted, it is that
+    of the terminal, or the first of all where it can't be had."""
+    made = [os.openpty()]
+    while number is not None and len(made) < 32 and not is_numbered(made[-1], number):
+        made.append(os.openpty())
+    person, program = next((one for one in made if is_numbered(one, number)), made[0])
+    for one in set(made) - {(person, program)}:
+        os.close(one[0])
+        os.close(one[1])
     held.callback(os.close, person)
     mode = termios.tcgetattr(program)
     mode[1], mode[3] = 0, termios.ICANON
     termios.tcsetattr(program, termios.TCSANOW, mode)
     return person, program
+
+
+def is_numbered(ends, number):
+    """Whether a terminal has this number."""
+    return os.minor(os.fstat(ends[1]).st_rdev) == number
 
 
 def read_until(screen, is_enough, seconds):
@@ -54,11 +69,11 @@ def read_until(screen, is_enough, seconds):
     return text
 
 
-def watched(words, parts):
-    """The run at a terminal, which is both standard output and standard error: what it shows, part by part of the records, when
-    it showed something first, and the status."""
+def watched(words, parts, number=None):
+    """The run at a terminal, of this number if one is wanted, which is both standard output and standard error: what it shows, part by
+    part of the records, when it showed something first, and the status."""
     with contextlib.ExitStack() as held:
-        person, program = terminal(held)
+        person, program = terminal(held, number)
         begun = time.monotonic()
         run = subprocess.Popen(words, stdin=subprocess.PIPE, stdout=program, stderr=program)
         os.close(program)
@@ -105,13 +120,13 @@ def screen_after(text):
 
 def stages_in(text):
     """What is shown to be done, each once, in order."""
-    found = [stage.decode() for stage, _ in LINE.findall(text)]
+    found = [stage.decode() for stage, _, _ in LINE.findall(text)]
     return [stage for before, stage in zip([None] + found, found) if stage != before]
 
 
-def wrong_with(words, parts, status, wanted, stages):
+def wrong_with(words, parts, status, wanted, stages, number=None):
     """What a run at a terminal shows otherwise than wanted, or None: the screen in the end, and the stages among others."""
-    showed, first, ended = watched(words, parts)
+    showed, first, ended = watched(words, parts, number)
     text = b"".join(showed)
     if ended != status:
         return "status %d, shown %s" % (ended, shown(text))
@@ -150,6 +165,57 @@ def decided(words):
     return None if len(last) == 2 and last[0].startswith(b'{"answer":"consistent"') and not last[1] else "screen: %s" % shown(text[-200:])
 
 
+def check_at_terminal(words, pipe, parts):
+    """What a check at a terminal shows, and its status. A pipe that it reads gets its parts each once the line shows something; without
+    parts the check is held up for a while after it began."""
+    with contextlib.ExitStack() as held:
+        person, program = terminal(held)
+        run = subprocess.Popen(words, stdin=subprocess.DEVNULL, stdout=program, stderr=program)
+        os.close(program)
+        text = b""
+        if pipe:
+            with open(pipe, "wb", buffering=0) as sent:
+                for part in parts[:-1]:
+                    sent.write(part)
+                    text += read_until(person, LINE.search, LONGEST)
+                sent.write(parts[-1])
+        elif parts is None:
+            time.sleep(0.2)
+            run.send_signal(signal.SIGSTOP)
+            time.sleep(QUIET)
+            run.send_signal(signal.SIGCONT)
+        text += read_until(person, lambda text: False, LONGEST)
+        return text, run.wait(LONGEST)
+
+
+def wrong_check(words, pipe, parts, stage, far):
+    """What a check of an order at a terminal shows otherwise than wanted, or None: that it is at this stage, and whether it says how far."""
+    text, status = check_at_terminal(words, pipe, parts)
+    told = [bool(percent) for one, percent, _ in LINE.findall(text) if one.decode() == stage]
+    if status != 0 or not told or set(told) != {far}:
+        return "status %d, shown %s" % (status, shown(text))
+    return first_difference("screen", b"accepted: order\n", screen_after(text))
+
+
+def checks(tcc):
+    """Each check by its name, with what is wrong, or None."""
+    with tempfile.TemporaryDirectory() as made:
+        folder = pathlib.Path(made)
+        history, certificate, pipe = folder / "history", folder / "certificate", folder / "pipe"
+        explain, check = [tcc, "explain", "--large", "--quiet", "--certificate", certificate, history], [tcc, "check", "--large"]
+        history.write_bytes(ONE)
+        subprocess.run(explain, stdout=subprocess.DEVNULL, check=True)
+        os.mkfifo(pipe)
+        yield "a long check", wrong_check([*check, pipe, certificate], pipe, [b"", ONE], "reading records", False)
+        text = certificate.read_bytes()
+        yield "a long certificate", wrong_check([*check, history, pipe], pipe, [text[:20], text[20:]], "reading the certificate", False)
+        yield "a short check", first_difference("screen", b"accepted: order\n", check_at_terminal([*check, history, certificate], None, [])[0])
+        # five million reads, which take a second or two
+        history.write_bytes((b"a,begin\n" + b"a,r,k,0\n" * 250 + b"a,commit\n") * 20000)
+        subprocess.run(explain, stdout=subprocess.DEVNULL, check=True)
+        yield "a check of many records", wrong_check([*check, history, certificate], None, None, "reading records", True)
+
+
 def outcomes(tcc):
     """Each run by its name, with what is wrong, or None."""
     words = [tcc, "explain", "--large"]
@@ -160,9 +226,11 @@ def outcomes(tcc):
         b'row 4: "a,commit": expected begin first, since no transaction of the session is begun\nrow 4: NotBegun\n', reading)
     yield "a seal of a long run", wrong_with(words, [ONE, b"seal\n", b""], 0, CONSISTENT, reading)
     yield "a short run", wrong_with(words, [ONE], 0, CONSISTENT, [])
+    yield "a long run at the terminal of number 1", wrong_with(words, [b"", ONE], 0, CONSISTENT, reading, 1)
     yield "a long run at no terminal", elsewhere(words)
     yield "a long run of typed records", typed(words)
     yield "a long decision", decided(words)
+    yield from checks(tcc)
 
 
 def main():

@@ -111,6 +111,31 @@ SURVEYED = [b"contradicted a/2 op 1 x 0: knew of a/1, read your writes\n", b"rea
 SURVEYED_FAULTS = [b"unresolved: 2 faults\nAborted b/1 op 1 x 1\nThinAir b/1 op 2 z 7\n", b"0 contradicted reads of 0, 2 faults\n"]
 SURVEYED_JSON = [b'{"contradicted":"a/2","key":"x","name":"read your writes","op":1,"value":0,"writer":"a/1"}\n',
                  b'{"count":1,"name":"read your writes"}\n', b'{"answer":"survey","contradicted":1,"faults":0,"reads":1}\n']
+SMALL_LIMITS = b'{"bytes":134217728,"keys":1024,"operations":256,"seals":256,"sessions":64,"transactions":4095}'
+LARGE_LIMITS = b'{"bytes":1073741824,"keys":1048576,"operations":256,"seals":256,"sessions":65535,"transactions":1048575}'
+
+
+def full(form, large=False):
+    """The line of `--full`, with the limits in the place of LIMITS and whether they are the large ones in that of LARGE."""
+    return form.replace(b"LIMITS", LARGE_LIMITS if large else SMALL_LIMITS).replace(b"LARGE", b"true" if large else b"false") + b"\n"
+
+
+FULL_MEMORY = b'{"answer":"none","fault":{"answer":"memory"},"large":LARGE,"level":"causal","limits":LIMITS,"status":5,"version":"0.1.0"}'
+FULL_ORDER = b'{"answer":"consistent","large":LARGE,"level":"causal","limits":LIMITS,"order":["init","a/1","b/1","c/1","d/1"],"sessions":4,\
+"status":0,"transactions":4,"version":"0.1.0"}'
+FULL_SESSION = b'{"from":"init","kind":"session","to":"a/1"}'
+FULL_DERIVED = b'{"from":"a/1","key":"x","kind":"derived","missed":2,"read":5,"reader":"a/2","to":"init","value":0,\
+"walk":[{"from":"a/1","kind":"session","to":"a/2"}],"written":null}'
+FULL_STALE = b'{"answer":"anomaly","cycle":[' + FULL_SESSION + b"," + FULL_DERIVED + b'],"large":LARGE,"least":true,"level":"causal",\
+"limits":LIMITS,"sessions":1,"shape":"stale-initial-read","status":1,"steps":3,"transactions":2,"version":"0.1.0"}'
+LARGE_FULL_STALE = b'{"answer":"anomaly","cycle":[' + FULL_DERIVED + b"," + FULL_SESSION + b'],"large":LARGE,"least":true,"level":"causal",\
+"limits":LIMITS,"sessions":65,"shape":"stale-initial-read","status":1,"steps":3,"transactions":2,"version":"0.1.0"}'
+FULL_FAULTS = b'{"answer":"unresolved","faults":[\
+{"key":"x","kind":"Aborted","name":"G1a","op":1,"place":1,"row":5,"session":"b","value":1},\
+{"key":"z","kind":"ThinAir","name":null,"op":2,"place":1,"row":6,"session":"b","value":7}],"large":LARGE,"level":"causal",\
+"limits":LIMITS,"sessions":2,"status":2,"transactions":1,"version":"0.1.0"}'
+FULL_ROW = b'{"answer":"none","fault":{"answer":"row","kind":"UnknownWord","row":1},"large":LARGE,"level":"causal","limits":LIMITS,\
+"status":3,"version":"0.1.0"}'
 FILES = {"certificate": FORK_CERTIFICATE, "two-stale-reads": TWO_STALE_READS, "large-order": LARGE_ORDER, "large-cycle": LARGE_CYCLE,
          "past": PAST}
 # The file of standard input, or none; the words after `tcc`, the answers, and the status. `@NAME` is one of these files.
@@ -143,6 +168,11 @@ ANSWERS = [
     (EXAMPLES / "aborted-read.csv", ["survey", "--large"], SURVEYED_FAULTS, 2),
     (STALE, ["survey", "--json"], SURVEYED_JSON, 1),
     (EXAMPLES / "causality-cycle.csv", ["survey"], b"circular: a/1 b/1\n", 1),
+    (STALE, ["explain", "--full"], full(FULL_STALE), 1),
+    (FORK, ["explain", "--full", "--large"], full(FULL_ORDER, True), 0),
+    (EXAMPLES / "aborted-read.csv", ["explain", "--full"], full(FULL_FAULTS), 2),
+    ("@certificate", ["explain", "--full"], full(FULL_ROW), 3),
+    ("@past", ["explain", "--full", "--large"], full(LARGE_FULL_STALE, True), 1),
 ]
 # The same, by one worker and by two.
 SEARCHES = [(STALE, STALE_READ, 1), (FORK, FORK_ORDER, 0), ("@two-stale-reads", STALE_READ, 1)]
@@ -200,9 +230,11 @@ def refusals(run, shim):
     """For each allocation of a run, what is answered where it is refused, whether that is right, and standard error.
 
     Before the words of the command line are read the line `memory` stands, as nobody knows yet that JSON is wanted;
-    from the first line of JSON on, that one.
+    from the first line of JSON on, that one. With `--full` that is an object, or the shortest line where it has no room either.
     """
-    json = run.cut_off(JSON_MEMORY) if "--json" in run.words else []
+    json = run.cut_off(JSON_MEMORY) if {"--json", "--full"} & set(run.words) else []
+    if "--full" in run.words:
+        json += run.cut_off(full(FULL_MEMORY, "--large" in run.words))
     lines = [(MEMORY, 5)] + json if json else run.cut_off(MEMORY)
     left = CALM if run.shares_work() else 1
     calm = 0

@@ -3,9 +3,10 @@
 
     run.py [--tcc PATH]
 
-Into a new folder: what is asked of it is asked of what stands there. That its types are right is asked of mypy, and its fixtures
-are run by pytest. Where pip, mypy or pytest isn't there, what needs it is passed over, which is said. Each difference is one line;
-the last line is `N passed, M failed`.
+Into a new folder: what is asked of it is asked of what stands there. That its types are right is asked of mypy, its fixtures are
+run by pytest, and calls and rounds go to an etcd and a Redis; before that, that no pattern of it is slow (`patterns.py`). Where
+pip, mypy, pytest, etcd or redis-server isn't there, what needs it is passed over, which is said. Each difference is one line; the
+last line is `N passed, M failed`.
 """
 import json
 import os
@@ -19,15 +20,23 @@ import threading
 import xml.etree.ElementTree as xml
 from typing import Callable, Dict, Iterator, List, Optional
 
-HERE = pathlib.Path(__file__).resolve().parent
-TOP = HERE.parent.parent
-PACKAGE = TOP / "python"
-sys.path.insert(0, str(TOP / "tests"))
+sys.path.insert(0, str(pathlib.Path(__file__).resolve().parent.parent))
+import calls  # noqa: E402
+import looks  # noqa: E402
+import losses  # noqa: E402
+import patterns  # noqa: E402
+import nodes  # noqa: E402
+import several  # noqa: E402
+import stores  # noqa: E402
+import versioned  # noqa: E402
+import working  # noqa: E402
 from arguments import status_on_tcc  # noqa: E402
-from counted import Outcome  # noqa: E402
+from counted import Outcome, guarded  # noqa: E402
+from helpers import SECONDS, TOP, Broken, Refused, differs, ended, raises, run  # noqa: E402
 
-SECONDS = 120
-COMMANDS = ["tcc-all", "tcc-edn", "tcc-full", "tcc-jepsen", "tcc-picture", "tcc-places", "tcc-report", "tcc-settle"]
+PACKAGE = TOP / "python"
+COMMANDS = ["tcc-all", "tcc-edn", "tcc-full", "tcc-jepsen", "tcc-join", "tcc-look", "tcc-picture", "tcc-places", "tcc-report", "tcc-sessions",
+            "tcc-settle", "tcc-versions"]
 THREADS, TURNS = 8, 40
 # A process that is killed while a transaction of its is in its COMMIT, and another one hasn't come so far.
 DYING = """
@@ -109,46 +118,6 @@ def python_with(module: str) -> Optional[str]:
     return None
 
 
-def run(words: List[str], folder: str, more: Optional[Dict[str, str]] = None, cwd: Optional[pathlib.Path] = None):
-    """A run in which the package is that of the folder, with more variables."""
-    variables = {**os.environ, "PYTHONPATH": folder, "PYTHONDONTWRITEBYTECODE": "1", **(more or {})}
-    return subprocess.run(words, capture_output=True, text=True, timeout=SECONDS, check=False, env=variables, cwd=cwd)
-
-
-def differs(name: str, wanted, got) -> Outcome:
-    return name, None if wanted == got else "wanted %r, got %r" % (wanted, got)
-
-
-def raises(kind: type, what: Callable) -> Optional[str]:
-    try:
-        what()
-    except kind:
-        return None
-    return "no %s" % kind.__name__
-
-
-class Broken(Exception):
-    """A connection broke."""
-
-
-class Refused(Exception):
-    """The store refused."""
-
-
-def ended(session, pairs: list, how: Optional[Exception], committing: bool) -> None:
-    """A transaction of these reads and writes that ends so."""
-    try:
-        with session.transaction(refused=(Refused,)) as one:
-            for does, key, value in pairs:
-                (one.read if does == "r" else one.write)(key, value)
-            if committing:
-                one.committing()
-            if how:
-                raise how
-    except (Broken, Refused):
-        pass
-
-
 def ends(folder: pathlib.Path) -> Iterator[Outcome]:
     """Each way in which a transaction can end, and what is recorded of it."""
     from tcc import Recorder
@@ -169,9 +138,9 @@ def ends(folder: pathlib.Path) -> Iterator[Outcome]:
             one.abort()
         ended(b, [("r", "x", 4)], None, True)
     wanted = ["a,begin", "a,r,x,0", "a,w,x,1", "a,commit", "a,begin", "a,w,x,2", "a,abort", "a,begin", "a,w,x,3", "a,abort",
+              "a,begin", "a,w,x,4", "a,unknown", "a.2,begin", "a.2,w,x,5", "a.2,unknown",
               "a.3,begin", "a.3,w,y,6", "a.3,commit", "a.4,begin", "a.4,r,y,6", "a.4,commit",
-              "b,begin", "b,w,z,7", "b,abort", "b,begin", "b,r,x,4", "b,commit",
-              "a,begin", "a,w,x,4", "a,commit", "a.2,begin", "a.2,w,x,5", "a.2,abort"]
+              "b,begin", "b,w,z,7", "b,abort", "b,begin", "b,r,x,4", "b,commit"]
     yield differs("records of each end", wanted, path.read_text().split())
     yield differs("file beside", False, os.path.exists(str(path) + ".pending"))
     notes = [line.split(",") for line in (folder / "ends.notes").read_text().splitlines()]
@@ -217,10 +186,10 @@ def crash(folder: pathlib.Path, library: str) -> Iterator[Outcome]:
     with Recorder(path) as recorder:
         session = recorder.session("a")
         yield differs("the session behind it", "a.2", session.name)
-        yield differs("a value behind it", True, recorder.new_value() > 9002)
+        yield differs("a value after it", False, recorder.new_value() in (5000, 9000, 9001, 9002))
         with session.transaction() as one:
             one.read("y", 9001)
-    second = ["a.2,begin", "a.2,r,y,9001", "a.2,commit", "a,begin", "a,w,x,9000", "a,w,y,9001", "a,commit", "b,begin", "b,w,z,9002", "b,abort"]
+    second = ["a.2,begin", "a.2,r,y,9001", "a.2,commit", "a,begin", "a,w,x,9000", "a,w,y,9001", "a,unknown", "b,begin", "b,w,z,9002", "b,unknown"]
     yield differs("records behind it", first + second, path.read_text().split())
     alone = folder / "alone.csv"
     run([sys.executable, "-c", DYING, str(alone)], library)
@@ -370,6 +339,11 @@ def same_version(tcc: List[str]) -> Iterator[Outcome]:
 
 
 def outcomes(tcc: List[str]) -> Iterator[Outcome]:
+    sys.path.insert(0, str(PACKAGE))
+    yield from patterns.outcomes()
+    for name in [name for name in sys.modules if name.partition(".")[0] == "tcc"]:
+        del sys.modules[name]
+    sys.path.remove(str(PACKAGE))
     yield from types()
     yield from same_version(tcc)
     if subprocess.run([sys.executable, "-m", "pip", "--version"], capture_output=True, check=False).returncode:
@@ -384,9 +358,14 @@ def outcomes(tcc: List[str]) -> Iterator[Outcome]:
         sys.path.insert(0, library)
         import tcc as package
         yield "what is imported", None if package.__file__.startswith(library) else package.__file__
-        for part in (ends(folder), refusals(folder), crash(folder, library), threads(folder, tcc), answers(folder, tcc),
-                     commands(folder, library, tcc), fixtures(folder, library, tcc), rounds(folder, library, tcc)):
-            yield from part
+        parts = {"ends": ends(folder), "refusals": refusals(folder), "crash": crash(folder, library), "threads": threads(folder, tcc),
+                 "losses": losses.outcomes(folder, library, tcc), "working": working.outcomes(folder, library, tcc),
+                 "calls": calls.outcomes(folder, tcc), "looks": looks.outcomes(folder, library, tcc),
+                 "several": several.outcomes(folder, library, tcc), "nodes": nodes.outcomes(folder, library, tcc),
+                 "versions": versioned.outcomes(folder, library, tcc), "stores": stores.outcomes(folder, tcc), "answers": answers(folder, tcc), "commands": commands(folder, library, tcc),
+                 "fixtures": fixtures(folder, library, tcc), "rounds": rounds(folder, library, tcc)}
+        for about, part in parts.items():
+            yield from guarded(about, part)
 
 
 def main() -> int:

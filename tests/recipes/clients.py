@@ -23,7 +23,7 @@ sys.path.insert(0, str(TOP / "tests"))
 sys.path.insert(0, str(TOP / "python"))
 from counted import Outcome  # noqa: E402
 
-SECONDS = 60
+SECONDS = 300
 WORK = [(["x"], ["x", "y"]), (["x", "y"], []), ([], ["y"]), (["z"], ["x"])]
 LAST = "read z"
 KINDS = ("before", "behind", "refused")
@@ -232,9 +232,9 @@ def as_shown() -> Iterator[Outcome]:
     names["client"](3, server.connect, [([], ["w"])], done, time.monotonic() + SECONDS)
     names["write_records"](done, out)
     wanted = ["c1.1,begin", "c1.1,w,x,65", "c1.1,commit", "c1.1,begin", "c1.1,w,y,129", "c1.1,abort",
-              "c1.1,begin", "c1.1,w,z,193", "c1.1,abort", "c1.2,begin", "c1.2,w,x,257", "c1.2,w,z,321", "c1.2,commit",
+              "c1.1,begin", "c1.1,w,z,193", "c1.1,abort", "c1.2,begin", "c1.2,w,x,257", "c1.2,w,z,321", "c1.2,unknown",
               "c1.3,begin", "c1.3,r,z,321", "c1.3,commit", "c2.1,begin", "c2.1,r,x,257", "c2.1,r,y,0", "c2.1,r,z,321", "c2.1,commit",
-              "c3.1,begin", "c3.1,w,w,67", "c3.1,abort"]
+              "c3.1,begin", "c3.1,w,w,67", "c3.1,unknown"]
     yield "client of RECORDING", None if out.getvalue().split() == wanted else "wrote %s" % out.getvalue().split()
 
 

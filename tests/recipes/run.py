@@ -23,7 +23,7 @@ Behind the cases, the help of each script has to show an example, the clients in
 to write what they saw, also where their connections are cut at every call (`clients.py`), each way of reading a history has to
 give the same records, a script that is interrupted to say what it has, and the lines of RECORDING for a large history to end
 with its status (`scripts.py`); the pages of report.py have to be whole, and right in a browser where Chromium is there
-(`pages.py`); and the demos of recipes/redis, recipes/postgres and recipes/galera have to find what they show;
+(`pages.py`); and the demos of recipes/redis, recipes/postgres, recipes/galera and recipes/etcd have to find what they show;
 where their servers or their library for Python aren't there, they are passed over, which is said.
 
 The wanted texts were worked out by hand from the definitions. Each difference is one line; the last line is
@@ -45,15 +45,16 @@ TOP = HERE.parent.parent
 sys.path.insert(0, str(TOP / "tests"))
 import ci  # noqa: E402
 import clients  # noqa: E402
+import lists  # noqa: E402
 import pages  # noqa: E402
 import scripts  # noqa: E402
 from arguments import ask_for_tcc  # noqa: E402
 from compared import first_difference, shown  # noqa: E402
-from counted import Outcome, status_of  # noqa: E402
+from counted import Outcome, guarded, status_of  # noqa: E402
 
 CASES = HERE / "cases"
 RECIPES = TOP / "recipes"
-SECONDS = 60
+SECONDS = 300
 WITHOUT_SERVER = 77
 
 
@@ -158,7 +159,7 @@ def demo(server: str, tcc: List[str]) -> Iterator[Outcome]:
     with tempfile.TemporaryDirectory() as folder:
         command = [sys.executable, str(RECIPES / server / "demo.py"), "--tcc", tcc[-1], "--reports", folder]
         try:
-            ended = subprocess.run(command, capture_output=True, timeout=4 * SECONDS, check=False)
+            ended = subprocess.run(command, capture_output=True, timeout=SECONDS, check=False)
         except subprocess.TimeoutExpired as error:
             yield "demo of " + server, str(error)
             return
@@ -171,16 +172,16 @@ def demo(server: str, tcc: List[str]) -> Iterator[Outcome]:
 
 
 def unknown_outcomes() -> Iterator[Outcome]:
-    """What recorders make of outcomes that nobody told: a commit where somebody read a value at its key, else an abort."""
+    """What recorders make of outcomes that nobody told: a record of their own."""
     from tcc import noted as record  # which clients.py put on the path
-    done = [record.Transaction("a", [("w", "x", 1)], None), record.Transaction("b", [("w", "x", 2)], None),
-            record.Transaction("c", [("w", "y", 2)], True), record.Transaction("c", [("r", "x", 1), ("r", "y", 2)], True)]
-    counts = record.settle(done)
-    wanted = ["a,begin", "a,w,x,1", "a,commit", "b,begin", "b,w,x,2", "b,abort", "c,begin", "c,w,y,2", "c,commit",
-              "c,begin", "c,r,x,1", "c,r,y,2", "c,commit"]
+    done = [record.Transaction("a", [("w", "x", 1)], None), record.Transaction("b", [("w", "x", 2)], False, note="why"),
+            record.Transaction("c", [("r", "x", 1), ("w", "y", 2)], True)]
+    wanted = ["a,begin", "a,w,x,1", "a,unknown", "b,begin", "b,w,x,2", "b,abort", "c,begin", "c,r,x,1", "c,w,y,2", "c,commit"]
     got = list(record.records(done))
     yield "records of unknown outcomes", None if got == wanted else "wanted %s, got %s" % (wanted, got)
-    yield "count of unknown outcomes", None if list(counts.values()) == [1, 1] else str(counts)
+    notes = [note.note for _, note in record.annotations(done)]
+    yield "annotations of unknown outcomes", None if notes == ["unknown outcome", "why", ""] else str(notes)
+    yield "count of unknown outcomes", None if record.summary(done) == "3 transactions; 1 of unknown outcome" else record.summary(done)
 
 
 def first_example(tcc: List[str]) -> Iterator[Outcome]:
@@ -214,9 +215,22 @@ def packed(tcc: List[str]) -> Iterator[Outcome]:
                               cwd=os.path.join(folder, inside), capture_output=True, timeout=SECONDS, check=False)
         wanted = b"1: read your writes: a/2 read x = 0 from init, row 5; it knew of a/1\n"
         yield "what is packed", None if done.stdout.startswith(wanted) else "%r" % (done.stdout + done.stderr)
+        yield "links that are packed", dangling(pathlib.Path(folder, inside))
+        done = subprocess.run([sys.executable, "recipes/report.py", "examples/stale-read.csv", "-o", "page.html"], cwd=os.path.join(folder, inside),
+                              env={"PATH": "/usr/bin:/bin"}, capture_output=True, timeout=SECONDS, check=False)
+        yield "the program beside the recipes", None if done.returncode == 1 else "%d, %r" % (done.returncode, done.stdout + done.stderr)
         needed = [name for name in ("LICENSE-MIT", "LICENSE-APACHE", "docs/tcc.1", "docs/tcc.bash", "docs/RECORDING.md", "python/pyproject.toml")
                   if not os.path.exists(os.path.join(folder, inside, name))]
         yield "files that are packed", ", ".join(needed) or None
+
+
+def dangling(folder: pathlib.Path) -> Optional[str]:
+    """The first link of a document to a file that isn't in the archive."""
+    for path in sorted(folder.glob("**/*.md")):
+        for link in re.findall(r"\]\(([^)#\s]+)", path.read_text()):
+            if not link.startswith(("http:", "https:")) and not (path.parent / link).exists():
+                return "%s: %s" % (path.relative_to(folder), link)
+    return None
 
 
 def outcomes_of(path: pathlib.Path, tcc: List[str]) -> Iterator[Outcome]:
@@ -236,18 +250,13 @@ def outcomes_of(path: pathlib.Path, tcc: List[str]) -> Iterator[Outcome]:
 def outcomes(names: List[str], tcc: List[str]) -> Iterator[Outcome]:
     for name in names or sorted(path.stem for path in CASES.glob("*.json")):
         yield from outcomes_of(CASES / (name + ".json"), tcc)
-    if not names:
-        yield from helps()
-        yield from first_example(tcc)
-        yield from clients.outcomes(tcc)
-        yield from scripts.outcomes(tcc)
-        yield from ci.outcomes(tcc)
-        yield from pages.outcomes(tcc)
-        yield from unknown_outcomes()
-        yield from packed(tcc)
-        yield from demo("redis", tcc)
-        yield from demo("postgres", tcc)
-        yield from demo("galera", tcc)
+    if names:
+        return
+    parts = {"helps": helps(), "first example": first_example(tcc), "clients": clients.outcomes(tcc), "scripts": scripts.outcomes(tcc),
+             "lists": lists.outcomes(tcc), "ci": ci.outcomes(tcc), "pages": pages.outcomes(tcc), "unknown outcomes": unknown_outcomes(),
+             "packed": packed(tcc), **{"demo of " + server: demo(server, tcc) for server in ("redis", "postgres", "galera", "etcd")}}
+    for about, part in parts.items():
+        yield from guarded(about, part)
 
 
 def main() -> int:

@@ -1,5 +1,7 @@
 """What the scripts of recipes/ do that no case can show: on a history of random operations by either way of reading, when they are
 interrupted, at a terminal, and in the lines of RECORDING that answer for a large history."""
+import array
+import fcntl
 import io
 import json
 import os
@@ -12,14 +14,15 @@ import signal
 import subprocess
 import sys
 import tempfile
+import termios
 import time
-from typing import Dict, Iterator, List, Optional, Tuple
+from typing import Callable, Dict, Iterator, List, Optional, Tuple
 
 from counted import Outcome
 
 TOP = pathlib.Path(__file__).resolve().parent.parent.parent
 RECIPES = TOP / "recipes"
-SECONDS = 60
+SECONDS = 300
 INTERRUPTED = 130
 sys.path.insert(0, str(TOP / "python"))
 
@@ -74,13 +77,59 @@ def both_ways() -> Iterator[Outcome]:
             into.usual = lambda line, found: False  # type: ignore[assignment,method-assign]
             into.usual_object = lambda line, value: False  # type: ignore[assignment,method-assign]
         jepsen.imported(jepsen.Reading(io.BytesIO(text), into, Doing(""), ""), True)
-        return [list(each) for each in (into.records(), into.table(), into.places(), into.notes(), into.warnings(), into.summary())]
+        return [list(each) for each in (into.records(), into.table(), into.places(), into.notes(True), into.warnings(), into.summary())]
 
     for seed in range(12):
         for is_edn in (False, True):
             text = random_history(seed, is_edn, seed % 3 == 0)
             yield "both ways of reading, %d%s" % (seed, " of EDN" if is_edn else ""), (
                 None if told(text, True) == told(text, False) else "they differ")
+
+
+def random_value(pick: random.Random, depth: int) -> str:
+    """A value of EDN, of each kind there is."""
+    if depth and pick.random() < 0.4:
+        inner = [random_value(pick, depth - 1) for _ in range(pick.randrange(4))]
+        if pick.random() < 0.3:
+            return "{%s}" % ", ".join(":k%d %s" % pair for pair in enumerate(inner))
+        return pick.choice(["[%s]", "(%s)", "#{%s}", "[ %s ]", "[%s #_ (7 8)]"]) % pick.choice([" ", ",", "  ", " ; [\n"]).join(inner)
+    return pick.choice(["nil", "true", ":a/b", "sym", "-1N", "+8", "1.5M", "2/3", "1e3", '"a \\"b\\" ;["', "\\a", "\\newline", "\\u0041", "#inst \"x\"",
+                        "^:m [1]", "#my/tag {:a 1}", "#_ :gone 5", "1001 1002 1003".split()[pick.randrange(3)], "%d" % pick.randrange(10**9)])
+
+
+def random_edn() -> Iterator[Outcome]:
+    """Of 100,000 operations with fields of any value of EDN each is read, and of lines that something is wrong with each ends with its
+    line, in seconds."""
+    from tcc import jepsen
+    from tcc.imported import Imported
+    from tcc.operations import Untold
+    from tcc.progress import Doing
+
+    def told(text: str) -> Imported:
+        return jepsen.imported(jepsen.Reading(io.BytesIO(text.encode()), Imported({"null"}), Doing(""), ""), True)
+
+    pick, lines = random.Random(5), []
+    for number in range(100000):
+        fields = [":type :ok", ":process %d" % (number % 9), ":f :txn", ":value [[:w %d %d] [:r :x nil]]" % (number % 50, number + 1)]
+        fields += [":e%d %s" % (each, random_value(pick, 2)) for each in range(pick.randrange(3))]
+        pick.shuffle(fields)
+        lines.append("{%s}" % pick.choice([", ", " ", ",", "\n"]).join(fields))
+    begun = time.process_time()
+    count, took = len(told("\n".join(lines)).texts), time.process_time() - begun
+    yield "random EDN, 100,000 operations", None if count == len(lines) and took < 120 else "%d read in %.1f s" % (count, took)
+    begun, wrong, ended = time.process_time(), None, 0
+    for line in lines[:5000]:
+        at = pick.randrange(len(line))
+        cut = line[:at] + pick.choice(["", "]", "{", '"', "\\", "#", "9" * 5000, ":type :fail ", "\x00", "^", "##NaN"]) + line[at + pick.randrange(3):]
+        try:
+            told(cut)
+        except Untold as error:
+            ended += 1
+            wrong = wrong or (None if re.match(r"line [1-9]", str(error)) else str(error))
+        except Exception as error:  # pylint: disable=broad-except
+            wrong = wrong or "%r of %r" % (error, cut[:200])
+    took = time.process_time() - begun
+    yield "random EDN with faults", wrong or (None if ended > 1000 and took < 240 else "%d faults in %.1f s" % (ended, took))
 
 
 def lines_of_edn_py() -> Iterator[Outcome]:
@@ -115,10 +164,10 @@ def random_records(seed: int) -> str:
     return "".join(line + "\n" for line in lines)
 
 
-def contradicted_by_definition(history, level: str) -> List[Tuple[str, int, str, str]]:
+def contradicted_by_definition(history, level: str) -> List[Tuple[str, int, str, str, str]]:
     """The reads by C from A, each with its row, that a write by B contradicts: C is reached from B, at `atomic` by one pair, and B
-    from A, or A is `init`."""
-    from tcc.contradicted import Graph
+    from A, or A is `init`. Each has the first name that fits any such B, and the least B that this fits."""
+    from tcc.contradicted import NAMES, Graph
     graph = Graph(history)
     count = len(graph.transactions)
     pair = [[one != other and graph.sessions[one] == graph.sessions[other] and one < other
@@ -136,8 +185,24 @@ def contradicted_by_definition(history, level: str) -> List[Tuple[str, int, str,
             by = [one for one in graph.writers.get(read.operation.key, []) if one not in (reader, read.source) and known[one][reader]
                   and (read.source < 0 or reached[read.source][one])]
             if by:
-                found.append((label[reader], read.operation.row, "init" if read.source < 0 else label[read.source], label[min(by)]))
+                rank, writer = min((rank_of_name(graph, reader, read.operation.key, one), one) for one in by)
+                found.append((label[reader], read.operation.row, "init" if read.source < 0 else label[read.source], label[writer],
+                              NAMES[rank]))
     return found
+
+
+def rank_of_name(graph: "Graph", reader: int, key: str, writer: int) -> int:
+    """Which is the first usual name that fits a reader of a key and a writer of it, slowly."""
+    every, sessions = range(len(graph.transactions)), graph.sessions
+    saw = [one for one in every if any(read.source == writer and read.operation.key == key for read in graph.reads[one])]
+    heard = {read.source for one in every if sessions[one] == sessions[reader] and one <= reader
+             for read in graph.reads[one] if read.source >= 0}
+    return (sessions[writer] == sessions[reader] and writer < reader,
+            any(read.source == writer for read in graph.reads[reader]),
+            any(sessions[one] == sessions[reader] and one < reader for one in saw),
+            any(sessions[one] == sessions[writer] and one > writer for one in heard),
+            any(sessions[one] == sessions[other] and one <= other for one in saw for other in heard),
+            True).index(True)
 
 
 def contradicted_reads() -> Iterator[Outcome]:
@@ -152,7 +217,8 @@ def contradicted_reads() -> Iterator[Outcome]:
             for seed in range(400):
                 history = read_history(io.StringIO(random_records(seed)))
                 found, graph = contradicted.survey(history, level, lambda what: None)
-                got = [(one.reader, one.operation.row, one.source, one.writer) for one in found.contradicted]
+                got = [(one.reader, row, one.source, one.writer, one.name) for one in found.contradicted for row in one.rows]
+                got.sort(key=lambda one: (one[0].rpartition("/")[0], int(one[0].rpartition("/")[2]), one[1]))
                 told += len(got)
                 if got != contradicted_by_definition(history, level):
                     wrong = wrong or "seed %d: %s" % (seed, got)
@@ -165,14 +231,16 @@ def contradicted_reads() -> Iterator[Outcome]:
     yield "contradicted reads are there", None if told > 1000 else "only %d" % told
 
 
-def interrupted(words: List[str], given: bytes, wanted: bytes, after: float) -> Optional[str]:
-    """What a script that is interrupted does otherwise than it should: it says what it has, without a traceback."""
+def interrupted(words: List[str], given: bytes, wanted: bytes, is_at_it: Callable[["subprocess.Popen[bytes]"], bool]) -> Optional[str]:
+    """What a script that is interrupted, once it is at its work, does otherwise than it should: it says what it has, without a
+    traceback."""
     signal.signal(signal.SIGINT, signal.default_int_handler)  # a shell has what it starts in the background ignore it
     with subprocess.Popen(words, stdin=subprocess.PIPE, stdout=subprocess.PIPE, stderr=subprocess.STDOUT) as script:
         assert script.stdin and script.stdout
         script.stdin.write(given)
         script.stdin.flush()
-        time.sleep(after)
+        waited(lambda: is_at_it(script))
+        time.sleep(0.2)
         script.send_signal(signal.SIGINT)
         said = script.stdout.read()
         status = script.wait(SECONDS)
@@ -181,24 +249,44 @@ def interrupted(words: List[str], given: bytes, wanted: bytes, after: float) -> 
     return None
 
 
+def waited(is_so: Callable[[], bool]) -> None:
+    """Waits until something is so."""
+    until = time.monotonic() + SECONDS
+    while not is_so() and time.monotonic() < until:
+        time.sleep(0.05)
+
+
+def has_read(script: "subprocess.Popen[bytes]") -> bool:
+    """Whether it has taken all that it was given so far."""
+    assert script.stdin
+    left = array.array("i", [0])
+    fcntl.ioctl(script.stdin, termios.FIONREAD, left)
+    return left[0] == 0
+
+
 def interruptions(tcc: List[str]) -> Iterator[Outcome]:
     def script(name: str, *more: str) -> List[str]:
         return [sys.executable, str(RECIPES / name), *more]
 
     line = b'{"type":"ok","process":1,"f":"txn","value":[]}\n'
-    yield "jepsen.py interrupted", interrupted(script("jepsen.py"), line, b"there are no records", 1.0)
-    yield "edn.py interrupted", interrupted(script("edn.py"), b"{:a 1}\n", b"edn.py: interrupted", 1.0)
-    yield "picture.py interrupted", interrupted(script("picture.py"), b"{", b"picture.py: interrupted", 1.0)
+    yield "jepsen.py interrupted", interrupted(script("jepsen.py"), line, b"there are no records", has_read)
+    yield "edn.py interrupted", interrupted(script("edn.py"), b"{:a 1}\n", b"edn.py: interrupted", has_read)
+    yield "picture.py interrupted", interrupted(script("picture.py"), b"{", b"picture.py: interrupted", has_read)
     with tempfile.TemporaryDirectory() as folder:
-        slow, records = pathlib.Path(folder, "tcc"), pathlib.Path(folder, "records.csv")
-        slow.write_text("#!/bin/sh\ntest \"$1\" = explain && sleep 20\nexec %s \"$@\"\n" % os.path.abspath(tcc[-1]))
+        slow, records, begun = (pathlib.Path(folder, name) for name in ("tcc", "records.csv", "begun"))
+        slow.write_text("#!/bin/sh\ntest \"$1\" = explain && { : > '%s'; exec sleep 60; }\nexec %s \"$@\"\n" % (begun, os.path.abspath(tcc[-1])))
         slow.chmod(0o755)
         records.write_text((TOP / "examples/stale-read.csv").read_text())
         page = os.path.join(folder, "page.html")
-        said = interrupted(script("report.py", "--tcc", str(slow), "-o", page, str(records)), b"", b"no page was written", 2.5)
+
+        def asks(_: "subprocess.Popen[bytes]") -> bool:
+            return begun.exists()
+
+        said = interrupted(script("report.py", "--tcc", str(slow), "-o", page, str(records)), b"", b"no page was written", asks)
         yield "report.py interrupted", said or ("there is a page" if os.path.exists(page) else None)
+        begun.unlink(missing_ok=True)
         yield "all.py interrupted", interrupted(script("all.py", "--tcc", str(slow), str(records)), b"",
-                                                b"interrupted behind 1 anomalies\nread your writes: 1\n", 2.5)
+                                                b"interrupted behind 1 anomalies\nread your writes: 1\n", asks)
 
 
 def many_faults() -> Iterator[Outcome]:
@@ -245,7 +333,7 @@ def at_terminal() -> Iterator[Outcome]:
     with subprocess.Popen([sys.executable, str(RECIPES / "jepsen.py")], stdin=subprocess.PIPE, stdout=subprocess.PIPE, stderr=its) as script:
         os.close(its)
         assert script.stdin
-        time.sleep(3.5)
+        waited(lambda: bool(select.select([mine], [], [], 0)[0]))
         script.stdin.close()
         script.wait(SECONDS)
     said = b""
@@ -281,6 +369,7 @@ def lines_of_recording(tcc: List[str]) -> Iterator[Outcome]:
 
 def outcomes(tcc: List[str]) -> Iterator[Outcome]:
     yield from both_ways()
+    yield from random_edn()
     yield from lines_of_edn_py()
     yield from contradicted_reads()
     yield from interruptions(tcc)

@@ -9,6 +9,7 @@ With --workers each run of `explain` gets that number of workers, unless it says
 the same as without it; with --searched only those are done that get it and show an anomaly, for which workers search. With
 --checker the runs of `check` alone are done, by the program that has nothing else, called `tcc` by a link.
 """
+import concurrent.futures
 import contextlib
 import functools
 import json
@@ -27,6 +28,7 @@ sys.path.insert(0, str(TOP / "tests"))
 from arguments import ask_for_tcc  # noqa: E402
 from compared import first_difference, shown  # noqa: E402
 from counted import status_of  # noqa: E402
+from machine import processors  # noqa: E402
 
 CASES = HERE / "cases"
 CHECKER = str(TOP / "crates/tcc_checker/out/tcc_checker")
@@ -152,7 +154,8 @@ def finished(words, run, folder, seconds):
         notes = held.enter_context(open(path_of(run["errors_to"], folder), "wb")) if "errors_to" in run else subprocess.PIPE
         streams = {"stdout": out, "stderr": notes, "timeout": seconds, **given(run, folder, held)}
         if "closed" in run:
-            streams["preexec_fn"] = lambda: [os.close(stream) for stream in run["closed"]]
+            closing = " ".join("%d>&-" % stream for stream in run["closed"])
+            words = ["sh", "-c", 'exec "$@" ' + closing, "sh", *words]
         if "watched" not in run:
             return subprocess.run(words, **streams)
         screen, streams["stderr"] = terminal(held)
@@ -310,8 +313,8 @@ def file_wanted(run, name):
     return run["files"][wanted[1:]] if isinstance(wanted, str) else wanted
 
 
-def outcomes_of(path, tcc, picked, seconds):
-    """The runs of a case that are picked, by their names, each with what is wrong, or None."""
+def picked_runs(path, picked):
+    """The runs of a case that are picked, by their names; or why it is none, a text."""
     try:
         every = list(runs(json.loads(path.read_text())))
     except (OSError, ValueError, KeyError) as error:
@@ -320,13 +323,19 @@ def outcomes_of(path, tcc, picked, seconds):
     for which, run in every:
         asked = picked(run)
         if asked:
-            yield path.stem + which, difference(tcc, asked, seconds)
+            yield path.stem + which, asked
+
+
+def outcome_of(tcc, seconds, named):
+    """The name of a run, and what is wrong with it, or None."""
+    name, run = named
+    return name, run if isinstance(run, str) else difference(tcc, run, seconds)
 
 
 def main():
     ask = ask_for_tcc("Runs a built tcc on the cases of this folder.")
     ask.add_argument("--only", default="", help="only cases whose name holds this text")
-    ask.add_argument("--seconds", type=float, default=120, help="for each run, by default 120")
+    ask.add_argument("--seconds", type=float, default=600, help="for each run, by default 600")
     ask.add_argument("--workers", type=int, help="for each run of explain that doesn't say how many itself")
     ask.add_argument("--searched", action="store_true", help="only runs that get these workers and show an anomaly")
     ask.add_argument("--checker", nargs="?", const=CHECKER, metavar="PATH", help="the program that has `check` alone, by default the built one")
@@ -341,7 +350,9 @@ def main():
         if asked.checker:
             picked, tcc = of_check, [os.path.join(folder, "tcc")]
             os.symlink(os.path.abspath(asked.checker), tcc[0])
-        return status_of(outcome for path in paths for outcome in outcomes_of(path, tcc, picked, asked.seconds))
+        every = [named for path in paths for named in picked_runs(path, picked)]
+        with concurrent.futures.ThreadPoolExecutor(processors()) as pool:
+            return status_of(pool.map(functools.partial(outcome_of, tcc, asked.seconds), every))
 
 
 if __name__ == "__main__":

@@ -55,7 +55,7 @@ class Read(NamedTuple):
 
 
 class Contradicted(NamedTuple):
-    """A read, who reads, the least that contradicts it, and how that is usually called."""
+    """A read, who reads, how that is usually called, and the least writer that contradicts it and is called so."""
 
     reader: int
     read: Read
@@ -155,7 +155,9 @@ class History:
                 writers = [b for b in self.all() if b not in (0, read.source) and read.key in self.writes[b]
                            and knows(c, b) and b in reach[read.source]]
                 if writers:
-                    found.append(Contradicted(c, read, min(writers), self.name(c, read.key, min(writers))))
+                    names = {b: self.name(c, read.key, b) for b in writers}
+                    name = next(name for name in NAMES if name in names.values())
+                    found.append(Contradicted(c, read, min(b for b in writers if names[b] == name), name))
         return found
 
     def is_circle(self, labels: List[str]) -> bool:
@@ -165,7 +167,7 @@ class History:
         return 0 < len(those) == len(set(those)) and all(self.is_session_pair(b, c) or self.is_read(b, c) for c, b in pairs)
 
     def name(self, c: int, key: str, b: int) -> str:
-        """How it is usually called that c, a reader of the key, didn't see the write of b."""
+        """The first name that fits c, a reader of the key, which didn't see the write of b."""
         up_to = [e for e in self.all() if e and (e == c or self.is_session_pair(e, c))]
         readers = [f for f in self.all() if any((read.key, read.source) == (key, b) for read in self.reads[f])]
         seen = [d for d in self.all() if any(self.is_read(d, e) for e in up_to)]

@@ -3,6 +3,7 @@
 #![tactic(auto)]
 
 mod watch;
+mod watched;
 
 use std::io::{ErrorKind, Write};
 use std::process::ExitCode;
@@ -10,8 +11,8 @@ use std::sync::Wait;
 use std::thread::{self, Threads};
 use std::time::Clock;
 use tcc_files::{
-    Apart, Input, Quiet, Telling, check_files, exit_code, is_waited_for, open_input, open_output,
-    open_outputs, print_unopened,
+    Apart, Input, Quiet, Telling, are_waited_for, check_files, check_opened, exit_code,
+    is_waited_for, open_both, open_input, open_output, open_outputs, print_unopened, size_of,
 };
 use tcc_full_run::{Asked, Limits, Run, run_full, tell_unread};
 use tcc_large_run::run_large;
@@ -19,6 +20,7 @@ use tcc_run::{OpenGate, Options, run_explain};
 use tcc_survey_run::{SurveyOptions, run_survey};
 use tcc_words::{Request, VERSION, read};
 use watch::Watch;
+use watched::{WatchedReader, WatchedWriter};
 
 /// The paths of the files for what comes behind the answers, if they are given: the certificate of the last, and a slice.
 #[derive(Clone, Copy)]
@@ -180,6 +182,49 @@ fn survey<W: Write>(
     }
 }
 
+/// Checks the certificate of the one path for the history of the other, within the large limits, and gives the status of the run. At a
+/// terminal a run that takes longer shows what it is doing, and how much of a file it has read.
+fn check_large<W: Write>(
+    rt: &HostRuntime,
+    threads: &(impl Threads + Wait + Clock + Sync),
+    history: &str,
+    certificate: &str,
+    out: &mut W,
+) -> u8 {
+    let (history, certificate) = match open_both(rt, history, certificate) {
+        Ok(opened) => opened,
+        Err(error) => return print_unopened(error.kind(), false, out),
+    };
+    let is_shown = are_waited_for(rt, history.stream(), certificate.stream());
+    let sizes = (size_of(history.stream()), size_of(certificate.stream()));
+    let watch = Watch::new(threads, rt.stderr());
+    let watch = &watch;
+    thread::scope(thread::scope_env(), threads, move |scope| -> u8 {
+        if is_shown {
+            let _ = scope.spawn(move || watch.show());
+        }
+        let records = WatchedReader::new(
+            history,
+            watch,
+            "reading records",
+            sizes.0,
+            "tracing reads",
+        );
+        let text = WatchedReader::new(
+            certificate,
+            watch,
+            "reading the certificate",
+            sizes.1,
+            "judging",
+        );
+        let mut out = WatchedWriter::new(out, watch);
+        let mut notes = WatchedWriter::new(rt.stderr(), watch);
+        let code = check_opened(rt.alloc(), Ok((records, text)), true, &mut out, &mut notes);
+        watch.finish();
+        code
+    })
+}
+
 fn main(rt: HostRuntime) -> ExitCode {
     let told = Telling::new(rt.stdout(), "standard output", rt.stderr());
     let mut out = Quiet::new(told);
@@ -218,13 +263,14 @@ fn main(rt: HostRuntime) -> ExitCode {
             let options = SurveyOptions { level, json, large };
             survey(&rt, options, history.as_deref(), &mut out)
         }
-        Ok(Request::Check(files)) => check_files(
-            &rt,
-            files.history.as_str(),
-            files.certificate.as_str(),
-            files.large,
-            &mut out,
-        ),
+        Ok(Request::Check(files)) => {
+            let (history, certificate) = (files.history.as_str(), files.certificate.as_str());
+            if files.large {
+                check_large(&rt, &rt, history, certificate, &mut out)
+            } else {
+                check_files(&rt, history, certificate, false, &mut out)
+            }
+        }
         Err(code) => code,
     };
     exit_code(&rt, code)

@@ -1,4 +1,4 @@
-//! What a run of `explain --large` is doing, on one line of the terminal that shows the errors.
+//! What a run of `explain --large` or `check --large` is doing, on one line of the terminal that shows the errors.
 
 use std::io::{self, Write};
 use std::sync::{Condvar, Mutex, Wait};
@@ -15,12 +15,21 @@ const TURN_MILLISECONDS: u64 = 250;
 /// As wide as the line is at most, and then back to its begin.
 const BLANK: &[u8] = b"                                        \r";
 
-/// What stands on the line.
+/// What a run is doing, and how far it is.
+#[derive(Clone, Copy)]
+struct Doing {
+    words: &'static str,
+    /// How many bytes were read, and how many there are; 0 where nobody knows, or where nothing is read.
+    done: u64,
+    all: u64,
+}
+
+/// What the line has.
 #[derive(Drop)]
 struct Line {
     errors: io::Stderr,
     /// What is shown once some time has passed; none while other things may be written.
-    stage: Option<Stage>,
+    doing: Option<Doing>,
     is_shown: bool,
     has_ended: bool,
 }
@@ -34,13 +43,20 @@ fn words(stage: Stage) -> &'static str {
     }
 }
 
+/// How many hundredths of all are done, where it is known how much that is.
+fn percent(done: u64, all: u64) -> Option<u64> {
+    done.min(all).checked_mul(100)?.checked_div(all)
+}
+
 impl Line {
-    /// Shows what is being done, and for how many seconds the run has lasted. What is written next stands in its place.
+    /// Shows what is being done, how far it is, if that is known, and for how many seconds the run has lasted. What is written next stands in its place.
     fn show(&mut self, seconds: u64) {
-        if let Some(stage) = self.stage {
-            let words = words(stage);
+        if let Some(Doing { words, done, all }) = self.doing {
             // What standard error takes changes nothing.
-            let _ = write!(self.errors, "{words}, {seconds} s\r");
+            let _ = match percent(done, all) {
+                Some(far) => write!(self.errors, "{words}, {far} %, {seconds} s\r"),
+                None => write!(self.errors, "{words}, {seconds} s\r"),
+            };
             self.is_shown = true;
         }
     }
@@ -72,7 +88,7 @@ impl<'a, R: Wait + Clock> Watch<'a, R> {
             start: Instant::now(rt).ok(),
             line: Mutex::new(Line {
                 errors,
-                stage: None,
+                doing: None,
                 is_shown: false,
                 has_ended: false,
             }),
@@ -83,6 +99,32 @@ impl<'a, R: Wait + Clock> Watch<'a, R> {
     /// For how many seconds the run has lasted.
     fn seconds(&self) -> Option<u64> {
         Some(self.start?.elapsed(self.rt).ok()?.as_secs())
+    }
+
+    /// The run does this from now on, and reads so many bytes for it, if that is known; else 0.
+    pub fn now(&self, words: &'static str, all: u64) {
+        let mut line = self.line.lock(self.rt);
+        line.clear();
+        line.doing = Some(Doing {
+            words,
+            done: 0,
+            all,
+        });
+    }
+
+    /// So many bytes more were read.
+    pub fn read(&self, count: usize) {
+        let mut line = self.line.lock(self.rt);
+        if let Some(doing) = &mut line.doing {
+            doing.done = doing.done.saturating_add(count as u64);
+        }
+    }
+
+    /// Other things may be written from now on.
+    pub fn pause(&self) {
+        let mut line = self.line.lock(self.rt);
+        line.doing = None;
+        line.clear();
     }
 
     /// Shows what the run is doing, turn by turn, until it has ended.
@@ -116,12 +158,10 @@ impl<R: Wait + Clock + Sync> Gate for Watch<'_, R> {
 
 impl<R: Wait + Clock + Sync> Watcher for Watch<'_, R> {
     fn begin(&self, stage: Stage) {
-        self.line.lock(self.rt).stage = Some(stage);
+        self.now(words(stage), 0);
     }
 
     fn end(&self) {
-        let mut line = self.line.lock(self.rt);
-        line.stage = None;
-        line.clear();
+        self.pause();
     }
 }

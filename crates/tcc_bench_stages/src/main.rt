@@ -71,7 +71,7 @@ fn count_finished<R: Read + Drop>(alloc: Global, reader: R) -> Option<u32> {
     let mut rows = Rows::new(alloc, reader).ok()?;
     for count in 0..u32::MAX {
         match rows.next(alloc).ok()? {
-            Item::Finished(_, _) => {}
+            Item::Finished(..) | Item::Unknown(..) => {}
             Item::Seal => return None,
             Item::End => return Some(count),
         }

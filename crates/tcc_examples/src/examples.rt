@@ -24,7 +24,7 @@ pub fn example_rows(alloc: Global, records: &[u8]) -> Result<Vec<(Name, Txn)>> {
     for _ in 0..u64::MAX {
         match rows.next(alloc)? {
             Item::Finished(session, txn) => finished.push((session, txn))?,
-            Item::Seal => {}
+            Item::Unknown(..) | Item::Seal => {}
             Item::End => break,
         }
     }

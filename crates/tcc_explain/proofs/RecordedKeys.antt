@@ -2,7 +2,7 @@
 use Rattle.std.proofs.Common.{ℕ, ◌≡◌, ◌==◌, Bool, true, false, cond, List, [], ◌∷◌, ◌++◌, length}
 use Rattle.std.proofs.Common.{All, Option, None, Some, Result, Ok, Err, refl, sym, subst, ◌∙◌}
 use Rattle.std.proofs.Common.{arith}
-use Rattle.std.specs.Prelude.{fold, is_some, unwrap_or, codes, take}
+use Rattle.std.specs.Prelude.{filter, fold, is_none, is_some, map, not, unwrap_or, codes, take}
 use Rattle.std.specs.Option.{option_map_or}
 use Rattle.std.specs.FinMap as finite
 use Rattle.std.specs.FinMap.Entries.{by_order, find, put}
@@ -11,13 +11,14 @@ use Rattle.std.specs.Ordering.{nat_cmp, eq_by_cmp}
 use Rattle.std.specs.declared.cmp.Ordering.{Ordering}
 use Rattle.std.specs.declared.cmp.Ordering.TheVariants.{Less, Equal, Greater}
 use Rattle.std.proofs.lemmas.List.Elements.{All-nil, All-cons, All-head, All-tail, All-append, All-take}
-use Rattle.tcc_rows.specs.Answers.{Answers, after_item, answers_after_within, answers_of, answers_within, go_on, judged_within, records_within}
+use Rattle.tcc_rows.specs.Answers.{Answers, after_item, answers_after_within, answers_of, answers_within, given_within, go_on, judged_within, records_within}
+use Rattle.tcc_rows.specs.Settling.{is_seen, settled_after, shown, told, unseen_among, with_shown}
 use Rattle.tcc_txn.specs.Finished.{with_transaction}
 use Rattle.tcc_rows.specs.Items.{finished_in, with_item}
 use Rattle.tcc_txn.specs.Bytes.{same}
 use Rattle.tcc_rows.specs.Lines.{Record, is_cut, line_of, accessed, op_of, in_session, value_of}
 use Rattle.tcc_txn.specs.Names.{name_fault}
-use Rattle.tcc_rows.specs.Past.{begins, fault_within, is_mark, item_of, ops_in, ops_since}
+use Rattle.tcc_rows.specs.Past.{begins, fault_within, is_mark, is_write, item_of, ops_in, ops_since, writes_of}
 use Rattle.tcc_txn.specs.Snapshots.{Sessions}
 use Rattle.tcc_txn.specs.declared.limits.Limits.{Limits}
 use Rattle.tcc_txn.specs.declared.limits.Limits.TheVariants.{Small}
@@ -48,6 +49,7 @@ LineNames l = (name : List ℕ) → All NamesKey (ops_in name l)
 
 abbrev ItemNames : Item → Type 0
 ItemNames (item.Finished session txn) = NamesKeys txn
+ItemNames (item.Unknown session txn) = NamesKeys txn
 ItemNames item.Seal = Unit {0}
 ItemNames item.End = Unit {0}
 
@@ -64,6 +66,14 @@ ops_named name (last ∷ past) all = go (is_mark name last) (ops_named name past
     go : (b : Bool) → All NamesKey (ops_since name past) → All NamesKey (cond b [] (ops_since name past ++ ops_in name last))
     go true before = All-nil NamesKey
     go false before = All-append NamesKey (ops_since name past) (ops_in name last) before (All-head LineNames last past all name)
+
+writes_named : (ops : List Op) → All NamesKey ops → All NamesKey (writes_of ops)
+writes_named [] all = All-nil NamesKey
+writes_named (op ∷ ops) all = go (is_write op) (writes_named ops (All-tail NamesKey op ops all))
+  where
+    go : (b : Bool) → All NamesKey (writes_of ops) → All NamesKey (cond b (op ∷ writes_of ops) (writes_of ops))
+    go true later = All-cons NamesKey op (writes_of ops) (All-head NamesKey op ops all) later
+    go false later = later
 
 -- ---- the line of a record
 
@@ -104,12 +114,13 @@ module _ {X : Type 0} (P : X → Type 0) where
   of_word x l k true e here = of_ok x l e here
   of_word x l k false e here = cc e
 
-  of_words : (x y z l : X) (j k : RowFaultKind) (a b c d : Bool) → cond a (Err j) (cond b (Ok x) (cond c (Ok y) (cond d (Ok z) (Err k)))) ≡ Ok l → P x → P y
-      → P z → P l
-  of_words x y z l j k true b c d e first second third = cc e
-  of_words x y z l j k false true c d e first second third = of_ok x l e first
-  of_words x y z l j k false false true d e first second third = of_ok y l e second
-  of_words x y z l j k false false false d e first second third = of_word z l k d e third
+  of_words : (w x y z l : X) (j k : RowFaultKind) (a b c d f : Bool)
+      → cond a (Err j) (cond b (Ok w) (cond c (Ok x) (cond d (Ok y) (cond f (Ok z) (Err k))))) ≡ Ok l → P w → P x → P y → P z → P l
+  of_words w x y z l j k true b c d f e first second third fourth = cc e
+  of_words w x y z l j k false true c d f e first second third fourth = of_ok w l e first
+  of_words w x y z l j k false false true d f e first second third fourth = of_ok x l e second
+  of_words w x y z l j k false false false true f e first second third fourth = of_ok y l e third
+  of_words w x y z l j k false false false false f e first second third fourth = of_word z l k f e fourth
 
   of_either : (r s : Result X RowFaultKind) (l : X) (j k : RowFaultKind) (a b c : Bool) → cond a (Err j) (cond b r (cond c s (Err k))) ≡ Ok l
       → (r ≡ Ok l → P l) → (s ≡ Ok l → P l) → P l
@@ -129,10 +140,12 @@ line_sound (word ∷ []) l e =
     of_word IsSound _ l _ (same word (codes "seal")) e
     ((λ name. All-nil NamesKey), (λ past all rest others. All-cons ItemNames item.Seal rest.items tt others))
 line_sound (session ∷ word ∷ []) l e =
-    of_words IsSound _ _ _ l _ _ (is_some (name_fault session)) (same word (codes "begin")) (same word (codes "commit")) (same word (codes "abort")) e
+    of_words IsSound _ _ _ _ l _ _ (is_some (name_fault session)) (same word (codes "begin")) (same word (codes "commit")) (same word (codes "abort"))
+    (same word (codes "unknown")) e
     ((λ name. All-nil NamesKey), (λ past all rest others. others))
     ((λ name. All-nil NamesKey), (λ past all rest others. All-cons ItemNames _ rest.items (ops_named session past all) others))
     ((λ name. All-nil NamesKey), (λ past all rest others. All-cons ItemNames _ rest.items (ops_named session past all) others))
+    ((λ name. All-nil NamesKey), (λ past all rest others. All-cons ItemNames _ rest.items (writes_named (ops_since session past) (ops_named session past all)) others))
 line_sound (a ∷ b ∷ c ∷ []) l e = cc e
 line_sound (session ∷ word ∷ key ∷ value ∷ []) l e =
     of_either IsSound (in_session session (op_of false key value)) (in_session session (op_of true key value)) l _ _
@@ -167,6 +180,45 @@ items_named limits (fields ∷ rest) past all = go (judged_within limits past fi
     go (Ok last) e later =
         let sound : IsSound last = judged_sound limits past fields last e in
         sound.1 past all (answers_after_within limits (last ∷ past) rest) (later (last ∷ past) (All-cons LineNames last past sound.0 all))
+
+-- ---- settled items
+
+abbrev AreWaiting : List ℕ × Transaction → Type 0
+AreWaiting p = NamesKeys p.1
+
+told_named : (test : List ℕ × Transaction → Bool) (pending : List (List ℕ × Transaction)) → All AreWaiting pending
+    → All ItemNames (map told (filter test pending)) × All AreWaiting (filter test pending)
+told_named test [] all = (All-nil ItemNames, All-nil AreWaiting)
+told_named test (p ∷ ps) all = go (test p) (told_named test ps (All-tail AreWaiting p ps all))
+  where
+    go : (b : Bool) → All ItemNames (map told (filter test ps)) × All AreWaiting (filter test ps)
+        → All ItemNames (map told (cond b (p ∷ filter test ps) (filter test ps))) × All AreWaiting (cond b (p ∷ filter test ps) (filter test ps))
+    go true later = (
+      All-cons ItemNames (told p) (map told (filter test ps)) (All-head AreWaiting p ps all) later.0,
+      All-cons AreWaiting p (filter test ps) (All-head AreWaiting p ps all) later.1,
+    )
+    go false later = later
+
+settled_named : (ends : Bool) (items : List Item) (s : Sessions) (pending : List (List ℕ × Transaction)) → All AreWaiting pending → All ItemNames items
+    → All ItemNames (settled_after ends s pending items)
+settled_named true [] s pending waiting all = (told_named (λ p. is_seen s p.1) pending waiting).0
+settled_named false [] s pending waiting all = All-nil ItemNames
+settled_named ends (item.Finished session txn ∷ items) s pending waiting all =
+    All-cons ItemNames (item.Finished session txn) _ (All-head ItemNames _ items all)
+    (settled_named ends items (with_transaction s session txn) pending waiting (All-tail ItemNames _ items all))
+settled_named ends (item.Unknown session txn ∷ items) s pending waiting all =
+    settled_named ends items s (pending ++ (session, txn) ∷ [])
+    (All-append AreWaiting pending ((session, txn) ∷ []) waiting
+    (All-cons AreWaiting (session, txn) [] (All-head ItemNames (item.Unknown session txn) items all) (All-nil AreWaiting)))
+    (All-tail ItemNames _ items all)
+settled_named ends (item.Seal ∷ items) s pending waiting all =
+    All-append ItemNames (shown s pending) (item.Seal ∷ settled_after ends (with_shown s pending) (unseen_among s pending) items)
+    (told_named (λ p. is_seen s p.1) pending waiting).0
+    (All-cons ItemNames item.Seal (settled_after ends (with_shown s pending) (unseen_among s pending) items) tt
+    (settled_named ends items (with_shown s pending) (unseen_among s pending) (told_named (λ p. not (is_seen s p.1)) pending waiting).1
+    (All-tail ItemNames _ items all)))
+settled_named ends (item.End ∷ items) s pending waiting all =
+    All-cons ItemNames item.End _ tt (settled_named ends items s pending waiting (All-tail ItemNames _ items all))
 
 -- ---- what they finish
 
@@ -208,6 +260,7 @@ fold_named : (items : List Item) (s : Sessions) → HasNames s → All ItemNames
 fold_named [] s named all = named
 fold_named (item.Finished session txn ∷ items) s named all =
     fold_named items (with_transaction s session txn) (with_named s session txn named (All-head ItemNames _ items all)) (All-tail ItemNames _ items all)
+fold_named (item.Unknown session txn ∷ items) s named all = fold_named items s named (All-tail ItemNames _ items all)
 fold_named (item.Seal ∷ items) s named all = fold_named items s named (All-tail ItemNames _ items all)
 fold_named (item.End ∷ items) s named all = fold_named items s named (All-tail ItemNames _ items all)
 
@@ -225,7 +278,9 @@ none_named =
 pub recorded_within : (limits : Limits) (text : List ℕ) (n : ℕ) → HasNames (finished_in (take n (answers_within limits text).items))
 recorded_within limits text n =
     fold_named (take n (answers_within limits text).items) finite.empty none_named
-    (All-take ItemNames n (answers_within limits text).items (items_named limits (records_within limits text) [] (All-nil LineNames)))
+    (All-take ItemNames n (answers_within limits text).items
+    (settled_named (is_none (given_within limits text).fault) (given_within limits text).items finite.empty [] (All-nil AreWaiting)
+    (items_named limits (records_within limits text) [] (All-nil LineNames))))
 
 pub recorded : (text : List ℕ) (n : ℕ) → HasNames (finished_in (take n (answers_of text).items))
 recorded text n = recorded_within Small text n

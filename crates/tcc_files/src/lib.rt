@@ -17,4 +17,4 @@ pub use input::Input;
 pub use opening::Apart;
 pub use quiet::Quiet;
 pub use telling::Telling;
-pub use terminal::is_waited_for;
+pub use terminal::{are_waited_for, is_waited_for, size_of};

@@ -156,8 +156,16 @@ impl Apart {
 }
 
 impl Write for Apart {
+    /// Writes to the file. Where that fails it is made empty again, since a part of some records may pass for a whole history.
     fn write(&mut self, bytes: &[u8]) -> io::Result<usize> {
-        self.file.write(bytes)
+        match self.file.write(bytes) {
+            Ok(count) if count > 0 || bytes.is_empty() => Ok(count),
+            failed => {
+                // What keeps nothing, as a terminal, has nothing to lose.
+                let _ = self.file.set_len(0);
+                failed
+            }
+        }
     }
 
     fn flush(&mut self) -> io::Result<()> {

@@ -2,7 +2,7 @@
 
 use crate::input::Input;
 use crate::opening::is_device;
-use std::fs::{self, Metadata};
+use std::fs::{self, File, Metadata};
 use std::io;
 use std::os::unix::fs::MetadataExt;
 
@@ -33,6 +33,20 @@ fn is_typed(rt: &HostRuntime, input: &Input) -> bool {
     match input {
         Input::Standard(_) => is_terminal(fs::metadata(rt, INPUT)),
         Input::File(file) => is_terminal(file.metadata()),
+    }
+}
+
+/// Whether the standard error is a terminal, at which nobody types one of these files.
+pub fn are_waited_for(rt: &HostRuntime, one: &File, other: &File) -> bool {
+    let typed = is_terminal(one.metadata()) || is_terminal(other.metadata());
+    is_terminal(fs::metadata(rt, ERRORS)) && !typed
+}
+
+/// How many bytes a file has; 0 where the system doesn't tell, as of a pipe.
+pub fn size_of(file: &File) -> u64 {
+    match file.metadata() {
+        Ok(metadata) => metadata.len(),
+        Err(_) => 0,
     }
 }
 

@@ -72,6 +72,7 @@ in_session row.UnknownWord = refl
 in_session row.BadKey = refl
 in_session row.BadValue = refl
 in_session row.WriteOfZero = refl
+in_session row.SessionEnded = refl
 in_session row.NotBegun = refl
 in_session row.AlreadyBegun = refl
 in_session row.TooManyOps = refl

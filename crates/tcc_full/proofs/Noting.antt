@@ -1,5 +1,5 @@
 -- What a table has after one record more.
-use Rattle.std.proofs.Common.{◌≡◌, ℕ, zero, suc, get_or, set, map, ◌&&◌, ◌+◌, Bool, true, false, cond, List, [], ◌∷◌, ◌++◌, length, Option, None, Some, Ok, Err, refl, sym, ap, ◌∙◌, arith, add-zero, length-append, inl}
+use Rattle.std.proofs.Common.{◌≡◌, ℕ, zero, suc, get_or, set, map, ◌&&◌, ◌+◌, Bool, true, false, cond, filter, List, [], ◌∷◌, ◌++◌, length, Option, None, Some, Ok, Err, refl, sym, ap, ◌∙◌, arith, add-zero, length-append, inl}
 use Rattle.std.specs.BTreeMap.{BTreeMap, IsEmpty, Updates, get}
 use Rattle.std.specs.Cmp.Lexicographic.{slice_cmp, texts_ties}
 use Rattle.std.specs.Global.{Vec}
@@ -17,22 +17,23 @@ use Rattle.tcc_txn.specs.Bytes.{same}
 use Rattle.tcc_txn.specs.Names.{name_fault}
 use Rattle.tcc_txn.specs.declared.name.NameFault.{NameFault}
 use Rattle.tcc_txn.proofs.SortedParts.{same_names}
-use Rattle.tcc_full.specs.Rows.{HasRowsOf, add_last, after_record, after_records, rows_in, session_rows}
-use Rattle.tcc_full.specs.private.Noting.{Changes, IsNoted, NotesRecord, is_begin}
+use Rattle.tcc_full.specs.Rows.{HasRowsOf, Rows, add_last, after_record, after_records, is_write, keep_writes, operation_at, rows_in, session_rows}
+use Rattle.tcc_full.specs.private.Noting.{Changes, IsNoted, NotesRecord, is_word}
+use Rattle.tcc_full.specs.declared.rows.OperationRow.{OperationRow}
 use Rattle.tcc_full.specs.declared.rows.OperationRows.{OperationRows}
 
 -- each session with the rows of its transactions
 abbrev Table : Type 0
-Table = BTreeMap (List ℕ) (Vec (Vec ℕ))
+Table = BTreeMap (List ℕ) (Vec (Vec OperationRow))
 
-abbrev shown : Vec (Vec ℕ) → List (List ℕ)
+abbrev shown : Vec (Vec OperationRow) → Rows
 shown rows = map (λ transaction. transaction.items) rows.items
 
-abbrev rows_at : Option (Vec (Vec ℕ)) → List (List ℕ)
+abbrev rows_at : Option (Vec (Vec OperationRow)) → Rows
 rows_at found = option_map_or shown found []
 
 -- a session has its rows changed
-pub changed : (old new : Table) (session : List ℕ) (change : List (List ℕ) → List (List ℕ)) (rows : Vec (Vec ℕ))
+pub changed : (old new : Table) (session : List ℕ) (change : Rows → Rows) (rows : Vec (Vec OperationRow))
     → shown rows ≡ change (rows_at (get (slice_cmp nat_cmp) old session))
     → Updates (slice_cmp nat_cmp) old new session (Some rows) → Changes session change (record { sessions = old }) (record { sessions = new })
 changed old new session change rows more updates = λ name lawful.
@@ -46,7 +47,7 @@ changed old new session change rows more updates = λ name lawful.
     by name false is = refl
 
 -- a session without rows, where nothing comes of that
-pub unchanged : (table : Table) (session : List ℕ) (change : List (List ℕ) → List (List ℕ)) → change [] ≡ []
+pub unchanged : (table : Table) (session : List ℕ) (change : Rows → Rows) → change [] ≡ []
     → get (slice_cmp nat_cmp) table session ≡ None → Changes session change (record { sessions = table }) (record { sessions = table })
 unchanged table session change nothing none = λ name lawful. by name (same session name) refl
   where
@@ -60,26 +61,37 @@ unchanged table session change nothing none = λ name lawful. by name (same sess
 pub no_rows : (table : Table) → IsEmpty table → (name : List ℕ) → rows_in (record { sessions = table }) name ≡ []
 no_rows table none name = rw none refl
 
--- the last of some transactions gets a row
-pub last_added : (transactions : List (Vec ℕ)) (k row : ℕ) (last : Vec ℕ) (d : Vec ℕ) → length transactions ≡ k + 1
-    → last.items ≡ (get_or transactions k d).items ++ row ∷ []
-    → map (λ (t : Vec ℕ). t.items) (set transactions k last) ≡ add_last row (map (λ (t : Vec ℕ). t.items) transactions)
-last_added [] k row last d long more = absurd (omega (arith, long))
-last_added (t ∷ []) zero row last d long more = ap (λ items. items ∷ []) more
-last_added (t ∷ []) (suc k) row last d long more = absurd (omega (arith, long))
-last_added (t ∷ next ∷ later) zero row last d long more = absurd (omega (arith, long))
-last_added (t ∷ next ∷ later) (suc k) row last d long more =
-    ap (λ rest. t.items ∷ rest) (last_added (next ∷ later) k row last d (omega (arith, long)) more)
+-- the last of some transactions gets one operation more
+pub last_added : (transactions : List (Vec OperationRow)) (k : ℕ) (one : OperationRow) (last : Vec OperationRow) (d : Vec OperationRow) → length transactions ≡ k + 1
+    → last.items ≡ (get_or transactions k d).items ++ one ∷ []
+    → map (λ (t : Vec OperationRow). t.items) (set transactions k last) ≡ add_last one (map (λ (t : Vec OperationRow). t.items) transactions)
+last_added [] k one last d long more = absurd (omega (arith, long))
+last_added (t ∷ []) zero one last d long more = ap (λ items. items ∷ []) more
+last_added (t ∷ []) (suc k) one last d long more = absurd (omega (arith, long))
+last_added (t ∷ next ∷ later) zero one last d long more = absurd (omega (arith, long))
+last_added (t ∷ next ∷ later) (suc k) one last d long more =
+    ap (λ rest. t.items ∷ rest) (last_added (next ∷ later) k one last d (omega (arith, long)) more)
+
+-- of the last of some transactions the writes are left
+pub last_kept : (transactions : List (Vec OperationRow)) (k : ℕ) (last : Vec OperationRow) (d : Vec OperationRow) → length transactions ≡ k + 1
+    → last.items ≡ filter (λ one. one.writes) (get_or transactions k d).items
+    → map (λ (t : Vec OperationRow). t.items) (set transactions k last) ≡ keep_writes (map (λ (t : Vec OperationRow). t.items) transactions)
+last_kept [] k last d long kept = absurd (omega (arith, long))
+last_kept (t ∷ []) zero last d long kept = ap (λ items. items ∷ []) kept
+last_kept (t ∷ []) (suc k) last d long kept = absurd (omega (arith, long))
+last_kept (t ∷ next ∷ later) zero last d long kept = absurd (omega (arith, long))
+last_kept (t ∷ next ∷ later) (suc k) last d long kept =
+    ap (λ rest. t.items ∷ rest) (last_kept (next ∷ later) k last d (omega (arith, long)) kept)
 
 -- ---- what a record is
 
-pub fieldless : (name : List ℕ) (row : ℕ) (fields : Record) (before : List (List ℕ)) → field_at fields 0 ≡ None → after_record name row fields before ≡ before
+pub fieldless : (name : List ℕ) (row : ℕ) (fields : Record) (before : Rows) → field_at fields 0 ≡ None → after_record name row fields before ≡ before
 unfolding field_at
 fieldless name row [] before none = refl
 fieldless name row (first ∷ rest) before none = cc none
 
 -- the record of a session that isn't this one
-pub of_other : (name session : List ℕ) (row : ℕ) (fields : Record) (before : List (List ℕ)) → Some session ≡ field_at fields 0 → same session name ≡ false
+pub of_other : (name session : List ℕ) (row : ℕ) (fields : Record) (before : Rows) → Some session ≡ field_at fields 0 → same session name ≡ false
     → after_record name row fields before ≡ before
 unfolding field_at
 of_other name session row [] before first other = refl
@@ -90,63 +102,89 @@ of_other name session row (a ∷ b ∷ c ∷ d ∷ []) before first other = let 
 of_other name session row (a ∷ b ∷ c ∷ d ∷ e ∷ rest) before first other = refl
 
 -- an operation
-pub operates : (name session : List ℕ) (row : ℕ) (fields : Record) (before : List (List ℕ)) → length fields ≡ 4 → Some session ≡ field_at fields 0
-    → after_record name row fields before ≡ cond (same session name) (add_last row before) before
+pub operates : (name session : List ℕ) (row : ℕ) (fields : Record) (before : Rows) → length fields ≡ 4 → Some session ≡ field_at fields 0
+    → after_record name row fields before ≡ cond (same session name) (add_last (operation_at row fields) before) before
 unfolding field_at
 operates name session row [] before four first = absurd (omega (arith, four))
 operates name session row (a ∷ []) before four first = absurd (omega (arith, four))
 operates name session row (a ∷ b ∷ []) before four first = absurd (omega (arith, four))
 operates name session row (a ∷ b ∷ c ∷ []) before four first = absurd (omega (arith, four))
 operates name session row (a ∷ b ∷ c ∷ d ∷ []) before four first =
-    let at : a ≡ session = cc first in ap (λ s. cond (same s name) (add_last row before) before) at
+    let at : a ≡ session = cc first in ap (λ s. cond (same s name) (add_last (operation_at row (a ∷ b ∷ c ∷ d ∷ [])) before) before) at
 operates name session row (a ∷ b ∷ c ∷ d ∷ e ∷ rest) before four first = absurd (omega (arith, four))
 
 -- a begin
-pub begins : (name session : List ℕ) (row : ℕ) (fields : Record) (before : List (List ℕ)) → is_begin fields ≡ true → Some session ≡ field_at fields 0
+pub begins : (name session : List ℕ) (row : ℕ) (fields : Record) (before : Rows) → is_word (codes "begin") fields ≡ true → Some session ≡ field_at fields 0
     → after_record name row fields before ≡ cond (same session name) (before ++ [] ∷ []) before
 unfolding field_at
 begins name session row [] before is first = cc is
 begins name session row (a ∷ []) before is first = cc is
-begins name session row (a ∷ b ∷ []) before is first = let at : a ≡ session = cc first in rw (at, is) (by (same session name))
+begins name session row (a ∷ b ∷ []) before is first = let at : a ≡ session = cc first in rw (at, is) (by (same session name) (same b (codes "unknown")))
   where
-    by : (b : Bool) → cond (b && true) (before ++ [] ∷ []) before ≡ cond b (before ++ [] ∷ []) before
-    by true = refl
-    by false = refl
+    by : (v u : Bool) → cond (v && true) (before ++ [] ∷ []) (cond (v && u) (keep_writes before) before) ≡ cond v (before ++ [] ∷ []) before
+    by true u = refl
+    by false u = refl
 begins name session row (a ∷ b ∷ c ∷ rest) before is first = cc is
 
--- another record
-pub neither : (name : List ℕ) (row : ℕ) (fields : Record) (before : List (List ℕ)) → (length fields ≡ 4 → ⊥) → is_begin fields ≡ false
-    → after_record name row fields before ≡ before
-neither name row [] before not_four not_begin = refl
-neither name row (a ∷ []) before not_four not_begin = refl
-neither name row (a ∷ b ∷ []) before not_four not_begin = rw not_begin (by (same a name))
+-- nobody told how the transaction ended
+pub leaves : (name session : List ℕ) (row : ℕ) (fields : Record) (before : Rows) → is_word (codes "begin") fields ≡ false → is_word (codes "unknown") fields ≡ true
+    → Some session ≡ field_at fields 0 → after_record name row fields before ≡ cond (same session name) (keep_writes before) before
+unfolding field_at
+leaves name session row [] before other is first = cc is
+leaves name session row (a ∷ []) before other is first = cc is
+leaves name session row (a ∷ b ∷ []) before other is first = let at : a ≡ session = cc first in rw (at, other, is) (by (same session name))
   where
-    by : (v : Bool) → cond (v && false) (before ++ [] ∷ []) before ≡ before
+    by : (v : Bool) → cond (v && false) (before ++ [] ∷ []) (cond (v && true) (keep_writes before) before) ≡ cond v (keep_writes before) before
     by true = refl
     by false = refl
-neither name row (a ∷ b ∷ c ∷ []) before not_four not_begin = refl
-neither name row (a ∷ b ∷ c ∷ d ∷ []) before not_four not_begin = absurd (not_four refl)
-neither name row (a ∷ b ∷ c ∷ d ∷ e ∷ rest) before not_four not_begin = refl
+leaves name session row (a ∷ b ∷ c ∷ rest) before other is first = cc is
 
-pub not_two : (fields : Record) → (length fields ≡ 2 → ⊥) → false ≡ is_begin fields
-not_two [] other = refl
-not_two (a ∷ []) other = refl
-not_two (a ∷ b ∷ []) other = absurd (other refl)
-not_two (a ∷ b ∷ c ∷ rest) other = refl
+-- another record
+pub neither : (name : List ℕ) (row : ℕ) (fields : Record) (before : Rows) → (length fields ≡ 4 → ⊥) → is_word (codes "begin") fields ≡ false
+    → is_word (codes "unknown") fields ≡ false → after_record name row fields before ≡ before
+neither name row [] before not_four not_begin not_unknown = refl
+neither name row (a ∷ []) before not_four not_begin not_unknown = refl
+neither name row (a ∷ b ∷ []) before not_four not_begin not_unknown = rw (not_begin, not_unknown) (by (same a name))
+  where
+    by : (v : Bool) → cond (v && false) (before ++ [] ∷ []) (cond (v && false) (keep_writes before) before) ≡ before
+    by true = refl
+    by false = refl
+neither name row (a ∷ b ∷ c ∷ []) before not_four not_begin not_unknown = refl
+neither name row (a ∷ b ∷ c ∷ d ∷ []) before not_four not_begin not_unknown = absurd (not_four refl)
+neither name row (a ∷ b ∷ c ∷ d ∷ e ∷ rest) before not_four not_begin not_unknown = refl
 
-pub by_word : (fields : Record) (word : List ℕ) → length fields ≡ 2 → Some word ≡ field_at fields 1 → same word (codes "begin") ≡ is_begin fields
+pub not_two : (said : List ℕ) (fields : Record) → (length fields ≡ 2 → ⊥) → false ≡ is_word said fields
+not_two said [] other = refl
+not_two said (a ∷ []) other = refl
+not_two said (a ∷ b ∷ []) other = absurd (other refl)
+not_two said (a ∷ b ∷ c ∷ rest) other = refl
+
+pub by_word : (said : List ℕ) (fields : Record) (word : List ℕ) → length fields ≡ 2 → Some word ≡ field_at fields 1 → same word said ≡ is_word said fields
 unfolding field_at
-by_word [] word two second = absurd (omega (arith, two))
-by_word (a ∷ []) word two second = absurd (omega (arith, two))
-by_word (a ∷ b ∷ []) word two second = let at : word ≡ b = cc second in ap (λ w. same w (codes "begin")) at
-by_word (a ∷ b ∷ c ∷ rest) word two second = absurd (omega (arith, two))
+by_word said [] word two second = absurd (omega (arith, two))
+by_word said (a ∷ []) word two second = absurd (omega (arith, two))
+by_word said (a ∷ b ∷ []) word two second = let at : word ≡ b = cc second in ap (λ w. same w said) at
+by_word said (a ∷ b ∷ c ∷ rest) word two second = absurd (omega (arith, two))
 
-pub wordless : (fields : Record) → length fields ≡ 2 → None ≡ field_at fields 1 → false ≡ is_begin fields
+pub wordless : (said : List ℕ) (fields : Record) → length fields ≡ 2 → None ≡ field_at fields 1 → false ≡ is_word said fields
 unfolding field_at
-wordless [] two none = refl
-wordless (a ∷ []) two none = refl
-wordless (a ∷ b ∷ []) two none = cc none
-wordless (a ∷ b ∷ c ∷ rest) two none = refl
+wordless said [] two none = refl
+wordless said (a ∷ []) two none = refl
+wordless said (a ∷ b ∷ []) two none = cc none
+wordless said (a ∷ b ∷ c ∷ rest) two none = refl
+
+-- whether an operation is a write
+pub written : (fields : Record) (word : List ℕ) → length fields ≡ 4 → Some word ≡ field_at fields 1 → same word (codes "w") ≡ is_write fields
+unfolding field_at
+written [] word four second = absurd (omega (arith, four))
+written (a ∷ []) word four second = absurd (omega (arith, four))
+written (a ∷ b ∷ rest) word four second = let at : word ≡ b = cc second in ap (λ w. same w (codes "w")) at
+
+pub unwritten : (fields : Record) → length fields ≡ 4 → None ≡ field_at fields 1 → false ≡ is_write fields
+unfolding field_at
+unwritten [] four none = absurd (omega (arith, four))
+unwritten (a ∷ []) four none = absurd (omega (arith, four))
+unwritten (a ∷ b ∷ rest) four none = cc none
 
 -- bytes that are a name are that name
 named : (bytes name : List ℕ) (fault : Option NameFault) → option_map_or Err fault (Ok bytes) ≡ Ok name → bytes ≡ name
@@ -163,18 +201,32 @@ unlike bytes name fault (Some other) at is lawful = by (same bytes name) refl
     by false equal = refl
 
 -- an operation or a begin, whose session has a name
-pub noted_operation : (old new : OperationRows) (fields : Record) (row : ℕ) (bytes session : List ℕ) → length fields ≡ 4 → Some bytes ≡ field_at fields 0
-    → option_map_or Err (name_fault bytes) (Ok bytes) ≡ Ok session → Changes session (add_last row) old new → NotesRecord fields row old new
-noted_operation old new fields row bytes session four first is changes = λ name lawful.
-    changes name lawful ∙ ap (λ s. cond (same s name) (add_last row (rows_in old name)) (rows_in old name)) (sym (named bytes session (name_fault bytes) is))
+pub noted_operation : (old new : OperationRows) (fields : Record) (row : ℕ) (one : OperationRow) (bytes session : List ℕ) → length fields ≡ 4
+    → Some bytes ≡ field_at fields 0 → option_map_or Err (name_fault bytes) (Ok bytes) ≡ Ok session → one ≡ operation_at row fields
+    → Changes session (add_last one) old new → NotesRecord fields row old new
+noted_operation old new fields row one bytes session four first is here changes = λ name lawful.
+    changes name lawful ∙ ap (λ s. cond (same s name) (add_last one (rows_in old name)) (rows_in old name)) (sym (named bytes session (name_fault bytes) is))
+    ∙ ap (λ x. cond (same bytes name) (add_last x (rows_in old name)) (rows_in old name)) here
     ∙ sym (operates name bytes row fields (rows_in old name) four first)
 
-pub noted_begin : (old new : OperationRows) (fields : Record) (row : ℕ) (bytes session : List ℕ) → is_begin fields ≡ true → Some bytes ≡ field_at fields 0
+pub noted_begin : (old new : OperationRows) (fields : Record) (row : ℕ) (bytes session : List ℕ) → is_word (codes "begin") fields ≡ true
+    → Some bytes ≡ field_at fields 0
     → option_map_or Err (name_fault bytes) (Ok bytes) ≡ Ok session → Changes session (λ transactions. transactions ++ [] ∷ []) old new
     → NotesRecord fields row old new
 noted_begin old new fields row bytes session begin first is changes = λ name lawful.
     changes name lawful ∙ ap (λ s. cond (same s name) (rows_in old name ++ [] ∷ []) (rows_in old name)) (sym (named bytes session (name_fault bytes) is))
     ∙ sym (begins name bytes row fields (rows_in old name) begin first)
+
+pub noted_unknown : (old new : OperationRows) (fields : Record) (row : ℕ) (bytes session : List ℕ) → is_word (codes "begin") fields ≡ false
+    → is_word (codes "unknown") fields ≡ true → Some bytes ≡ field_at fields 0
+    → option_map_or Err (name_fault bytes) (Ok bytes) ≡ Ok session → Changes session keep_writes old new → NotesRecord fields row old new
+noted_unknown old new fields row bytes session other unknown first is changes = λ name lawful.
+    changes name lawful ∙ ap (λ s. cond (same s name) (keep_writes (rows_in old name)) (rows_in old name)) (sym (named bytes session (name_fault bytes) is))
+    ∙ sym (leaves name bytes row fields (rows_in old name) other unknown first)
+
+pub noted_none : (old : OperationRows) (fields : Record) (row : ℕ) → (length fields ≡ 4 → ⊥) → is_word (codes "begin") fields ≡ false
+    → is_word (codes "unknown") fields ≡ false → NotesRecord fields row old old
+noted_none old fields row not_four not_begin not_unknown = λ name lawful. sym (neither name row fields (rows_in old name) not_four not_begin not_unknown)
 
 -- a record whose session has no name
 pub nameless : (old : OperationRows) (fields : Record) (row : ℕ) (bytes : List ℕ) (fault : NameFault) → Some bytes ≡ field_at fields 0
@@ -188,7 +240,7 @@ on_ok (Err fault) more is = tt
 
 -- ---- the records one after the other
 
-later : (name : List ℕ) (fields : Record) (row : ℕ) (first : List Record) (before : List (List ℕ))
+later : (name : List ℕ) (fields : Record) (row : ℕ) (first : List Record) (before : Rows)
     → after_records name row (first ++ fields ∷ []) before ≡ after_record name (row + length first) fields (after_records name row first before)
 later name fields row [] before = ap (λ n. after_record name n fields before) (sym (add-zero row))
 later name fields row (one ∷ first) before =

@@ -1,34 +1,59 @@
 //! At which rows the operations of transactions stand among the records of a text.
-ghost use Rattle.std.specs.Prelude.{◌≡◌, ◌++◌, ◌∷◌, [], IfOk, OnOk, map, option_map};
+ghost use Rattle.std.specs.Prelude.{◌≡◌, ◌++◌, ◌∷◌, [], IfOk, OnOk, filter, length, map, option_map};
 ghost use Rattle.csv.specs.Records.{fields_of};
-ghost use Rattle.tcc_full.specs.Rows.{HasRowsOf, add_last, row_of};
-ghost use Rattle.tcc_full.specs.private.Noting.{Changes, NotesRecord, is_begin};
+ghost use Rattle.tcc_full.specs.Rows.{HasRowsOf, add_last, is_write, keep_writes, row_of};
+ghost use Rattle.tcc_full.specs.private.Noting.{Changes, NotesRecord, is_word};
 
 use csv::{ByteRecord, ReaderBuilder};
 use std::alloc::Global;
 use std::collections::BTreeMap;
 use tcc_txn::{Name, NoMemory};
 
+/// The row of an operation, and whether it is a write.
+#[derive(Clone, Copy)]
+struct OperationRow {
+    row: u32,
+    writes: bool,
+}
+
 /// Of each session the rows of the operations of each of its transactions, in their order.
 #[derive(Drop)]
 pub struct OperationRows {
-    sessions: BTreeMap<Name, Vec<Vec<u32>>>,
+    sessions: BTreeMap<Name, Vec<Vec<OperationRow>>>,
 }
 
-/// The last transaction has one row more.
-fn add_last(transactions: &mut Vec<Vec<u32>>, row: u32) -> Result<(), NoMemory>
+/// The last transaction has one operation more.
+fn add_last(transactions: &mut Vec<Vec<OperationRow>>, one: OperationRow) -> Result<(), NoMemory>
     ensures { OnOk result (map (λ transaction. transaction.items) transactions.new.items
-        ≡ add_last row (map (λ transaction. transaction.items) transactions.old.items)) }
+        ≡ add_last one (map (λ transaction. transaction.items) transactions.old.items)) }
 {
     let Some(last) = transactions.len().checked_sub(1) else {
         return Ok(());
     };
-    transactions[last].push(row)?;
+    transactions[last].push(one)?;
     Ok(())
 }
 
+/// Leaves the writes among some operations.
+fn retain_writes(operations: &mut Vec<OperationRow>)
+    ensures { operations.new.items ≡ filter (λ one. one.writes) operations.old.items }
+{
+    operations.retain(|one| one.writes);
+}
+
+/// Leaves the writes of the last transaction.
+fn keep_writes(transactions: &mut Vec<Vec<OperationRow>>)
+    ensures { map (λ transaction. transaction.items) transactions.new.items
+        ≡ keep_writes (map (λ transaction. transaction.items) transactions.old.items) }
+{
+    let Some(last) = transactions.len().checked_sub(1) else {
+        return;
+    };
+    retain_writes(&mut transactions[last]);
+}
+
 /// One transaction more, without operations.
-fn add_transaction(alloc: Global, transactions: &mut Vec<Vec<u32>>) -> Result<(), NoMemory>
+fn add_transaction(alloc: Global, transactions: &mut Vec<Vec<OperationRow>>) -> Result<(), NoMemory>
     ensures { OnOk result (map (λ transaction. transaction.items) transactions.new.items
         ≡ map (λ transaction. transaction.items) transactions.old.items ++ [] ∷ []) }
 {
@@ -36,15 +61,26 @@ fn add_transaction(alloc: Global, transactions: &mut Vec<Vec<u32>>) -> Result<()
     Ok(())
 }
 
-/// Whether a record is a begin.
-fn is_begin(fields: &ByteRecord) -> bool
-    ensures { result ≡ is_begin (fields_of fields.now) }
+/// Whether a record is of two fields, of which the second is this word.
+fn is_word(fields: &ByteRecord, said: &[u8]) -> bool
+    ensures { result ≡ is_word said.now (fields_of fields.now) }
 {
     if fields.len() != 2 {
         return false;
     }
     match fields.get(1) {
-        Some(word) => word == b"begin".as_slice(),
+        Some(word) => word == said,
+        None => false,
+    }
+}
+
+/// Whether an operation is a write.
+fn is_write(fields: &ByteRecord) -> bool
+    requires { length (fields_of fields.now) ≡ 4 }
+    ensures { result ≡ is_write (fields_of fields.now) }
+{
+    match fields.get(1) {
+        Some(word) => word == b"w".as_slice(),
         None => false,
     }
 }
@@ -66,13 +102,22 @@ impl OperationRows {
         }
     }
 
-    /// The session has an operation at this row.
-    fn operate(&mut self, session: &Name, row: u32) -> Result<(), NoMemory>
-        ensures { OnOk result (Changes session.now (add_last row) self.old self.new) }
+    /// The session has one operation more.
+    fn operate(&mut self, session: &Name, one: OperationRow) -> Result<(), NoMemory>
+        ensures { OnOk result (Changes session.now (add_last one) self.old self.new) }
     {
         match self.sessions.get_mut(session) {
-            Some(transactions) => add_last(transactions, row),
+            Some(transactions) => add_last(transactions, one),
             None => Ok(()),
+        }
+    }
+
+    /// Nobody told how the session's transaction ended.
+    fn leave(&mut self, session: &Name)
+        ensures { Changes session.now keep_writes self.old self.new }
+    {
+        if let Some(transactions) = self.sessions.get_mut(session) {
+            keep_writes(transactions);
         }
     }
 
@@ -87,10 +132,14 @@ impl OperationRows {
             return Ok(());
         };
         if fields.len() == 4 {
-            return self.operate(&session, row);
+            let writes = is_write(fields);
+            return self.operate(&session, OperationRow { row, writes });
         }
-        if is_begin(fields) {
+        if is_word(fields, b"begin") {
             return self.begin(alloc, session);
+        }
+        if is_word(fields, b"unknown") {
+            self.leave(&session);
         }
         Ok(())
     }
@@ -101,7 +150,8 @@ impl OperationRows {
     {
         let transactions = self.sessions.get(session)?;
         let rows = transactions.get((place as usize).saturating_sub(1))?;
-        rows.get(index).copied()
+        let one = rows.get(index)?;
+        Some(one.row)
     }
 }
 

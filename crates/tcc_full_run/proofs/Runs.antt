@@ -9,7 +9,7 @@ use Rattle.std.proofs.lemmas.Bool.Decides.{nat_tests}
 use Rattle.csv.specs.Reading.{default_config, records, strip_bom}
 use Rattle.tcc_txn.specs.Limits.{most_bytes}
 use Rattle.tcc_txn.specs.Snapshots.{Sessions}
-use Rattle.tcc_rows.specs.Answers.{Answers, answers_after_within, answers_within, records_within}
+use Rattle.tcc_rows.specs.Answers.{Answers, answers_to, answers_within, records_within}
 use Rattle.tcc_rows.specs.ByteLimit.{marked, past_limit}
 use Rattle.tcc_rows.specs.Failing.{FailsAtWithin}
 use Rattle.tcc_rows.specs.Items.{finished_in}
@@ -65,7 +65,7 @@ module _ (asked : Asked) (some others : List ℕ) (same : marked (most_bytes ask
   records_alike = ap (λ text. records default_config (strip_bom text)) same
 
   answers_alike : answers_within asked.limits some ≡ answers_within asked.limits others
-  answers_alike = ap (answers_after_within asked.limits []) records_alike
+  answers_alike = ap (answers_to asked.limits) records_alike
 
   pub recorded_alike : (fault : RowFault) → IsRecorded asked.limits some (Err fault) → IsRecorded asked.limits others (Err fault)
   recorded_alike fault (inl faulty) = inl (subst (λ (all : Answers). all.fault ≡ Some fault) answers_alike faulty)

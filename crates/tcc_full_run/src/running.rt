@@ -1,7 +1,7 @@
 //! From the bytes of records to all that is told of their answer.
 ghost use Rattle.std.specs.Prelude.{◌≡◌, ◌++◌, ℕ, Err, IfOk, IfSome, MatchResult, Ok};
 ghost use Rattle.tcc_rows.specs.Recordings.{IsRecorded};
-ghost use Rattle.tcc_full_run.specs.{Found.IsFound, Runs.IsFullRun};
+ghost use Rattle.tcc_full_run.specs.{Found.IsFound, Runs.IsFullRun, private.Notes.AreNotesOf};
 
 use crate::finding::{Found, find_large, found_small};
 use crate::reading::{Failed, within};
@@ -9,10 +9,12 @@ use crate::telling::{tell_fault, tell_found, tell_memory};
 use std::alloc::Global;
 use std::io::{ErrorKind, Read, Write};
 use std::thread::Threads;
+use tcc_answer::Answer;
 use tcc_explain::Gate;
 use tcc_full::Asked;
+use tcc_large::Decision;
 use tcc_print::Run;
-use tcc_print::notes::{note_last, note_reads};
+use tcc_print::notes::{note_order, note_reads};
 use tcc_rows::{LargeRecording, Recording, RowFault, RowFaultKind};
 use tcc_run::first_answer;
 use tcc_txn::{Bounds, LargeLimits, Limits, NoMemory, SmallLimits, SnapshotWithin};
@@ -22,14 +24,20 @@ use tcc_verdict::recorded;
 fn note<B: Bounds, N: Write>(
     alloc: Global,
     snapshot: &SnapshotWithin<B>,
-    found: Found,
+    found: &Found,
     required: u32,
     notes: &mut N,
-) {
+)
+    ensures { AreNotesOf required found.now (N.contents notes.old) (N.contents notes.new) }
+{
     match found {
-        Found::Answered(answer) => note_last(alloc, &Some(answer), required, notes),
-        Found::Decided(_) => {}
-        Found::Unresolved(faults) => note_reads(alloc, snapshot, &faults, notes),
+        Found::Answered(Answer::Commit(commit)) => {
+            note_order(alloc, commit.order(), required, notes)
+        }
+        Found::Decided(Decision::Order(order)) => note_order(alloc, order, required, notes),
+        Found::Answered(Answer::Anomaly(_))
+        | Found::Decided(Decision::Least(_) | Decision::Cycle(_)) => {}
+        Found::Unresolved(faults) => note_reads(alloc, snapshot, faults, notes),
     }
 }
 
@@ -50,7 +58,7 @@ fn say<T: Threads + Sync, G: Gate, B: Bounds, W: Write, N: Write>(
     match found {
         Ok(found) => {
             let code = tell_found(run, asked, text, snapshot, &found, out);
-            note(run.alloc, snapshot, found, run.options.required, notes);
+            note(run.alloc, snapshot, &found, run.options.required, notes);
             code
         }
         Err(NoMemory) => tell_memory(run.alloc, asked, out),

@@ -1,14 +1,10 @@
 -- Which names are keys.
 use Rattle.std.proofs.Common.{ℕ, zero, suc, ◌<◌, ◌≡◌, Bool, true, false, List, [], ◌∷◌, length, get_or, refl, sym, ap, ◌∙◌, arith, inl, inr}
 use Rattle.std.specs.Prelude.{map, filter, flat_map, bytes_eq, ◌||◌, ◌==◌}
-use Rattle.std.specs.declared.cmp.Ordering.{Ordering}
-use Rattle.std.specs.declared.cmp.Ordering.TheVariants.{Less, Equal, Greater}
 use Rattle.std.specs.BTreeSet.{insert_key}
 use Rattle.std.specs.List.{list_any}
 use Rattle.std.proofs.Math.Bool.{or-false}
 use Rattle.std.proofs.lemmas.Bool.{or_parts, cases_lt}
-use Rattle.tcc_txn.proofs.Lists.{or_swap}
-use Rattle.std.proofs.lemmas.Map.Lookups.{exact_bytes}
 use Rattle.std.proofs.lemmas.List.{get_or_past, get_or_default}
 use Rattle.std.proofs.lemmas.List.Folds.{list_any-append, list_any_none, list_any-from_Any}
 use Rattle.tcc_reads.specs.Sources.{name_cmp}
@@ -16,11 +12,10 @@ use Rattle.tcc_reads.specs.History.{Entry, History, entry_at, initial}
 use Rattle.tcc_graph.specs.Relations.{reads_from}
 use Rattle.tcc_graph.specs.Keys.{has_name, with_names, keys_of, keys, is_key, readers, numbers}
 use Rattle.tcc_graph.specs.KeyIndices.{IsAbsent, StandsAt, name_of}
+use Rattle.std.proofs.lemmas.Cmp.{nat_list_cmp_total}
+use Rattle.std.proofs.lemmas.Map.Lookups.{exact_bytes}
+use Rattle.tcc_reads.proofs.SortedOnce.{any_inserted}
 use Rattle.tcc_graph.proofs.NameLemmas.{bytes_eq-same, bytes_eq-other}
-
-or_again : (a : Bool) (b : Bool) → (a || b) ≡ (a || (a || b))
-or_again true b = refl
-or_again false b = refl
 
 or_pairs : (a : Bool) (b : Bool) (c : Bool) → ((a || b) || c) ≡ (b || (a || c))
 or_pairs true true c = refl
@@ -31,22 +26,11 @@ or_joined : (a : Bool) (b : Bool) (c : Bool) → ((a || b) || c) ≡ (a || (b ||
 or_joined true b c = refl
 or_joined false b c = refl
 
--- a name more
-has_name-insert : (names : List (List ℕ)) (n : List ℕ) (x : List ℕ) → has_name (insert_key name_cmp names n) x ≡ (bytes_eq x n || has_name names x)
-has_name-insert [] n x = refl
-has_name-insert (y ∷ ys) n x = go (has_name-insert ys n x) (name_cmp n y) refl
-  where
-    go : has_name (insert_key name_cmp ys n) x ≡ (bytes_eq x n || has_name ys x) → (o : Ordering) → name_cmp n y ≡ o
-        → has_name (insert_key name_cmp (y ∷ ys) n) x ≡ (bytes_eq x n || has_name (y ∷ ys) x)
-    go rest Less e = rw e refl
-    go rest Equal e = let same : n ≡ y = exact_bytes n y e in rw e (rw same (or_again (bytes_eq x y) (has_name ys x)))
-    go rest Greater e = rw e (ap (λ b. bytes_eq x y || b) rest ∙ or_swap (bytes_eq x y) (bytes_eq x n) (has_name ys x))
-
-has_name-with : (sorted : List (List ℕ)) (names : List (List ℕ)) (x : List ℕ) → has_name (with_names sorted names) x ≡ (has_name sorted x || has_name names x)
+pub has_name-with : (sorted : List (List ℕ)) (names : List (List ℕ)) (x : List ℕ) → has_name (with_names sorted names) x ≡ (has_name sorted x || has_name names x)
 has_name-with sorted [] x = sym (or-false (has_name sorted x))
 has_name-with sorted (n ∷ names) x =
     has_name-with (insert_key name_cmp sorted n) names x
-    ∙ ap (λ b. b || has_name names x) (has_name-insert sorted n x)
+    ∙ ap (λ b. b || has_name names x) (any_inserted nat_list_cmp_total exact_bytes (bytes_eq x) n sorted)
     ∙ or_pairs (bytes_eq x n) (has_name sorted x) (has_name names x)
 
 has_name-flat_map : (entries : List Entry) (x : List ℕ) → has_name (flat_map keys_of entries) x ≡ list_any (λ e. has_name (keys_of e) x) entries

@@ -11,6 +11,7 @@
 --   Sessions     who stands between two of a session, and right before one
 --   KeysLemmas   which names are keys
 --   SortedKeys   the keys are in byte order
+--   NotedKeys    names that are noted once, and then put in order
 --   WriterLemmas what is read is a key and stands among them, and who its writers are
 --   NamedReadings readings by the indices of keys are readings by their names
 --   Worked       small histories worked out by hand
@@ -35,6 +36,7 @@ pub mod Numberings
 pub mod Pairs
 pub mod RouteLemmas
 pub mod Sessions
+pub mod NotedKeys
 pub mod SortedKeys
 pub mod TableLemmas
 pub mod Tied

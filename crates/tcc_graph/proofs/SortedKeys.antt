@@ -17,7 +17,7 @@ use Rattle.tcc_graph.specs.Keys.{keys_of, keys, with_names}
 abbrev name_cmp : List ℕ → List ℕ → Ordering
 name_cmp = slice_cmp nat_cmp
 
-sorted_none : IsStrictlySortedBy name_cmp []
+pub sorted_none : IsStrictlySortedBy name_cmp []
 unfolding IsStrictlySortedBy
 sorted_none = tt
 
@@ -25,7 +25,7 @@ sorted_cons : (x : List ℕ) (xs : List (List ℕ)) → All (λ y. name_cmp x y 
 unfolding IsStrictlySortedBy
 sorted_cons x xs below sorted = (recursion_from_All (λ y. name_cmp x y ≡ Less) xs below, sorted)
 
-below_head : (x : List ℕ) (xs : List (List ℕ)) → IsStrictlySortedBy name_cmp (x ∷ xs) → All (λ y. name_cmp x y ≡ Less) xs
+pub below_head : (x : List ℕ) (xs : List (List ℕ)) → IsStrictlySortedBy name_cmp (x ∷ xs) → All (λ y. name_cmp x y ≡ Less) xs
 below_head x xs sorted = All-from_recursion (λ y. name_cmp x y ≡ Less) xs (sorted_head name_cmp x xs sorted)
 
 insert_sorted : (xs : List (List ℕ)) (k : List ℕ) → IsStrictlySortedBy name_cmp xs → IsStrictlySortedBy name_cmp (insert_key name_cmp xs k)
@@ -43,7 +43,7 @@ insert_sorted (x ∷ xs) k sorted = go (name_cmp k x) refl (insert_sorted xs k (
         let over : name_cmp x k ≡ Less = rw (nat_list_cmp_total.antisymm x k, e) refl in
         rw e (sorted_cons x (insert_key name_cmp xs k) (All-insert_key name_cmp k (λ y. name_cmp x y ≡ Less) xs (below_head x xs sorted) over) rest)
 
-with_sorted : (names sorted : List (List ℕ)) → IsStrictlySortedBy name_cmp sorted → IsStrictlySortedBy name_cmp (with_names sorted names)
+pub with_sorted : (names sorted : List (List ℕ)) → IsStrictlySortedBy name_cmp sorted → IsStrictlySortedBy name_cmp (with_names sorted names)
 with_sorted [] sorted h = h
 with_sorted (n ∷ names) sorted h = with_sorted names (insert_key name_cmp sorted n) (insert_sorted sorted n h)
 

@@ -1,4 +1,5 @@
-//! Transactions, with what they write and read by the indices of the keys.
+//! Transactions, with what they write and read by the indices of the keys. The index of a key is asked of a cache, and one
+//! name compared; where that is another one the keys are halved.
 ghost use Rattle.std.specs.Prelude.{◌≡◌, ◌<◌, ◌≤◌, true, map, length, All, IfOk};
 ghost use Rattle.std.specs.List.Sorted.{IsStrictlySortedBy};
 ghost use Rattle.std.specs.Ordering.{nat_cmp};
@@ -9,7 +10,7 @@ use crate::key_table::key_index_of;
 use std::alloc::Global;
 use std::marker::Model;
 use tcc_reads::Transaction;
-use tcc_txn::{Name, NoMemory};
+use tcc_txn::{Name, Nearby, NoMemory};
 
 /// A transaction: its session and place, and the indices of the keys that it writes and reads, those read each with its source.
 #[derive(Drop)]
@@ -29,18 +30,29 @@ impl Model for Indexed {
 }
 
 /// The index of a key that is among the sorted keys.
-fn key_index_in(keys: &[Name], key: &Name) -> u32
+fn key_index_in(keys: &[Name], nearby: &Nearby, key: &Name) -> u32
     requires sorted { IsStrictlySortedBy (slice_cmp nat_cmp) keys.now }
     requires few { length keys.now ≤ u32.MAX }
     requires there { has_name keys.now key.now ≡ true }
     ensures within { result < length keys.now }
     ensures here { name_of keys.now result ≡ key.now }
 {
+    let near = nearby.number(key);
+    if let Some(name) = keys.get(near as usize) {
+        if *name == *key {
+            return near;
+        }
+    }
     key_index_of(keys, key).unwrap() as u32
 }
 
 /// The indices of names that are all among the sorted keys.
-fn key_indices_of(alloc: Global, keys: &[Name], names: &[Name]) -> Result<Vec<u32>, NoMemory>
+fn key_indices_of(
+    alloc: Global,
+    keys: &[Name],
+    nearby: &Nearby,
+    names: &[Name],
+) -> Result<Vec<u32>, NoMemory>
     requires sorted { IsStrictlySortedBy (slice_cmp nat_cmp) keys.now }
     requires few { length keys.now ≤ u32.MAX }
     requires there { All (λ x. has_name keys.now x ≡ true) names.now }
@@ -49,7 +61,7 @@ fn key_indices_of(alloc: Global, keys: &[Name], names: &[Name]) -> Result<Vec<u3
 {
     let mut key_indices = Vec::with_capacity(alloc, names.len())?;
     for name in names {
-        key_indices.push(key_index_in(keys, name))?;
+        key_indices.push(key_index_in(keys, nearby, name))?;
     }
     Ok(key_indices)
 }
@@ -58,6 +70,7 @@ fn key_indices_of(alloc: Global, keys: &[Name], names: &[Name]) -> Result<Vec<u3
 fn indexed_reads(
     alloc: Global,
     keys: &[Name],
+    nearby: &Nearby,
     reads: &[(Name, u32)],
 ) -> Result<Vec<(u32, u32)>, NoMemory>
     requires sorted { IsStrictlySortedBy (slice_cmp nat_cmp) keys.now }
@@ -68,14 +81,19 @@ fn indexed_reads(
 {
     let mut key_indices = Vec::with_capacity(alloc, reads.len())?;
     for (key, source) in reads {
-        key_indices.push((key_index_in(keys, key), *source))?;
+        key_indices.push((key_index_in(keys, nearby, key), *source))?;
     }
     Ok(key_indices)
 }
 
 impl Indexed {
     /// The transaction, by the indices of its keys.
-    fn of(alloc: Global, keys: &[Name], transaction: &Transaction) -> Result<Indexed, NoMemory>
+    fn of(
+        alloc: Global,
+        keys: &[Name],
+        nearby: &Nearby,
+        transaction: &Transaction,
+    ) -> Result<Indexed, NoMemory>
         requires sorted { IsStrictlySortedBy (slice_cmp nat_cmp) keys.now }
         requires few { length keys.now ≤ u32.MAX }
         requires there { All (λ x. has_name keys.now x ≡ true) (keys_of transaction.now) }
@@ -84,8 +102,8 @@ impl Indexed {
         Ok(Indexed {
             owner: transaction.owner(),
             place: transaction.place(),
-            writes: key_indices_of(alloc, keys, transaction.writes())?,
-            reads: indexed_reads(alloc, keys, transaction.reads())?,
+            writes: key_indices_of(alloc, keys, nearby, transaction.writes())?,
+            reads: indexed_reads(alloc, keys, nearby, transaction.reads())?,
         })
     }
 
@@ -129,9 +147,10 @@ pub(crate) fn indexed_by(
     requires there { All (λ e. All (λ x. has_name keys.now x ≡ true) (keys_of e)) transactions.items }
     ensures { IfOk result (λ indexed. AreIndexed keys.now transactions.items indexed.items) }
 {
+    let nearby = Nearby::of(alloc, keys)?;
     let mut indexed = Vec::with_capacity(alloc, transactions.len())?;
     for transaction in transactions {
-        indexed.push(Indexed::of(alloc, keys, &transaction)?)?;
+        indexed.push(Indexed::of(alloc, keys, &nearby, &transaction)?)?;
     }
     Ok(indexed)
 }

@@ -1,5 +1,5 @@
-//! The keys of a history.
-ghost use Rattle.std.specs.Prelude.{◌≡◌, ◌≤◌, length, map, OnOk, IfOk};
+//! The keys of a history. Each is noted once in a symbol table, and only those that differ are put in order.
+ghost use Rattle.std.specs.Prelude.{◌≡◌, ◌≤◌, [], length, map, OnOk, IfOk};
 ghost use Rattle.std.specs.List.Sorted.{IsStrictlySortedBy};
 ghost use Rattle.std.specs.Ordering.{nat_cmp};
 ghost use Rattle.std.specs.Cmp.Lexicographic.{slice_cmp};
@@ -8,7 +8,7 @@ ghost use Rattle.tcc_graph.specs.{Keys.with_names, Keys.keys, private.ReadTables
 use std::alloc::Global;
 use std::collections::BTreeSet;
 use tcc_reads::Transaction;
-use tcc_txn::{Name, NoMemory};
+use tcc_txn::{Name, NoMemory, SymbolTable};
 
 /// Puts names into the set.
 fn add_names(set: &mut BTreeSet<Name>, names: &[Name]) -> Result<(), NoMemory>
@@ -20,25 +20,45 @@ fn add_names(set: &mut BTreeSet<Name>, names: &[Name]) -> Result<(), NoMemory>
     Ok(())
 }
 
-/// Puts the keys of reads into the set.
-fn add_keys_read(set: &mut BTreeSet<Name>, reads: &[(Name, u32)]) -> Result<(), NoMemory>
-    ensures { OnOk result (set.new.keys ≡ with_names set.old.keys (map (λ read. read.0) reads.now)) }
+/// Notes names.
+fn note_names(table: &mut SymbolTable, names: &[Name]) -> Result<(), NoMemory>
+    ensures { OnOk result (with_names [] table.new ≡ with_names (with_names [] table.old) names.now) }
 {
-    for (key, _) in reads {
-        set.insert(*key)?;
+    for name in names {
+        table.number(*name)?;
     }
     Ok(())
 }
 
-/// The keys that the transactions write and read.
+/// Notes the keys of reads.
+fn note_keys_read(table: &mut SymbolTable, reads: &[(Name, u32)]) -> Result<(), NoMemory>
+    ensures { OnOk result (with_names [] table.new ≡ with_names (with_names [] table.old) (map (λ read. read.0) reads.now)) }
+{
+    for (key, _) in reads {
+        table.number(*key)?;
+    }
+    Ok(())
+}
+
+/// The keys that the transactions write and read, each once.
+fn noted_keys(alloc: Global, transactions: &[Transaction]) -> Result<SymbolTable, NoMemory>
+    ensures { IfOk result (λ table. with_names [] table ≡ keys (over transactions.now)) }
+{
+    let mut table = SymbolTable::new(alloc);
+    for transaction in transactions {
+        note_names(&mut table, transaction.writes())?;
+        note_keys_read(&mut table, transaction.reads())?;
+    }
+    Ok(table)
+}
+
+/// The keys that the transactions write and read, in order.
 fn key_set(alloc: Global, transactions: &[Transaction]) -> Result<BTreeSet<Name>, NoMemory>
     ensures { IfOk result (λ set. set.keys ≡ keys (over transactions.now)) }
 {
+    let table = noted_keys(alloc, transactions)?;
     let mut set = BTreeSet::new(alloc);
-    for transaction in transactions {
-        add_names(&mut set, transaction.writes())?;
-        add_keys_read(&mut set, transaction.reads())?;
-    }
+    add_names(&mut set, table.names())?;
     Ok(set)
 }
 

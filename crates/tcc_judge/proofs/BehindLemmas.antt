@@ -1,8 +1,9 @@
 -- What stands behind a transaction and has to stand before it: by clocks and next writers.
-use Rattle.std.proofs.Common.{◌≡◌, ◌≢◌, ◌<◌, ◌≤◌, ◌+◌, ◌*◌, ◌-◌, ◌⊎◌, inl, inr, ℕ, Option, List, length, get_or, refl, sym, ap, subst, ◌∙◌, arith}
+use Rattle.std.proofs.Common.{◌≡◌, ◌≢◌, ◌<◌, ◌≤◌, ◌+◌, ◌*◌, ◌-◌, ◌⊎◌, inl, inr, ℕ, Option, List, length, get_or, replicate, refl, sym, ap, subst, ◌∙◌, arith}
 use Rattle.std.specs.Prelude.{min}
 use Rattle.std.specs.Int.{div_ceil}
 use Rattle.std.proofs.lemmas.Bool.{cases_eq, cases_lt, cases_order}
+use Rattle.std.proofs.lemmas.List.{get_or-replicate, length-replicate}
 use Rattle.tcc_reads.specs.History.{History, IsBySession, count, owner}
 use Rattle.tcc_graph.specs.Levels.{causally}
 use Rattle.tcc_graph.specs.Orders.{IsNumbering}
@@ -24,6 +25,14 @@ use Rattle.tcc_judge.proofs.FoundLemmas.{first_more, found_same}
 -- ---- the numbers of sessions that a clock has come to
 pub within_none : (next clock : List ℕ) → IsLeastOf (IsWithin next clock 0) NONE
 within_none next clock = least_none (IsWithin next clock 0) (λ n is. omega (arith, is.first))
+
+-- a row of nobody's numbers has none that a clock has come to
+pub within_nobodys : (next clock : List ℕ) → next ≡ replicate WIDE NONE → IsLeastOf (IsWithin next clock (length next)) NONE
+within_nobodys next clock nobody = record { attained = inl refl; lowest = λ n is. omega (arith, sym is.here ∙ none is.session is.first) }
+  where
+    none : (s : ℕ) → s < length next → get_or next s 0 ≡ NONE
+    none s inside =
+        ap (λ xs. get_or xs s 0) nobody ∙ get_or-replicate WIDE s NONE 0 (omega (arith, inside, ap length nobody, length-replicate WIDE NONE))
 
 module _ (next clock : List ℕ) (i least : ℕ) where
   still_within : (n : ℕ) → IsWithin next clock i n → IsWithin next clock (i + 1) n

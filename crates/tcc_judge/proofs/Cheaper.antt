@@ -22,9 +22,11 @@ use Rattle.tcc_least.specs.Shapes.{NoneBelow}
 use Rattle.tcc_least.proofs.LeadingBack.{init_reason}
 use Rattle.tcc_lanes.specs.Among.{HasCheaperAmong, HasCheaperIntoInit, IsAmong}
 use Rattle.tcc_lanes.specs.Contradicted.{IsSpannedAside}
+use Rattle.tcc_lanes.specs.Nearness.{IsNear}
 use Rattle.tcc_lanes.proofs.BackLemmas.{spanned_aside}
+use Rattle.tcc_lanes.proofs.NearLemmas.{near_ends}
 use Rattle.tcc_clocks.specs.Clocks.{LeadsOnward}
-use Rattle.tcc_judge.specs.Spanned.{IsSpanned, IsStaleKey}
+use Rattle.tcc_judge.specs.Spanned.{IsMember, IsSpanned, IsStaleKey}
 use Rattle.tcc_judge.specs.private.Positions.{ArePositions}
 use Rattle.tcc_judge.proofs.PositionLemmas.{before_at}
 use Rattle.tcc_graph.proofs.WriterLemmas.{key_place}
@@ -47,10 +49,9 @@ comes_or_never (l ∷ links) = go (cases_eq (link_to l) 0) (comes_or_never links
     go (inr other) (inr all) = inr (All-cons (λ l. link_to l ≢ 0) l links other all)
 
 -- ---- cycles that cost less
-module _ (j : Judged) (rank : ℕ → ℕ) (rises : Rises j.history rank) (none : NoneIntoInit j.history) (members key_indices : List ℕ)
-    (has_members : (v : ℕ) → IsSpannedAside j rank v → Contains members v)
-    (has_keys : (b : ℕ) (x : List ℕ) (c : ℕ) (walk : List Step) → IsReason j b 0 x c walk → (k : ℕ) × Contains key_indices k × (key_at j.history k ≡ x))
-    (most : ℕ) where
+module _ (j : Judged) (rank : ℕ → ℕ) (rises : Rises j.history rank) (none : NoneIntoInit j.history) (most : ℕ) (members key_indices : List ℕ)
+    (has_members : (v : ℕ) → IsSpannedAside j rank v → IsNear j rank most v → Contains members v)
+    (has_keys : (b : ℕ) (x : List ℕ) (c : ℕ) (walk : List Step) → IsReason j b 0 x c walk → (k : ℕ) × Contains key_indices k × (key_at j.history k ≡ x)) where
   -- a cycle that comes to `init` may as well begin there
   from_init : (s : ℕ) (links : List Link) → IsCycle j s links → ComesToInit links → (others : List Link) × IsCycle j 0 others × (cost others ≡ cost links)
   from_init s links cycle w = (
@@ -96,10 +97,14 @@ module _ (j : Judged) (rank : ℕ → ℕ) (rises : Rises j.history rank) (none 
               at (inr low) = absurd (never_two others circle low)
       go (inr never) = inl (s, links, cycle, (λ i d l. among (get_or links i d) (i, l, get_or_default links i (get_or links i d) d l)), few)
         where
+          never_to : (d : Link) → Contains links d → link_to d ≢ 0
+          never_to d listed = subst (λ (m : Link). link_to m ≢ 0) listed.2 (never listed.0 d listed.1)
+
           among : (l : Link) → Contains links l → IsAmong members l
           among l there =
-              let both = spanned_aside j rank rises s links cycle (λ d listed. subst (λ (m : Link). link_to m ≢ 0) listed.2 (never listed.0 d listed.1)) l there in
-              (has_members (link_from l) both.0, has_members (link_to l) both.1)
+              let both = spanned_aside j rank rises s links cycle never_to l there in
+              let near = near_ends j rank rises most s links cycle never_to few l there in
+              (has_members (link_from l) both.0 near.0, has_members (link_to l) both.1 near.1)
 
   -- no cycle costs less where neither does
   pub none_below : (HasCheaperAmong j members most → ⊥) → (HasCheaperIntoInit j key_indices most → ⊥) → NoneBelow j most
@@ -192,13 +197,13 @@ module _ (h : History) (level : Level) (order positions : List ℕ) (numbering :
       let mine : IsReason (judged h level) b 0 (key_at h key.0) c walk = subst (λ (y : List ℕ). IsReason (judged h level) b 0 y c walk) (sym key.2) reason in
       (key.0, (key.1, (b, c, walk, (mine.0, (mine.1.0, tt)))), key.2)
 
-  -- with lists of who is spanned, and of the keys
-  module _ (members key_indices : List ℕ) (all : (v : ℕ) → IsSpanned h order v → Contains members v) (of_keys : (k : ℕ) → IsStaleKey h k → Contains key_indices k)
-      (there : 0 < count h) (most : ℕ) where
+  -- with lists of who is spanned and near, and of the keys
+  module _ (most : ℕ) (members key_indices : List ℕ) (all : (v : ℕ) → IsMember (judged h level) order positions most v → Contains members v)
+      (of_keys : (k : ℕ) → IsStaleKey h k → Contains key_indices k) (there : 0 < count h) where
     pub none_costs_less : (HasCheaperAmong (judged h level) members most → ⊥) → (HasCheaperIntoInit (judged h level) key_indices most → ⊥)
         → NoneBelow (judged h level) most
     none_costs_less among into =
-        none_below (judged h level) rank rises (never_into there) members key_indices (λ v is. all v (is_spanned there v is)) has_keys most among into
+        none_below (judged h level) rank rises (never_into there) most members key_indices (λ v is near. all v (is_spanned there v is, near)) has_keys among into
       where
         has_keys : (b : ℕ) (x : List ℕ) (c : ℕ) (walk : List Step) → IsReason (judged h level) b 0 x c walk → (k : ℕ) × Contains key_indices k × (key_at h k ≡ x)
         has_keys b x c walk reason = let key = is_stale b x c walk reason in (key.0, of_keys key.0 key.1, key.2)

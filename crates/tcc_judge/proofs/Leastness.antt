@@ -14,7 +14,7 @@ use Rattle.tcc_cert.specs.declared.large.Run.{Run}
 use Rattle.tcc_judge.specs.Runs.{order_of}
 use Rattle.tcc_least.specs.Shapes.{NoneBelow}
 use Rattle.tcc_judge.specs.Cycles.{BreaksOnward, HasLinksSizes, IsRightCycle}
-use Rattle.tcc_judge.specs.Spanned.{AreFew, IsBounded, IsSpanned, IsStaleKey}
+use Rattle.tcc_judge.specs.Spanned.{AreFew, HasFewMembers, IsBounded, IsMember, IsSpanned, IsStaleKey}
 use Rattle.tcc_judge.specs.Verdicts.{cycle_rules, least_rules, least_rules_of, links_rules}
 use Rattle.tcc_judge.specs.declared.verdict.Rule.{Rule}
 use Rattle.tcc_judge.specs.declared.verdict.Rule.TheVariants.{Sizes, Onward, Limits, Cheaper}
@@ -24,18 +24,18 @@ use Rattle.tcc_check.proofs.Asked.{answer_later}
 use Rattle.tcc_check.specs.declared.verdict.Verdict.TheVariants as verdict
 use Rattle.tcc_judge.specs.private.Decoding.{IsOrdered}
 use Rattle.tcc_judge.specs.private.Contradicted.{AreContradicted}
-use Rattle.tcc_judge.specs.private.Members.{AreMarkedUnder, AreThose, IsMarked}
+use Rattle.tcc_judge.specs.private.Members.{AreThose, IsMarked}
 use Rattle.tcc_judge.specs.private.Onward.{AreNarrowed, onward_rules}
-use Rattle.tcc_judge.specs.private.Positions.{ArePositions, KeepsPairs}
+use Rattle.tcc_judge.specs.private.Positions.{KeepsPairs}
 use Rattle.tcc_graph.proofs.Numberings.{has_index}
 use Rattle.tcc_lanes.specs.Among.{HasCheaperAmong, HasCheaperIntoInit}
 use Rattle.tcc_lanes.specs.declared.limits.TheConstants.{MOST_MEMBERS, MOST_STEPS}
 use Rattle.tcc_judge.proofs.Cheaper.{below_among, below_into, none_costs_less}
-use Rattle.tcc_judge.proofs.MemberLemmas.{few_same, marked_spanned, marked_stale, spanned_marked, stale_marked, those_all, those_few, those_same}
+use Rattle.tcc_judge.proofs.MemberLemmas.{few_same, marked_stale, stale_marked, those_all, those_few, those_same}
 
 by_order : (h : History) (level : Level) (most : ℕ) (runs : List Run) → 4 < most → (rule : Rule) (at : ℕ × ℕ)
     → IsFirstBroken (onward_rules (judged h level) (order_of h runs) most) rule at
-    → IsFirstBroken (at_each Onward (BreaksOnward h most runs) ∷ as_whole Limits (4 < most → IsBounded h (order_of h runs) most)
+    → IsFirstBroken (at_each Onward (BreaksOnward h most runs) ∷ as_whole Limits (4 < most → IsBounded (judged h level) (order_of h runs) most)
     ∷ as_whole Cheaper (NoneBelow (judged h level) most) ∷ []) rule at
 by_order h level most runs more rule at (inl (same, w)) =
     inl (same, record { here = (more, w.here); first = λ earlier less is. w.first earlier less is.1 })
@@ -70,41 +70,33 @@ either_found Among Into into among none first second = ((λ is. inl (second.0 is
     back (inr is) = absurd (false≢true (sym none ∙ first.1 is))
 
 -- ---- where a cycle that costs less can be
-module _ (h : History) (order positions : List ℕ) (ordered : IsOrdered h order) (are : ArePositions (count h) order positions) (lasts : List ℕ) (stale : List Bool) (w : AreContradicted h order positions lasts stale)
-    (marks : List Bool) (m : AreMarkedUnder (count h) order lasts (length order) marks) (most : ℕ) where
-  spanned : (v : ℕ) → IsMarked marks v → IsSpanned h order v
-  spanned v is = marked_spanned h order positions lasts stale ordered.numbering ordered.init ordered.some are w marks m v is
-
-  pub too_many_members : (AreFew MOST_MEMBERS (IsMarked marks) → ⊥) → IsBounded h order most → ⊥
-  too_many_members none bounded = none (few_same MOST_MEMBERS (IsSpanned h order) (IsMarked marks) spanned bounded.members)
-
-  pub too_many_keys : (AreFew MOST_MEMBERS (IsMarked stale) → ⊥) → IsBounded h order most → ⊥
+module _ (h : History) (level : Level) (order positions : List ℕ) (lasts : List ℕ) (stale : List Bool) (w : AreContradicted h order positions lasts stale) (most : ℕ) where
+  pub too_many_keys : (AreFew MOST_MEMBERS (IsMarked stale) → ⊥) → IsBounded (judged h level) order most → ⊥
   too_many_keys none bounded =
       none (few_same MOST_MEMBERS (IsStaleKey h) (IsMarked stale) (λ k is. marked_stale h order positions lasts stale w k is) bounded.keys)
 
-  pub narrowed : (members key_indices : List ℕ) → most ≤ MOST_STEPS → AreThose MOST_MEMBERS (IsMarked marks) members
+  pub narrowed : (members key_indices : List ℕ) → most ≤ MOST_STEPS
+      → HasFewMembers (judged h level) order most × AreThose MOST_MEMBERS (IsMember (judged h level) order positions most) members
       → AreThose MOST_MEMBERS (IsMarked stale) key_indices
-      → IsBounded h order most × (AreThose MOST_MEMBERS (IsSpanned h order) members × AreThose MOST_MEMBERS (IsStaleKey h) key_indices)
+      → IsBounded (judged h level) order most
+      × (AreThose MOST_MEMBERS (IsMember (judged h level) order positions most) members × AreThose MOST_MEMBERS (IsStaleKey h) key_indices)
   narrowed members key_indices low these keys =
-      let members_are : AreThose MOST_MEMBERS (IsSpanned h order) members
-      = those_same MOST_MEMBERS (IsMarked marks) (IsSpanned h order) members spanned
-      (λ v is. spanned_marked h order positions lasts stale ordered.numbering ordered.init ordered.some are w marks m v is) these in
       let keys_are : AreThose MOST_MEMBERS (IsStaleKey h) key_indices
       = those_same MOST_MEMBERS (IsMarked stale) (IsStaleKey h) key_indices (λ k is. marked_stale h order positions lasts stale w k is)
       (λ k is. stale_marked h order positions lasts stale w k is) keys in (
-        record {
-          steps = low;
-          members = those_few MOST_MEMBERS (IsSpanned h order) members members_are;
-          keys = those_few MOST_MEMBERS (IsStaleKey h) key_indices keys_are;
-        },
-        (members_are, keys_are),
+        record { steps = low; members = these.0; keys = those_few MOST_MEMBERS (IsStaleKey h) key_indices keys_are },
+        (these.1, keys_are),
       )
 
 -- ---- and what is found there
-module _ (h : History) (order : List ℕ) (ordered : IsOrdered h order)
-    (members key_indices : List ℕ) (these : AreThose MOST_MEMBERS (IsSpanned h order) members) (keys_are : AreThose MOST_MEMBERS (IsStaleKey h) key_indices) where
+module _ (h : History) (level : Level) (order positions : List ℕ) (ordered : IsOrdered h order) (most : ℕ)
+    (members key_indices : List ℕ) (these : AreThose MOST_MEMBERS (IsMember (judged h level) order positions most) members)
+    (keys_are : AreThose MOST_MEMBERS (IsStaleKey h) key_indices) where
+  abbrev Member : ℕ → Type 0
+  Member v = IsMember (judged h level) order positions most v
+
   members_inside : All (λ v. v < count h) members
-  members_inside = those_all MOST_MEMBERS (IsSpanned h order) (λ v. v < count h) members these (λ v is. is.7)
+  members_inside = those_all MOST_MEMBERS Member (λ v. v < count h) members these (λ v is. is.0.7)
 
   -- `init` stands before all others
   never_init : (v : ℕ) → IsSpanned h order v → 0 < v
@@ -122,7 +114,7 @@ module _ (h : History) (order : List ℕ) (ordered : IsOrdered h order)
       go (inr other) = omega arith
 
   members_aside : All (λ v. 0 < v) members
-  members_aside = those_all MOST_MEMBERS (IsSpanned h order) (λ v. 0 < v) members these never_init
+  members_aside = those_all MOST_MEMBERS Member (λ v. 0 < v) members these (λ v is. never_init v is.0)
 
   members_ascend : AllPairs (λ u v. u < v) members
   members_ascend i j d less l =
@@ -134,17 +126,16 @@ module _ (h : History) (order : List ℕ) (ordered : IsOrdered h order)
   pub are_narrowed : AreNarrowed h members key_indices
   are_narrowed = record { inside = members_inside; aside = members_aside; ascend = members_ascend; few = these.few; keys = keys_inside }
 
-  module _ (level : Level) (most : ℕ) where
-    there : 0 < count h
-    there = omega (arith, ordered.numbering.below 0 0 ordered.some)
+  there : 0 < count h
+  there = omega (arith, ordered.numbering.below 0 0 ordered.some)
 
-    pub some_cheaper : HasCheaperAmong (judged h level) members most ⊎ HasCheaperIntoInit (judged h level) key_indices most
-        → NoneBelow (judged h level) most → ⊥
-    some_cheaper (inl is) none = below_among (judged h level) members most none is
-    some_cheaper (inr is) none = below_into (judged h level) key_indices most there none is
+  pub some_cheaper : HasCheaperAmong (judged h level) members most ⊎ HasCheaperIntoInit (judged h level) key_indices most
+      → NoneBelow (judged h level) most → ⊥
+  some_cheaper (inl is) none = below_among (judged h level) members most none is
+  some_cheaper (inr is) none = below_into (judged h level) key_indices most there none is
 
-    pub none_cheaper : (positions : List ℕ) → KeepsPairs h order positions
-        → (HasCheaperAmong (judged h level) members most ⊎ HasCheaperIntoInit (judged h level) key_indices most → ⊥) → NoneBelow (judged h level) most
-    none_cheaper positions kept none =
-        none_costs_less h level order positions ordered.numbering ordered.some ordered.init kept.positions_are kept.onward members key_indices (λ v is. (these.each v).1 is)
-        (λ k is. (keys_are.each k).1 is) there most (λ is. none (inl is)) (λ is. none (inr is))
+  pub none_cheaper : KeepsPairs h order positions
+      → (HasCheaperAmong (judged h level) members most ⊎ HasCheaperIntoInit (judged h level) key_indices most → ⊥) → NoneBelow (judged h level) most
+  none_cheaper kept none =
+      none_costs_less h level order positions ordered.numbering ordered.some ordered.init kept.positions_are kept.onward most members key_indices
+      (λ v is. (these.each v).1 is) (λ k is. (keys_are.each k).1 is) there (λ is. none (inl is)) (λ is. none (inr is))

@@ -7,7 +7,9 @@ pub mod BlockLemmas
 pub mod FoundLemmas
 pub mod BehindLemmas
 pub mod ContradictedLemmas
+pub mod SourceLemmas
 pub mod MemberLemmas
+pub mod NearMembers
 pub mod Firsts
 pub mod Laid
 pub mod Told

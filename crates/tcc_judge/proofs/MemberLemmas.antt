@@ -1,16 +1,17 @@
 -- The transactions over which a derived link leads back; and lists of what is marked.
 use Rattle.std.proofs.Common.{◌≡◌, ◌≢◌, ◌<◌, ◌≤◌, ◌+◌, ◌-◌, ◌⊎◌, ◌↔◌, ◌++◌, ◌∷◌, [], inl, inr, ℕ, zero, suc, Bool, true, false, List, length, length-append, get_or, set, replicate, refl, sym, ap, subst, ◌∙◌, arith}
-use Rattle.std.specs.Prelude.{max}
+use Rattle.std.specs.Prelude.{max, nat_lt}
 use Rattle.std.specs.List.{All, Contains}
-use Rattle.std.proofs.lemmas.Bool.{cases_eq, cases_lt, cases_order, false≢true}
+use Rattle.std.proofs.lemmas.Bool.{cases_eq, cases_lt, cases_order, false≢true, lt-ltb, ltb-true}
 use Rattle.std.proofs.lemmas.List.{get_or-set_same, get_or-set_other, get_or_default, length-set, length-replicate, get_or_append_left, get_or-append_right}
 use Rattle.std.proofs.lemmas.List.Elements.{Contains-append_left, Contains-push, Contains-push_cases}
 use Rattle.tcc_reads.specs.History.{History, count}
 use Rattle.tcc_graph.specs.Orders.{Before, IsNumbering}
 use Rattle.tcc_graph.proofs.Numberings.{below_in, one_index}
+use Rattle.tcc_lanes.proofs.PassLemmas.{told_long, told_more}
 use Rattle.tcc_judge.specs.Spanned.{AreFew, IsSpanned, IsStaleKey}
 use Rattle.tcc_judge.specs.private.Contradicted.{AreContradicted, IsLedBackTo}
-use Rattle.tcc_judge.specs.private.Members.{AreMarkedUnder, AreThose, DoAscend, IsFar, IsMarked, IsUnder}
+use Rattle.tcc_judge.specs.private.Members.{AreMarkedBoth, AreMarkedLed, AreMarkedUnder, AreThose, DoAscend, IsFar, IsMarked, IsUnder}
 use Rattle.tcc_judge.specs.private.Positions.{ArePositions}
 use Rattle.tcc_judge.proofs.PositionLemmas.{at_before, before_at}
 
@@ -155,6 +156,37 @@ module _ (h : History) (order positions lasts : List ℕ) (stale : List Bool) (n
 
       under : get_or positions v 0 ≤ get_or lasts (get_or positions a 0) 0
       under = omega (arith, highest, on)
+
+-- ---- who is led back to
+module _ (n : ℕ) (order lasts : List ℕ) (numbering : IsNumbering n order) where
+  pub led_more : (i : ℕ) (marks : List Bool) → i < length order → AreMarkedLed n order lasts i marks
+      → AreMarkedLed n order lasts (i + 1) (set marks (get_or order i 0) (nat_lt 0 (get_or lasts i 0)))
+  led_more i marks inside w = record {
+    long = length-set marks (get_or order i 0) is ∙ w.long;
+    each = λ place l. go place l (cases_eq place i);
+  }
+    where
+      is : Bool
+      is = nat_lt 0 (get_or lasts i 0)
+
+      here : get_or (set marks (get_or order i 0) (nat_lt 0 (get_or lasts i 0))) (get_or order i 0) false ≡ nat_lt 0 (get_or lasts i 0)
+      here = get_or-set_same marks (get_or order i 0) is false (omega (arith, below_in numbering i inside, w.long))
+
+      go : (place : ℕ) → place < i + 1 → (place ≡ i) ⊎ (place ≢ i)
+          → (get_or (set marks (get_or order i 0) (nat_lt 0 (get_or lasts i 0))) (get_or order place 0) false ≡ true) ↔ (0 < get_or lasts place 0)
+      go place l (inl same) = rw (same, here) ((λ t. ltb-true 0 (get_or lasts i 0) t), (λ less. lt-ltb 0 (get_or lasts i 0) less))
+      go place l (inr other) =
+          let apart : get_or order place 0 ≢ get_or order i 0 = λ e. other (one_index numbering place i (omega arith) inside e) in
+          rw (get_or-set_other marks (get_or order i 0) (get_or order place 0) is false apart) (w.each place (omega arith))
+
+-- ---- what both mark
+module _ (one other : List Bool) where
+  pub both_more : (i : ℕ) (marks : List Bool) (is : Bool) → (is ≡ true) ↔ ((get_or one i false ≡ true) × (get_or other i false ≡ true))
+      → AreMarkedBoth one other i marks → AreMarkedBoth one other (i + 1) (marks ++ is ∷ [])
+  both_more i marks is same w = record {
+    long = told_long (λ v. (get_or one v false ≡ true) × (get_or other v false ≡ true)) i marks w.long is;
+    each = told_more (λ v. (get_or one v false ≡ true) × (get_or other v false ≡ true)) i marks w.long is w.each same;
+  }
 
 -- ---- lists
 -- each of the first m has one of the first n, and no two the same: so there are no more of them

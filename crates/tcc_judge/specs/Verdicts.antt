@@ -42,7 +42,7 @@ links_rules h k = of_links Links (judged h k.level) k.cost k.links ∷ []
 abbrev pub least_rules : History → Level → ℕ → List Run → List (Asked Rule)
 least_rules h level most runs =
     at_each ShortPairs (BreaksRound h most) ∷ at_each ShortLinks (BreaksReturn h most) ∷ at_each Onward (BreaksOnward h most runs)
-    ∷ as_whole Limits (4 < most → IsBounded h (order_of h runs) most) ∷ as_whole Cheaper (NoneBelow (judged h level) most) ∷ []
+    ∷ as_whole Limits (4 < most → IsBounded (judged h level) (order_of h runs) most) ∷ as_whole Cheaper (NoneBelow (judged h level) most) ∷ []
 
 -- the rules on that no cycle costs less, where that is claimed
 abbrev pub least_rules_of : History → Level → ℕ → Option (List Run) → List (Asked Rule)

@@ -6,6 +6,7 @@ pub mod Readings
 pub mod Behind
 pub mod Blocks
 pub mod Contradicted
+pub mod Sources
 pub mod Members
 pub mod Decoding
 pub mod Singles

@@ -1,7 +1,7 @@
 //! The first transaction that stands behind another and has to stand before it, at `Causal`: by one pass back along the order for
 //! each block of 64 sessions.
 ghost use Rattle.std.specs.Prelude.{◌≡◌, ◌<◌, ◌+◌, length, slice_index, IfOk, OnOk};
-ghost use Rattle.tcc_graph.specs.Levels.{causally};
+ghost use Rattle.tcc_graph.specs.{Levels.causally, Tables.row_of};
 ghost use Rattle.tcc_clocks.specs.Clocks.{LeadsOnward};
 ghost use Rattle.tcc_judge.specs.{declared.least.TheConstants.NONE, Orders.BreaksAxiom, private.Decoding.IsOrdered, private.Least.IsFoundFirst, private.Least.IsLeastOf, private.Blocks.IsAt, private.Blocks.IsReady};
 ghost use Rattle.tcc_judge.specs.private.Behind.{IsBehindOf, IsBrokenIn, IsWithin, earlier_of, first_with, is_earlier};
@@ -14,17 +14,34 @@ use tcc_graph::LargeGraph;
 use tcc_txn::NoMemory;
 
 /// The least of the numbers of sessions that the clock has come to.
-pub(crate) fn least_within(next: &[u32], clock: &[u32]) -> u32
+fn least_within(next: &[u32], clock: &[u32]) -> u32
     requires { length next.now ≡ length clock.now }
     ensures { IsLeastOf (IsWithin next.now clock.now (length next.now)) result }
 {
     let mut least = NONE;
     for (session, number) in next.iter().enumerate() {
-        if *number <= clock[session] {
-            least = (*number).min(least);
-        }
+        // a minimum with no branch around it becomes vector code
+        let candidate = if *number <= clock[session] {
+            *number
+        } else {
+            NONE
+        };
+        least = candidate.min(least);
     }
     least
+}
+
+/// The least of the next writers of a key that a reader's clock has come to.
+pub(crate) fn least_reaching(block: &Block, key_index: u32, reader: u32) -> u32
+    requires key { key_index < length block.now.next }
+    requires reader { reader < length block.now.clocks }
+    requires wide { length (row_of block.now.next key_index) ≡ length (row_of block.now.clocks reader) }
+    ensures { IsLeastOf (IsWithin (row_of block.now.next key_index) (row_of block.now.clocks reader) (length (row_of block.now.next key_index))) result }
+{
+    if block.next.is_nobodys(key_index) {
+        return NONE;
+    }
+    least_within(block.next.get(key_index), block.clocks.get(reader))
 }
 
 /// The least transaction of the block that stands behind the one at a place of the order, and by one of its readings has to
@@ -37,9 +54,8 @@ fn least_behind(graph: &LargeGraph, block: &Block, order: &[u32], place: usize) 
     let (readers, key_indices) = graph.readings_at(order[place]);
     let mut least = NONE;
     for (index, reader) in readers.iter().enumerate() {
-        let next = block.next.get(key_indices[index]);
-        let within = least_within(next, block.clocks.get(*reader));
-        least = within.min(least);
+        let reaching = least_reaching(block, key_indices[index], *reader);
+        least = reaching.min(least);
     }
     least
 }

@@ -76,7 +76,7 @@ impl Block {
     }
 
     /// The index of a transaction's session in the block; none of one that is outside.
-    fn lane_of(&self, a: u32) -> Option<usize>
+    pub(crate) fn lane_of(&self, a: u32) -> Option<usize>
         requires { a < length self.now.owners.items }
         ensures { MatchOption result
             (IsOutside self.now.owners.items self.now.from a)

@@ -1,18 +1,22 @@
 //! What an order of the causal pairs contradicts, at `Causal`: by the passes of `blocks`. Of each place the last transaction
 //! is kept that has to stand before it and doesn't, and of each key whether one has to stand before `init`. That takes the steps of
-//! these passes, and for each reading that is contradicted one search by halving in each session.
+//! these passes, and for each reading that is contradicted one search by halving in each session. A pass forward then marks the
+//! transactions that have to stand before others (`sources`).
 ghost use Rattle.std.specs.Prelude.{◌≡◌, ◌<◌, ◌≤◌, ◌+◌, ◌⊎◌, ◌↔◌, ℕ, List, length, slice_index, slice_index_or, true, false, Contains, IfOk, IsTrue, OnOk};
 ghost use Rattle.std.specs.List.Sorted.{IsNonDecreasing};
 ghost use Rattle.tcc_reads.specs.History.{History, count};
 ghost use Rattle.tcc_graph.specs.{Keys.keys, Keys.key_at, Relations.IsReadsPair, Tables.row_of};
 ghost use Rattle.tcc_clocks.specs.declared.latest.TheConstants.{WIDE};
 ghost use Rattle.tcc_judge.specs.{declared.least.TheConstants.NONE, private.Decoding.IsOrdered, private.Positions.ArePositions, private.Positions.KeepsPairs};
-ghost use Rattle.tcc_judge.specs.private.Blocks.{IsAt, IsReady, IsWide};
+ghost use Rattle.tcc_judge.specs.private.Blocks.{IsAt, IsWide};
+ghost use Rattle.tcc_judge.specs.private.Sources.{AreSources};
 ghost use Rattle.tcc_judge.specs.private.Contradicted.{AreContradicted, AreContradictedTo, IsBehindAt, IsBehindSome, IsBehindTo, IsGreatestOf};
 
-use crate::behind::least_within;
+use crate::behind::least_reaching;
 use crate::blocks::Block;
 use crate::least::NONE;
+use crate::next_writers::NextWriters;
+use crate::sources::mark_sources;
 use std::alloc::Global;
 use tcc_clocks::WIDE;
 use tcc_graph::LargeGraph;
@@ -25,6 +29,8 @@ pub(crate) struct Contradicted {
     pub(crate) lasts: Vec<u32>,
     /// Of each key whether a reading of it from `init` is contradicted.
     pub(crate) stale: Vec<bool>,
+    /// Of each transaction whether it has to stand before one that stands before it and isn't `init`.
+    pub(crate) sources: Vec<bool>,
 }
 
 /// Whether a transaction of the block writes the key, stands at a place or behind it, and reaches the reader.
@@ -35,7 +41,7 @@ fn is_contradicted(block: &Block, key_index: u32, reader: u32) -> bool
     ensures { (h : History) (order : List ℕ) (place : ℕ) → IsAt h order place block.now → key_index < length (keys h)
         → IsTrue result ↔ IsBehindSome h order block.now.from place (key_at h key_index) reader }
 {
-    least_within(block.next.get(key_index), block.clocks.get(reader)) != NONE
+    least_reaching(block, key_index, reader) != NONE
 }
 
 /// The last of ascending numbers up to one, else 0.
@@ -136,7 +142,8 @@ fn note_block(
     requires at { IsAt graph.now order.now (length order.now) block.old }
     requires positions { ArePositions (count graph.now) order.now positions.now }
     requires so_far { AreContradictedTo graph.now order.now positions.now block.old.from lasts.old stale.old }
-    ensures ready { OnOk result (IsReady graph.now order.now block.new) }
+    ensures from { block.new.from ≡ block.old.from }
+    ensures at { OnOk result (IsAt graph.now order.now 1 block.new) }
     ensures lasts_same { length lasts.new ≡ length lasts.old }
     ensures stale_same { length stale.new ≡ length stale.old }
     ensures noted { OnOk result (AreContradictedTo graph.now order.now positions.now (block.old.from + WIDE) lasts.new stale.new) }
@@ -159,14 +166,22 @@ pub(crate) fn contradicted_along(
 ) -> Result<Contradicted, NoMemory>
     requires ordered { IsOrdered graph.now order.now }
     requires kept { KeepsPairs graph.now order.now positions.now }
-    ensures { IfOk result (λ found. AreContradicted graph.now order.now positions.now found.lasts.items found.stale.items) }
+    ensures found { IfOk result (λ found. AreContradicted graph.now order.now positions.now found.lasts.items found.stale.items) }
+    ensures sources { IfOk result (λ found. AreSources graph.now order.now found.sources.items) }
 {
     let mut block = Block::new(alloc, graph, order)?;
     let mut lasts = vec![in alloc; 0; order.len()]?;
     let mut stale = vec![in alloc; false; graph.keys().len()]?;
+    let mut gaps = NextWriters::new(alloc, graph.keys().len())?;
+    let mut sources = vec![in alloc; false; graph.count() as usize]?;
     for number in 0..graph.sessions().len().div_ceil(WIDE) {
         block.begin(graph, order, number)?;
         note_block(graph, &mut block, positions, order, &mut lasts, &mut stale)?;
+        mark_sources(graph, &block, order, &lasts, &mut gaps, &mut sources)?;
     }
-    Ok(Contradicted { lasts, stale })
+    Ok(Contradicted {
+        lasts,
+        stale,
+        sources,
+    })
 }

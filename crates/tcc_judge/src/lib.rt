@@ -16,7 +16,9 @@ mod next_writers;
 mod onward;
 mod ordering;
 mod positions;
+mod searching;
 mod singles;
+mod sources;
 mod turned;
 mod verdict;
 
@@ -24,4 +26,5 @@ pub use claims::judge;
 pub use cycles::judge_cycle;
 pub use links::judge_links;
 pub use ordering::judge_order;
+pub use searching::{CheaperCycle, cheapest};
 pub use verdict::{Judging, Rule, Verdict};

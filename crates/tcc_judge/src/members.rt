@@ -3,7 +3,7 @@
 ghost use Rattle.std.specs.Prelude.{◌≡◌, ◌<◌, ◌≤◌, ◌↔◌, length, IfOk, IsTrue, MatchOption};
 ghost use Rattle.tcc_graph.specs.Orders.{IsNumbering};
 ghost use Rattle.tcc_judge.specs.Spanned.{AreFew};
-ghost use Rattle.tcc_judge.specs.private.Members.{AreMarkedUnder, AreThose, IsMarked};
+ghost use Rattle.tcc_judge.specs.private.Members.{AreMarkedBoth, AreMarkedLed, AreMarkedUnder, AreThose, IsMarked};
 
 use std::alloc::Global;
 use tcc_txn::NoMemory;
@@ -31,6 +31,40 @@ pub(crate) fn marked_under(
     for (place, number) in order.iter().enumerate() {
         far = lasts[place].max(far);
         marks[*number as usize] = is_under(place, far);
+    }
+    Ok(marks)
+}
+
+/// Marks the transactions to which something leads back, by the last that does of each place; 0 is none.
+pub(crate) fn marked_led(
+    alloc: Global,
+    count: u32,
+    order: &[u32],
+    lasts: &[u32],
+) -> Result<Vec<bool>, NoMemory>
+    requires numbering { IsNumbering count order.now }
+    requires long { length lasts.now ≡ length order.now }
+    ensures { IfOk result (λ marks. AreMarkedLed count order.now lasts.now (length order.now) marks.items) }
+{
+    let mut marks = vec![in alloc; false; count as usize]?;
+    for (place, number) in order.iter().enumerate() {
+        marks[*number as usize] = 0 < lasts[place];
+    }
+    Ok(marks)
+}
+
+/// Marks what both lists mark.
+pub(crate) fn both_marked(
+    alloc: Global,
+    one: &[bool],
+    other: &[bool],
+) -> Result<Vec<bool>, NoMemory>
+    requires { length one.now ≡ length other.now }
+    ensures { IfOk result (λ marks. AreMarkedBoth one.now other.now (length one.now) marks.items) }
+{
+    let mut marks = Vec::new(alloc);
+    for (index, mark) in one.iter().enumerate() {
+        marks.push(*mark && other[index])?;
     }
     Ok(marks)
 }

@@ -1,5 +1,5 @@
 //! Of each key and each session of a block the next writer behind a place of an order, along the order backwards.
-ghost use Rattle.std.specs.Prelude.{◌≡◌, ◌<◌, ℕ, List, length, set, All, IfOk, OnOk, replicate};
+ghost use Rattle.std.specs.Prelude.{◌≡◌, ◌<◌, ℕ, List, true, length, set, All, IfOk, OnOk, replicate};
 ghost use Rattle.tcc_graph.specs.Tables.{row_of};
 ghost use Rattle.tcc_judge.specs.{declared.least.TheConstants.NONE, private.NextWriters.AreLowered, private.NextWriters.lowered};
 ghost use Rattle.tcc_clocks.specs.declared.latest.TheConstants.{WIDE};
@@ -10,7 +10,8 @@ use std::marker::Model;
 use tcc_clocks::{Clock, WIDE};
 use tcc_txn::NoMemory;
 
-/// A row for each key, which contracts see as a list of lists. One row, held once, is that of all keys that nobody was noted for.
+/// A row for each key, of the least number noted for each session, which contracts see as a list of lists. One row, held once, is that
+/// of all keys that nobody was noted for.
 #[derive(Drop)]
 pub(crate) struct NextWriters {
     rows: Vec<Clock>,
@@ -54,6 +55,14 @@ impl NextWriters {
         ensures { result.now ≡ row_of self.now key_index }
     {
         &self.rows[self.which[key_index as usize] as usize]
+    }
+
+    /// Whether nobody was noted for a key: its row has no number of a session.
+    pub(crate) fn is_nobodys(&self, key_index: u32) -> bool
+        requires { key_index < length self.now }
+        ensures { result ≡ true → row_of self.now key_index ≡ replicate WIDE NONE }
+    {
+        self.which[key_index as usize] == 0
     }
 
     /// Lowers the number of a key and a session to this one.

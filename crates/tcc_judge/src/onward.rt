@@ -1,62 +1,132 @@
 //! The rules on that no cycle costs less, past a cost of 4. Where the order that runs tell keeps all pairs, a cycle that costs less
-//! goes through `init`, or else a derived link leads back in the order over each of its transactions; so it is looked for there.
-ghost use Rattle.std.specs.Prelude.{◌≤◌, ◌⊎◌, ◌↔◌, IfOk, IsTrue, MatchOption};
+//! goes through `init`, or else a derived link leads back in the order over each of its transactions, and each of them is near to such
+//! links; so it is looked for there.
+ghost use Rattle.std.specs.Prelude.{◌<◌, ◌≤◌, ◌⊎◌, ◌↔◌, IfOk, IsTrue, MatchOption};
 ghost use Rattle.tcc_graph.specs.Levels.{judged};
 ghost use Rattle.tcc_lanes.specs.{Among.HasCheaperAmong, Among.HasCheaperIntoInit, declared.limits.TheConstants.MOST_MEMBERS, declared.limits.TheConstants.MOST_STEPS};
-ghost use Rattle.tcc_judge.specs.{private.Members.AreThose, private.Onward.AreNarrowed, private.Onward.onward_rules, private.Positions.KeepsPairs, private.Decoding.IsOrdered};
-ghost use Rattle.tcc_judge.specs.Spanned.{IsBounded, IsSpanned, IsStaleKey};
+ghost use Rattle.tcc_judge.specs.{private.Contradicted.AreContradicted, private.Members.AreThose, private.Onward.AreNarrowed, private.Onward.onward_rules, private.Positions.ArePositions, private.Positions.KeepsPairs, private.Decoding.IsOrdered, private.Sources.AreSources};
+ghost use Rattle.tcc_reads.specs.History.{count};
+ghost use Rattle.tcc_judge.specs.Spanned.{HasFewMembers, IsBounded, IsMember, IsStaleKey};
 ghost use Rattle.tcc_check.specs.Asked.{IsVerdictOf};
 
-use crate::contradicted::contradicted_along;
-use crate::members::{marked, marked_under};
+use crate::contradicted::{Contradicted, contradicted_along};
+use crate::members::{both_marked, marked, marked_led, marked_under};
 use crate::turned::kept_positions;
 use crate::verdict::{rejected, rejected_at};
 use crate::{Judging, Rule, Verdict};
 use std::alloc::Global;
 use tcc_graph::{LargeGraph, Level};
-use tcc_lanes::{MOST_MEMBERS, MOST_STEPS, has_cheaper_among, has_cheaper_into_init};
+use tcc_lanes::{
+    MOST_MEMBERS, MOST_STEPS, MOST_SWEPT, has_cheaper_among, has_cheaper_into_init, near,
+};
 use tcc_txn::NoMemory;
 
 /// Where a cycle that costs less can be.
 #[derive(Drop)]
-struct Narrowed {
-    /// The transactions over which a derived link leads back, ascending.
-    members: Vec<u32>,
+pub(crate) struct Narrowed {
+    /// The transactions over which a derived link leads back and that are near, ascending.
+    pub(crate) members: Vec<u32>,
     /// The keys by which a derived link leads into `init`, ascending.
-    key_indices: Vec<u32>,
+    pub(crate) key_indices: Vec<u32>,
 }
 
-/// Where a cycle that costs less can be; nothing where that is past the limits.
-fn narrow_down(
+/// The transactions that a cycle which costs less can have, ascending: a derived link leads back over each of them, and they are near;
+/// nothing where there is too much of what is looked at.
+fn members(
     alloc: Global,
     graph: &LargeGraph,
+    level: Level,
     order: &[u32],
     positions: &[u32],
+    found: &Contradicted,
+    most: u32,
+) -> Result<Option<Vec<u32>>, NoMemory>
+    requires ordered { IsOrdered graph.now order.now }
+    requires positions { ArePositions (count graph.now) order.now positions.now }
+    requires found { AreContradicted graph.now order.now positions.now found.now.lasts.items found.now.stale.items }
+    requires leading { AreSources graph.now order.now found.now.sources.items }
+    requires some { 0 < most }
+    requires most { most ≤ MOST_STEPS }
+    ensures { IfOk result (λ found. MatchOption found
+        (HasFewMembers (judged graph.now level) order.now most → ⊥)
+        (λ members. HasFewMembers (judged graph.now level) order.now most
+        × AreThose MOST_MEMBERS (IsMember (judged graph.now level) order.now positions.now most) members.items)) }
+{
+    let Some(sources) = marked(alloc, &found.sources, MOST_SWEPT / most as usize)? else {
+        return Ok(None);
+    };
+    let led = marked_led(alloc, graph.count(), order, &found.lasts)?;
+    let Some(targets) = marked(alloc, &led, MOST_MEMBERS)? else {
+        return Ok(None);
+    };
+    let near = near(
+        alloc, graph, level, most, order, positions, &sources, &targets,
+    )?;
+    let marks = marked_under(alloc, graph.count(), order, &found.lasts)?;
+    let both = both_marked(alloc, &marks, &near)?;
+    let Some(members) = marked(alloc, &both, MOST_MEMBERS)? else {
+        return Ok(None);
+    };
+    Ok(Some(members))
+}
+
+/// Where a cycle that costs less can be, by what the order contradicts; nothing where that is past the limits.
+pub(crate) fn narrow(
+    alloc: Global,
+    graph: &LargeGraph,
+    level: Level,
+    order: &[u32],
+    positions: &[u32],
+    found: &Contradicted,
     most: u32,
 ) -> Result<Option<Narrowed>, NoMemory>
     requires ordered { IsOrdered graph.now order.now }
-    requires kept { KeepsPairs graph.now order.now positions.now }
+    requires positions { ArePositions (count graph.now) order.now positions.now }
+    requires found { AreContradicted graph.now order.now positions.now found.now.lasts.items found.now.stale.items }
+    requires leading { AreSources graph.now order.now found.now.sources.items }
+    requires some { 0 < most }
+    requires most { most ≤ MOST_STEPS }
     ensures { IfOk result (λ found. MatchOption found
-        (IsBounded graph.now order.now most → ⊥)
-        (λ narrowed. IsBounded graph.now order.now most
-        × (AreThose MOST_MEMBERS (IsSpanned graph.now order.now) narrowed.members.items
+        (IsBounded (judged graph.now level) order.now most → ⊥)
+        (λ narrowed. IsBounded (judged graph.now level) order.now most
+        × (AreThose MOST_MEMBERS (IsMember (judged graph.now level) order.now positions.now most) narrowed.members.items
         × AreThose MOST_MEMBERS (IsStaleKey graph.now) narrowed.key_indices.items))) }
 {
-    if most > MOST_STEPS {
-        return Ok(None);
-    }
-    let found = contradicted_along(alloc, graph, order, positions)?;
-    let marks = marked_under(alloc, graph.count(), order, &found.lasts)?;
-    let Some(members) = marked(alloc, &marks, MOST_MEMBERS)? else {
+    let Some(key_indices) = marked(alloc, &found.stale, MOST_MEMBERS)? else {
         return Ok(None);
     };
-    let Some(key_indices) = marked(alloc, &found.stale, MOST_MEMBERS)? else {
+    let Some(members) = members(alloc, graph, level, order, positions, found, most)? else {
         return Ok(None);
     };
     Ok(Some(Narrowed {
         members,
         key_indices,
     }))
+}
+
+/// Where a cycle that costs less can be; nothing where that is past the limits.
+fn narrow_down(
+    alloc: Global,
+    graph: &LargeGraph,
+    level: Level,
+    order: &[u32],
+    positions: &[u32],
+    most: u32,
+) -> Result<Option<Narrowed>, NoMemory>
+    requires ordered { IsOrdered graph.now order.now }
+    requires kept { KeepsPairs graph.now order.now positions.now }
+    requires some { 0 < most }
+    ensures { IfOk result (λ found. MatchOption found
+        (IsBounded (judged graph.now level) order.now most → ⊥)
+        (λ narrowed. IsBounded (judged graph.now level) order.now most
+        × (AreThose MOST_MEMBERS (IsMember (judged graph.now level) order.now positions.now most) narrowed.members.items
+        × AreThose MOST_MEMBERS (IsStaleKey graph.now) narrowed.key_indices.items))) }
+{
+    if most > MOST_STEPS {
+        return Ok(None);
+    }
+    let found = contradicted_along(alloc, graph, order, positions)?;
+    narrow(alloc, graph, level, order, positions, &found, most)
 }
 
 /// Whether a cycle there costs less.
@@ -88,14 +158,15 @@ pub(crate) fn onward_verdict(
     most: u32,
     order: &[u32],
 ) -> Judging
-    requires { IsOrdered graph.now order.now }
+    requires ordered { IsOrdered graph.now order.now }
+    requires some { 0 < most }
     ensures { IfOk result (IsVerdictOf (onward_rules (judged graph.now level) order.now most)) }
 {
     let positions = match kept_positions(alloc, graph, order)? {
         Ok(positions) => positions,
         Err(at) => return Ok(rejected_at(Rule::Onward, at)),
     };
-    let Some(narrowed) = narrow_down(alloc, graph, order, &positions, most)? else {
+    let Some(narrowed) = narrow_down(alloc, graph, level, order, &positions, most)? else {
         return Ok(rejected(Rule::Limits));
     };
     if has_cheaper(alloc, graph, level, &narrowed, most)? {

@@ -19,8 +19,8 @@ pub enum Rule {
     ShortLinks,
     /// Every reads-from pair is in order by the runs beside the cycle.
     Onward,
-    /// The cost, the transactions over which a derived link leads back in that order, and the keys by which one leads into `init` are
-    /// within their limits.
+    /// The cost, the transactions over which a derived link leads back in that order, those to which one does, those of the first that
+    /// are near, and the keys by which one leads into `init` are within their limits.
     Limits,
     /// No cycle costs less.
     Cheaper,

@@ -17,12 +17,12 @@ use Rattle.tcc_least.proofs.LeadingBack.{link_back}
 use Rattle.tcc_lanes.specs.Contradicted.{HasCheaper, IsContradicted, IsSpanned, IsSpannedAside}
 
 -- links up to one of them, and behind it
-record Parted (links : List Link) (l : Link) : Type 0 where
-  front : List Link
-  behind : List Link
-  is : links ≡ front ++ l ∷ behind
+pub record Parted (links : List Link) (l : Link) : Type 0 where
+  pub front : List Link
+  pub behind : List Link
+  pub is : links ≡ front ++ l ∷ behind
 
-parted : (links : List Link) (l : Link) → Contains links l → Parted links l
+pub parted : (links : List Link) (l : Link) → Contains links l → Parted links l
 parted links l (k, inside, at) = record {
   front = take k links;
   behind = drop (k + 1) links;
@@ -86,13 +86,13 @@ module _ (j : Judged) (rank : ℕ → ℕ) (rises : Rises j.history rank) where
       go (inl few) = absurd (by few (link_back j rank rises s links cycle))
 
   -- one of the derived links leads down over a rank
-  abbrev Crossed : List Link → ℕ → Type 0
+  abbrev pub Crossed : List Link → ℕ → Type 0
   Crossed links q =
       (b : ℕ) × (a : ℕ) × (x : List ℕ) × (c : ℕ) × (walk : List Step) × Contains links (link.Derived b a x c walk) × IsReason j b a x c walk × (rank a ≤ q)
       × (q < rank b)
 
   -- what leads down over it has one that does
-  crossing : (u v q : ℕ) (links : List Link) → LinksLead j u v links → q < rank u → rank v ≤ q
+  pub crossing : (u v q : ℕ) (links : List Link) → LinksLead j u v links → q < rank u → rank v ≤ q
       → Crossed links q
   crossing u v q [] lead high low = absurd (omega (arith, high, low, ap rank lead))
   crossing u v q (l ∷ links) lead high low = go (λ still. crossing (link_to l) v q links lead.2 still low) (cases_lt q (rank (link_to l)))

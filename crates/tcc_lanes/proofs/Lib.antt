@@ -10,4 +10,8 @@ pub mod PriceLemmas
 pub mod PriceRows
 pub mod SettledCosts
 pub mod BackLemmas
+pub mod NearLemmas
+pub mod ClosingLemmas
+pub mod PassLemmas
+pub mod NearnessLemmas
 pub mod WorkedAmong

@@ -12,7 +12,7 @@ use Rattle.tcc_graph.specs.declared.link.Link.{Link}
 use Rattle.tcc_graph.proofs.Linking.{cost_cons, link_route, one_cost, route_on, some_cost}
 use Rattle.tcc_lanes.specs.Among.{HasCheaperAmong, IsAmong}
 use Rattle.tcc_lanes.specs.declared.pricing.TheConstants.{NONE}
-use Rattle.tcc_lanes.specs.private.Pricing.{ArePriceRows, HasReturn, IsPriceRow, IsSettled, IsTable}
+use Rattle.tcc_lanes.specs.private.Pricing.{ArePriceRows, HasReturn, IsPriceRow, IsReached, IsSettled, IsTable}
 
 -- ---- one level
 module _ (rows : List (List ℕ)) (table : IsTable rows) (level : ℕ) (old : List ℕ) (same : length rows ≡ length old) where
@@ -71,15 +71,6 @@ module _ (rows : List (List ℕ)) (table : IsTable rows) (level : ℕ) (old : Li
         over u v l m k here (inr apart) = omega (arith, at v k, w.over u v (omega (arith, l, apart)) m k here)
 
 -- ---- level by level
--- what it costs to come to each member from one of them, as far as that is settled
-pub record IsReached (j : Judged) (members : List ℕ) (rows : List (List ℕ)) (s : ℕ) (level : ℕ) (costs : List ℕ) : Type 0 where
-  pub same : length costs ≡ length members
-  pub sound : (v : ℕ) → v < length members → get_or costs v 0 < NONE
-      → (links : List Link) × IsRoute j (get_or members s 0) (get_or members v 0) links × All (IsAmong members) links × (cost links ≤ get_or costs v 0)
-  pub first : (v : ℕ) → v < length members → get_or costs v 0 ≤ get_or (get_or rows s []) v 0
-  pub over : (u v : ℕ) → u < length members → v < length members → get_or costs u 0 < level
-      → get_or costs v 0 ≤ get_or costs u 0 + get_or (get_or rows u []) v 0
-
 module _ (j : Judged) (members : List ℕ) (most : ℕ) (rows : List (List ℕ)) (are : ArePriceRows j members most (length members) rows) where
   all_rows : length rows ≡ length members
   all_rows = omega (arith, are.long)

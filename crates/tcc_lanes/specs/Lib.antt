@@ -1,3 +1,4 @@
 pub mod Among
 pub mod Contradicted
+pub mod Nearness
 pub mod private

@@ -5,3 +5,5 @@ pub mod Walks
 pub mod IntoInit
 pub mod Pricing
 pub mod Tiles
+pub mod Closings
+pub mod Passes

@@ -1,18 +1,46 @@
 //! Cycles among some transactions.
-ghost use Rattle.std.specs.Prelude.{◌≤◌, ◌<◌, ◌↔◌, length, All, AllPairs, IfOk, IsTrue};
+ghost use Rattle.std.specs.Prelude.{◌≤◌, ◌<◌, ◌↔◌, length, All, AllPairs, IfOk, IsTrue, MatchOption};
 ghost use Rattle.tcc_reads.specs.History.{count};
 ghost use Rattle.tcc_graph.specs.Levels.{judged};
 ghost use Rattle.tcc_lanes.specs.{declared.limits.TheConstants.MOST_MEMBERS, declared.limits.TheConstants.MOST_STEPS, Among.HasCheaperAmong};
 
+use crate::circling::circle;
 use crate::price_rows::price_rows;
 use crate::settling::has_return;
 use std::alloc::Global;
 use tcc_graph::{LargeGraph, Level};
 use tcc_txn::NoMemory;
 
-/// Whether a cycle costs less than `most`, all of whose links begin and end at these transactions; they ascend, and `init` isn't among
-/// them. For M of them, N transactions and R reads that takes M / 64 times so many sweeps of N + R as a cycle may have steps, and then
-/// M * M * M steps at most; and M * M bytes.
+/// The transactions of a cycle that costs less than `most`, all of whose links begin and end at these transactions, in its order; none
+/// where there is no such cycle. They ascend, and `init` isn't among them. No clause says which they are: the links between them are
+/// for the caller to find and to judge. For M transactions among N with R reads that takes M / 64 times so many sweeps of N + R as a
+/// cycle may have steps, and then M * M * M steps at most; and M * M bytes.
+pub fn cheaper_among(
+    alloc: Global,
+    graph: &LargeGraph,
+    level: Level,
+    members: &[u32],
+    most: u32,
+) -> Result<Option<Vec<u32>>, NoMemory>
+    requires inside { All (λ v. v < count graph.now) members.now }
+    requires some { All (λ v. 0 < v) members.now }
+    requires ascending { AllPairs (λ u v. u < v) members.now }
+    requires few { length members.now ≤ MOST_MEMBERS }
+    requires most { most ≤ MOST_STEPS }
+    ensures { IfOk result (λ found. MatchOption found
+        (HasCheaperAmong (judged graph.now level) members.now most → ⊥)
+        (λ _circle. HasCheaperAmong (judged graph.now level) members.now most)) }
+{
+    let rows = price_rows(alloc, graph, level, members, most)?;
+    for start in 0..members.len() {
+        if has_return(alloc, &rows, start, most as u8)? {
+            return Ok(Some(circle(alloc, &rows, members, start, most as u8)?));
+        }
+    }
+    Ok(None)
+}
+
+/// Whether a cycle costs less than `most`, all of whose links begin and end at these transactions, as `cheaper_among` finds one.
 pub fn has_cheaper_among(
     alloc: Global,
     graph: &LargeGraph,
@@ -27,11 +55,9 @@ pub fn has_cheaper_among(
     requires most { most ≤ MOST_STEPS }
     ensures { IfOk result (λ found. IsTrue found ↔ HasCheaperAmong (judged graph.now level) members.now most) }
 {
-    let rows = price_rows(alloc, graph, level, members, most)?;
-    for start in 0..members.len() {
-        if has_return(alloc, &rows, start, most as u8)? {
-            return Ok(true);
-        }
+    let found = cheaper_among(alloc, graph, level, members, most)?;
+    match found {
+        Some(_circle) => Ok(true),
+        None => Ok(false),
     }
-    Ok(false)
 }

@@ -3,12 +3,16 @@
 #![tactic(auto)]
 
 mod among;
+mod circling;
+mod closings;
 mod frontier;
 mod into_init;
 pub mod laws;
 mod limits;
 mod marking;
 mod meeting;
+mod nearness;
+mod passes;
 mod price_rows;
 mod pricing;
 mod settling;
@@ -16,6 +20,7 @@ mod spreading;
 mod tiles;
 mod words;
 
-pub use among::has_cheaper_among;
+pub use among::{cheaper_among, has_cheaper_among};
 pub use into_init::has_cheaper_into_init;
-pub use limits::{MOST_MEMBERS, MOST_STEPS};
+pub use limits::{MOST_MEMBERS, MOST_STEPS, MOST_SWEPT};
+pub use nearness::near;

@@ -16,7 +16,7 @@ use tcc_graph::{LargeGraph, Level};
 use tcc_txn::NoMemory;
 
 /// How long a walk may be at most, so that its derived link costs less than `most`: at `Atomic` all are of one step.
-fn longest_walk(level: Level, most: u32) -> u8
+pub(crate) fn longest_walk(level: Level, most: u32) -> u8
     requires { most ≤ MOST_STEPS }
     ensures few { result < NONE }
     ensures all { (walk : List Step) → IsAllowed level walk → length walk + 1 < most → length walk ≤ result }

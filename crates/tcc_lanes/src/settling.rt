@@ -4,7 +4,7 @@
 ghost use Rattle.std.specs.Prelude.{◌≡◌, ◌≤◌, ◌<◌, ◌+◌, ◌↔◌, ℕ, List, length, slice_index, min, AllPairs, IfOk, IsTrue};
 ghost use Rattle.tcc_graph.specs.Levels.{Judged};
 ghost use Rattle.tcc_lanes.specs.declared.pricing.TheConstants.{NONE};
-ghost use Rattle.tcc_lanes.specs.private.Pricing.{ArePriceRows, HasReturn, IsSettled, IsTable};
+ghost use Rattle.tcc_lanes.specs.private.Pricing.{ArePriceRows, HasReturn, IsReached, IsSettled, IsTable};
 
 use std::alloc::Global;
 use tcc_bits::Row;
@@ -37,6 +37,27 @@ fn settle(costs: &mut [u8], rows: &[Row<u8>], level: u8)
     }
 }
 
+/// What it costs to come to each member from one of them, as far as that is less than `most`.
+pub(crate) fn costs_from(
+    alloc: Global,
+    rows: &[Row<u8>],
+    start: usize,
+    most: u8,
+) -> Result<Vec<u8>, NoMemory>
+    requires table { IsTable rows.now }
+    requires start { start < length rows.now }
+    requires few { most ≤ NONE }
+    ensures same { IfOk result (λ costs. length costs.items ≡ length rows.now) }
+    ensures reached { IfOk result (λ costs. (j : Judged) (members : List ℕ) → ArePriceRows j members most (length members) rows.now
+        → (level : ℕ) × (most ≤ level) × IsReached j members rows.now start level costs.items) }
+{
+    let mut costs = rows[start].copy(alloc)?.into_vec();
+    for level in 1..most {
+        settle(&mut costs, rows, level);
+    }
+    Ok(costs)
+}
+
 /// Whether a cycle from a member, of links among the members, costs less than `most`.
 pub(crate) fn has_return(
     alloc: Global,
@@ -50,9 +71,6 @@ pub(crate) fn has_return(
     ensures { IfOk result (λ found. (j : Judged) (members : List ℕ) → ArePriceRows j members most (length members) rows.now
         → AllPairs (λ u v. u < v) members → IsTrue found ↔ HasReturn j members most start) }
 {
-    let mut costs = rows[start].copy(alloc)?.into_vec();
-    for level in 1..most {
-        settle(&mut costs, rows, level);
-    }
+    let costs = costs_from(alloc, rows, start, most)?;
     Ok(costs[start] < most)
 }

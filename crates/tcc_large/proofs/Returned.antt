@@ -10,7 +10,7 @@ use Rattle.tcc_graph.specs.Routes.{LinksLead}
 use Rattle.tcc_graph.specs.declared.link.Link.{Link}
 use Rattle.tcc_graph.proofs.Linking.{cost_append, some_links}
 use Rattle.tcc_graph.proofs.Pairs.{link_below}
-use Rattle.tcc_least.specs.Shapes.{AreLeast}
+use Rattle.tcc_least.specs.Shapes.{AreLeast, NoneBelow}
 use Rattle.tcc_graph.specs.Routes.{AreCycle}
 use Rattle.tcc_large.specs.Cycles.{IsSimple}
 use Rattle.tcc_large.specs.private.Returning.{start_at, end_at, IsClosed, IsFirstReturn}
@@ -241,3 +241,8 @@ module _ (n : ℕ) (links : List Link) (positions : List ℕ) (m : ℕ) (closed 
             less,
           );
         })
+
+-- where none costs less than four steps, one of four steps is a least one
+pub least_of_four : (j : Judged) (links : List Link) → NoneBelow j 4 → cost links ≤ 4 → AreCycle j links → AreLeast j links
+least_of_four j links none cheap (s, cycle) =
+    (s, record { cycle = cycle; least = λ t others other. omega (arith, none t others other, cheap) })

@@ -1,5 +1,5 @@
 -- What is decided of a history of any size.
-use Rattle.std.specs.Prelude.{◌<◌, ◌≡◌, List}
+use Rattle.std.specs.Prelude.{ℕ, ◌<◌, ◌≡◌, List}
 use Rattle.tcc_graph.specs.Levels.{Judged}
 use Rattle.tcc_graph.specs.Links.{cost}
 use Rattle.tcc_graph.specs.Orders.{IsFirstOrder}
@@ -27,3 +27,7 @@ abbrev pub HasNone : Decision → Type 0
 HasNone (decision.Order order) = Unit {0}
 HasNone (decision.Least links) = ⊥
 HasNone (decision.Cycle links) = ⊥
+
+-- what is decided is a cycle that costs less than so many steps
+abbrev pub IsCheaper : Judged → ℕ → Decision → Type 0
+IsCheaper j below d = IsDecision j d × ((links : List Link) × HasLinks d links × (cost links < below))

@@ -393,3 +393,37 @@ pub(crate) fn found_cycle(
     finder.find(alloc, level, stuck)?;
     Ok(finder.cheapest.links.take())
 }
+
+/// The links of a cycle along transactions that stand in a circle, where together they cost less than so many steps; none where none was
+/// found. Between any two it is a shortest one.
+pub(crate) fn cycle_around(
+    alloc: Global,
+    graph: &LargeGraph,
+    level: Level,
+    circle: &[u32],
+    below: u32,
+) -> Result<Option<Vec<Link>>, NoMemory> {
+    let pairs = Pairs::of(alloc, graph)?;
+    let mut finder = Finder::new(alloc, &pairs, level)?;
+    finder.cheapest.below = below as usize;
+    finder.work = Work::new(u64::MAX);
+    unless_spent(finder.along(alloc, circle))?;
+    Ok(finder.cheapest.links.take())
+}
+
+/// The links of a cheapest cycle through `init`, by a reading of one of these keys, where it costs less than so many steps; none where
+/// none was found.
+pub(crate) fn cycle_into_init(
+    alloc: Global,
+    graph: &LargeGraph,
+    level: Level,
+    key_indices: &[u32],
+    below: u32,
+) -> Result<Option<Vec<Link>>, NoMemory> {
+    let pairs = Pairs::of(alloc, graph)?;
+    let mut finder = Finder::new(alloc, &pairs, level)?;
+    finder.cheapest.below = below as usize;
+    finder.work = Work::new(u64::MAX);
+    unless_spent(finder.try_keys(alloc, 0, key_indices))?;
+    Ok(finder.cheapest.links.take())
+}

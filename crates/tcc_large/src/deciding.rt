@@ -1,11 +1,12 @@
 //! The decision of a history at a level.
-ghost use Rattle.std.specs.Prelude.{◌≡◌, IfOk};
+ghost use Rattle.std.specs.Prelude.{◌≡◌, IfOk, IfSome};
+ghost use Rattle.tcc_least.specs.Shapes.{NoneBelow};
 ghost use Rattle.tcc_graph.specs.{Links.cost, declared.level.Level.Level, Routes.AreCycle, Levels.judged};
-ghost use Rattle.tcc_large.specs.{Decisions.IsDecision, private.Retracing.IsStuckAt, private.Retracing.judged_at};
+ghost use Rattle.tcc_large.specs.{Decisions.IsCheaper, Decisions.IsDecision, private.Retracing.IsStuckAt, private.Retracing.judged_at};
 ghost use Rattle.tcc_order.specs.Placements.{IsPlacement};
 
 use crate::component_order::order_to_judge;
-use crate::cycle_search::found_cycle;
+use crate::cycle_search::{cycle_around, cycle_into_init, found_cycle};
 use crate::decision::Decision;
 use crate::predecessor_cycle::StuckOrder;
 use crate::simple_cycle::simple_cycle;
@@ -58,6 +59,58 @@ fn by_cycle(alloc: Global, at: &StuckOrder<'_>) -> Result<Decision, NoMemory>
         Ok(Decision::Least(links))
     } else {
         Ok(Decision::Cycle(links))
+    }
+}
+
+/// What is decided by the links of a cycle, if they are one that costs less than so many steps, and where none costs less than four; none
+/// otherwise.
+fn decided(
+    alloc: Global,
+    graph: &LargeGraph,
+    level: Level,
+    links: Vec<Link>,
+    below: u32,
+) -> Result<Option<Decision>, NoMemory>
+    requires { NoneBelow (judged graph.now level) 4 }
+    ensures { IfOk result (λ found. IfSome found (IsCheaper (judged graph.now level) below)) }
+{
+    if !is_cycle(graph, level, &links) {
+        return Ok(None);
+    }
+    let links = simple_cycle(alloc, graph.count(), links)?;
+    let steps = steps_of(&links)?;
+    if steps >= u64::from(below) {
+        return Ok(None);
+    }
+    if steps <= 4 {
+        Ok(Some(Decision::Least(links)))
+    } else {
+        Ok(Some(Decision::Cycle(links)))
+    }
+}
+
+/// What is decided by a cycle along these transactions, which stand in a circle, or, where `into_init`, through `init` by a reading of
+/// one of these keys, each told by its index; none where no such cycle was found that costs less than so many steps. No clause says
+/// where one is found.
+pub fn decide_cheaper(
+    alloc: Global,
+    graph: &LargeGraph,
+    level: Level,
+    numbers: &[u32],
+    into_init: bool,
+    below: u32,
+) -> Result<Option<Decision>, NoMemory>
+    requires { NoneBelow (judged graph.now level) 4 }
+    ensures { IfOk result (λ found. IfSome found (IsCheaper (judged graph.now level) below)) }
+{
+    let found = if into_init {
+        cycle_into_init(alloc, graph, level, numbers, below)?
+    } else {
+        cycle_around(alloc, graph, level, numbers, below)?
+    };
+    match found {
+        Some(links) => decided(alloc, graph, level, links, below),
+        None => Ok(None),
     }
 }
 

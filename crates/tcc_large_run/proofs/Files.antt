@@ -14,10 +14,10 @@ use Rattle.tcc_print.specs.Printed.{Prints, device_line, memory_line}
 use Rattle.tcc_print.specs.declared.options.Options.{Options}
 use Rattle.tcc_print.specs.declared.status.Status.TheVariants.{Device, Memory}
 use Rattle.tcc_print.proofs.Courses.{Gains-none}
-use Rattle.tcc_large_run.specs.LargeRuns.{CertificateStops, Files, SliceStops, Stops}
+use Rattle.tcc_large_run.specs.LargeRuns.{CertificateStops, Files, IsSliced, IsUnsliced, SliceStops, Stops}
 use Rattle.tcc_large_run.specs.private.Stages.{IsOutcome, SendsCertificate, SendsSlice, WritesCertificate, WritesFiles, WritesSlice, outcome_links, outcome_said}
 use Rattle.tcc_large_run.specs.declared.outcome.Outcome.{Outcome}
-use Rattle.tcc_large_run.proofs.Outcomes.{has_said, said_anomalous}
+use Rattle.tcc_large_run.proofs.Outcomes.{has_said, said_anomalous, unsaid}
 
 nothing : {A : Type 0} (x : A) → Some x ≡ None → ⊥
 nothing x e = cc
@@ -52,18 +52,24 @@ certificate_stops options last before after file file' write.NoMemory code (clai
 pub slice_given : {A : Type 0} (options : Options) (whole : Sessions) (o : Outcome) (links : List Link) (r : Result A ℕ) (before after file file' : Option (List ℕ))
     → IsOutcome options.level whole o → outcome_links o ≡ Some links → SendsSlice options whole links r before after file file'
     → WritesSlice options whole (outcome_said options o) r before after (Some file) (Some file')
-slice_given options whole o links (Ok done) before after file file' is has (quiet, inl none) = (quiet, inl none)
-slice_given options whole o links (Ok done) before after file file' is has (quiet, inr (slice, cut, out)) =
-    (quiet, inr (slice, (links, has_said options whole o links is has, cut), out))
+slice_given options whole o links (Ok done) before after file file' is has (quiet, inl (slice, cut, out)) =
+    (quiet, inl (slice, (links, has_said options whole o links is has, cut), out))
+slice_given options whole o links (Ok done) before after file file' is has (quiet, inr (none, out)) =
+    (quiet, inr (inr (inr (links, has_said options whole o links is has, none)), out))
 slice_given options whole o links (Err code) before after file file' is has (inl (slice, n, cut, out, prints)) =
     inl (slice, n, (links, has_said options whole o links is has, cut), out, prints)
 slice_given options whole o links (Err code) before after file file' is has (inr (none, prints)) =
     inr (said_anomalous options (history whole) (outcome_said options o) links (has_said options whole o links is has), none, prints)
 
--- nothing for a file
-pub slice_none : (options : Options) (whole : Sessions) (last : Said) (before : Option (List ℕ)) (file : Contents)
-    → WritesSlice {A = Unit {0}} options whole last (Ok tt) before before file file
-slice_none options whole last before file = (refl, inl (Gains-none file))
+-- there is no slice, and nothing goes into the file
+pub unsliced : (options : Options) (whole : Sessions) (last : Said) (file : Contents) → IsUnsliced options whole last → IsSliced options whole last file file
+unsliced options whole last None is = refl
+unsliced options whole last (Some file) is = inr (is, Gains-none (Some file))
+
+-- what was said is no anomaly
+pub slice_none : (options : Options) (whole : Sessions) (o : Outcome) (before : Option (List ℕ)) (file : Contents) → outcome_links o ≡ None
+    → WritesSlice {A = Unit {0}} options whole (outcome_said options o) (Ok tt) before before file file
+slice_none options whole o before file none = (refl, unsliced options whole (outcome_said options o) file (inr (inl (unsaid options o none))))
 
 -- both files, one after the other
 pub both_files : {A : Type 0} (options : Options) (whole : Sessions) (last : Said) (r : Result A ℕ) (before now after : Option (List ℕ))

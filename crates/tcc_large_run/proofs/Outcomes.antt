@@ -1,12 +1,14 @@
 -- What is to be said of a snapshot is what is answered for it.
-use Rattle.std.proofs.Common.{◌≡◌, List, None, Some, ap, refl, sym, subst, ◌∙◌, inl, inr}
+use Rattle.std.proofs.Common.{ℕ, ◌-◌, ◌≡◌, ◌≢◌, Bool, true, false, cond, List, length, nat_lt, None, Some, ap, refl, sym, subst, ◌∙◌, inl, inr}
 use Rattle.tcc_txn.specs.Finished.{KeepsLimits}
 use Rattle.tcc_txn.specs.Snapshots.{Sessions}
 use Rattle.tcc_reads.specs.Faults.{read_faults}
 use Rattle.std.proofs.Common.{[]}
 use Rattle.tcc_reads.specs.History.{History}
 use Rattle.tcc_reads.specs.Sources.{history}
+use Rattle.tcc_explain.specs.Explained.{IsAnswerOfHistory}
 use Rattle.tcc_graph.specs.Levels.{judged}
+use Rattle.tcc_graph.specs.Routes.{AreCycle}
 use Rattle.tcc_graph.specs.declared.level.Level.{Level}
 use Rattle.tcc_graph.specs.declared.link.Link.{Link}
 use Rattle.tcc_cert.specs.LargeTexts.{HasLargeText}
@@ -20,8 +22,9 @@ use Rattle.tcc_large.specs.declared.decision.Decision.{Decision}
 use Rattle.tcc_large.specs.declared.decision.Decision.TheVariants as decision
 use Rattle.tcc_print.specs.Courses.{Said, faults_said}
 use Rattle.tcc_print.specs.declared.options.Options.{Options}
-use Rattle.tcc_print.specs.declared.status.Status.TheVariants.{Anomaly}
-use Rattle.tcc_large_run.specs.LargeRuns.{HasSaid, IsProvedLeast, IsSaidWithLarge, bare_cycle, claim_of, decision_said, proved_claim, proved_said}
+use Rattle.tcc_print.specs.Statuses.{answer_status}
+use Rattle.tcc_print.specs.declared.status.Status.TheVariants.{Anomaly, Success, TooFew}
+use Rattle.tcc_large_run.specs.LargeRuns.{HasSaid, IsProvedLeast, IsSaidWithLarge, IsShort, bare_cycle, claim_of, decision_said, proved_claim, proved_said}
 use Rattle.tcc_large_run.specs.private.Stages.{IsDecided, IsFoundOf, IsOutcome, IsProved, answer_links, outcome_links, outcome_of, outcome_said}
 use Rattle.tcc_large_run.specs.declared.outcome.Outcome.{Outcome}
 use Rattle.tcc_large_run.specs.declared.outcome.Outcome.TheVariants as outcome
@@ -41,7 +44,7 @@ past_limits : (options : Options) (s : Sessions) (h : History) (o : Outcome) →
 past_limits options s h o is =
     inl (
       is.resolved,
-      inr (is.past, claim_of options.level (history s) is.decided, inl (is.decided, is.is, refl, decided_said options s h o is), is.room),
+      inr (is.past, claim_of options.level (history s) is.decided, inl (is.decided, is.is, is.short, refl, decided_said options s h o is), is.room),
     )
 
 -- what is said of a least cycle that was proved
@@ -71,13 +74,13 @@ said_of options s (outcome.Cycle h labels links) is = past_limits options s h (o
 
 -- past the small limits what is answered for a large snapshot is what is to be said of it
 decided_outcome : (level : Level) (s : Sessions) (h : History) (d : Decision) → read_faults s ≡ [] → (KeepsLimits s → ⊥) → h ≡ history s
-    → IsDecision (judged (history s) level) d → HasLargeText (claim_of level (history s) d) → IsOutcome level s (outcome_of level h d)
-decided_outcome level s h (decision.Order order) none past same is room =
-    record { resolved = none; past = past; own = same; decided = decision.Order order; is = is; room = room; outcome = refl }
-decided_outcome level s h (decision.Least links) none past same is room =
-    record { resolved = none; past = past; own = same; decided = decision.Least links; is = is; room = room; outcome = refl }
-decided_outcome level s h (decision.Cycle links) none past same is room =
-    record { resolved = none; past = past; own = same; decided = decision.Cycle links; is = is; room = room; outcome = refl }
+    → IsDecision (judged (history s) level) d → IsShort d → HasLargeText (claim_of level (history s) d) → IsOutcome level s (outcome_of level h d)
+decided_outcome level s h (decision.Order order) none past same is short room =
+    record { resolved = none; past = past; own = same; decided = decision.Order order; is = is; short = short; room = room; outcome = refl }
+decided_outcome level s h (decision.Least links) none past same is short room =
+    record { resolved = none; past = past; own = same; decided = decision.Least links; is = is; short = short; room = room; outcome = refl }
+decided_outcome level s h (decision.Cycle links) none past same is short room =
+    record { resolved = none; past = past; own = same; decided = decision.Cycle links; is = is; short = short; room = room; outcome = refl }
 
 proved_outcome : (level : Level) (s : Sessions) (h : History) (links : List Link) (runs : List Run) → read_faults s ≡ [] → (KeepsLimits s → ⊥) → h ≡ history s
     → IsProvedLeast level (history s) links runs → HasLargeText (proved_claim level (history s) links runs)
@@ -87,9 +90,9 @@ proved_outcome level s h links runs none past same is room =
 
 pub large_outcome : (level : Level) (s : Sessions) (a : LargeAnswer) (o : Outcome) → (KeepsLimits s → ⊥) → IsLargeAnswer s level a
     → IsFoundOf level a.graph a.decision o → IsOutcome level s o
-large_outcome level s a o past (none, same, is) (inl (said, room)) =
+large_outcome level s a o past (none, same, is) (inl (said, short, room)) =
     subst (λ (o : Outcome). IsOutcome level s o) (sym said)
-    (decided_outcome level s a.graph a.decision none past same is (subst (λ (h : History). HasLargeText (claim_of level h a.decision)) same room))
+    (decided_outcome level s a.graph a.decision none past same is short (subst (λ (h : History). HasLargeText (claim_of level h a.decision)) same room))
 large_outcome level s a o past (none, same, is) (inr (links, runs, proved, room, said)) =
     subst (λ (o : Outcome). IsOutcome level s o) (sym said)
     (proved_outcome level s a.graph links runs none past same (subst (λ (h : History). IsProvedLeast level h links runs) same proved)
@@ -143,6 +146,54 @@ has_said options s (outcome.Small a) links is e = small_links options (history s
 has_said options s (outcome.Large h a) links is e = past_links options s h (outcome.Large h a) links is e
 has_said options s (outcome.Proved h a claim) links is e = proved_links options s h (outcome.Proved h a claim) links is e
 has_said options s (outcome.Cycle h labels found) links is e = past_links options s h (outcome.Cycle h labels found) links is e
+
+-- what has no links is no anomaly
+none_anomalous : (required : ℕ) (a : Answer) → answer_links a ≡ None → answer_status required a ≢ Anomaly
+none_anomalous required (answer.Commit c) none = by (nat_lt (length c.order - 1) required)
+  where
+    by : (few : Bool) → cond few TooFew Success ≢ Anomaly
+    by true e = cc
+    by false e = cc
+none_anomalous required (answer.Anomaly a) none = absurd (nothing a.links (sym none))
+
+pub unsaid : (options : Options) (o : Outcome) → outcome_links o ≡ None → (outcome_said options o).status ≢ Anomaly
+unsaid options (outcome.Unresolved faults) none e = cc
+unsaid options (outcome.Small a) none e = none_anomalous options.required a none e
+unsaid options (outcome.Large h a) none e = none_anomalous options.required a none e
+unsaid options (outcome.Proved h a claim) none e = none_anomalous options.required a none e
+unsaid options (outcome.Cycle h labels links) none e = nothing links.items (sym none)
+
+-- the links of what was said are a cycle
+decided_cycle : (level : Level) (s : Sessions) (d : Decision) (links : List Link) → IsDecision (judged (history s) level) d → HasLinks d links
+    → AreCycle (judged (history s) level) links
+decided_cycle level s (decision.Order order) links is has = absurd has
+decided_cycle level s (decision.Least found) links is has = subst (AreCycle (judged (history s) level)) (sym has) (is.0, is.1.cycle)
+decided_cycle level s (decision.Cycle found) links is has = subst (AreCycle (judged (history s) level)) (sym has) is.0
+
+past_cycle : (level : Level) (s : Sessions) (h : History) (o : Outcome) (links : List Link) → IsDecided level s h o → outcome_links o ≡ Some links
+    → (read_faults s ≡ []) × AreCycle (judged (history s) level) links
+past_cycle level s h o links is e =
+    (is.resolved, decided_cycle level s is.decided links is.is (decided_links level h is.decided links (sym (ap outcome_links is.outcome) ∙ e)))
+
+proved_cycle : (level : Level) (s : Sessions) (h : History) (o : Outcome) (links : List Link) → IsProved level s h o → outcome_links o ≡ Some links
+    → (read_faults s ≡ []) × AreCycle (judged (history s) level) links
+proved_cycle level s h o links is e =
+    let own : links ≡ is.links = inside is.links links (sym (ap outcome_links is.outcome) ∙ e) in
+    (is.resolved, subst (AreCycle (judged (history s) level)) (sym own) (is.is.least.0, is.is.least.1.cycle))
+
+small_cycle : (level : Level) (s : Sessions) (a : Answer) (links : List Link) → read_faults s ≡ [] → IsAnswerOfHistory (judged (history s) level) a
+    → answer_links a ≡ Some links → (read_faults s ≡ []) × AreCycle (judged (history s) level) links
+small_cycle level s (answer.Commit c) links none is e = absurd (nothing links e)
+small_cycle level s (answer.Anomaly a) links none is e =
+    (none, subst (AreCycle (judged (history s) level)) (sym (inside a.links links e)) (is.0.0, is.0.1.least.cycle))
+
+pub links_cycle : (level : Level) (s : Sessions) (o : Outcome) (links : List Link) → IsOutcome level s o → outcome_links o ≡ Some links
+    → (read_faults s ≡ []) × AreCycle (judged (history s) level) links
+links_cycle level s (outcome.Unresolved faults) links is e = absurd (nothing links e)
+links_cycle level s (outcome.Small a) links (none, keeps, is) e = small_cycle level s a links none is e
+links_cycle level s (outcome.Large h a) links is e = past_cycle level s h (outcome.Large h a) links is e
+links_cycle level s (outcome.Proved h a claim) links is e = proved_cycle level s h (outcome.Proved h a claim) links is e
+links_cycle level s (outcome.Cycle h labels found) links is e = past_cycle level s h (outcome.Cycle h labels found) links is e
 
 -- what has links is an anomaly
 decided_anomalous : (options : Options) (h : History) (d : Decision) (links : List Link) → HasLinks d links → (decision_said options h d).status ≡ Anomaly

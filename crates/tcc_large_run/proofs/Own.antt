@@ -50,7 +50,7 @@ keeps_rules h by_order by_cycle by_short level (decision.Cycle links) is = by_cy
 pub claim_keeps : (options : Options) (h : History)
     → ((d : Decision) → IsDecision (judged h options.level) d → AllHold (rules_of h (claim_of options.level h d)))
     → (claim : LargeCertificate) (said : Said) → IsClaimedOf options h claim said → AllHold (rules_of h claim)
-claim_keeps options h keeps claim said (inl (d, is, same, said_is)) =
+claim_keeps options h keeps claim said (inl (d, is, short, same, said_is)) =
     subst (λ (k : LargeCertificate). AllHold (rules_of h k)) (sym same) (keeps d is)
 claim_keeps options h keeps claim said (inr (links, runs, is, same, said_is)) =
     subst (λ (k : LargeCertificate). AllHold (rules_of h k)) (sym same) is.rules
@@ -58,7 +58,7 @@ claim_keeps options h keeps claim said (inr (links, runs, is, same, said_is)) =
 -- and what was said has it as its certificate
 pub claim_said : (options : Options) (h : History) (claim : LargeCertificate) (said : Said) → IsClaimedOf options h claim said
     → said.certificate ≡ Some (large_certificate_text claim)
-claim_said options h claim said (inl (d, is, same, said_is)) =
+claim_said options h claim said (inl (d, is, short, same, said_is)) =
     ap (λ (one : Said). one.certificate) said_is ∙ has_claim options h d ∙ ap (λ (k : LargeCertificate). Some (large_certificate_text k)) (sym same)
 claim_said options h claim said (inr (links, runs, is, same, said_is)) =
     ap (λ (one : Said). one.certificate) said_is ∙ ap (λ (k : LargeCertificate). Some (large_certificate_text k)) (sym same)

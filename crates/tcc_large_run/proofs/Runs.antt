@@ -12,6 +12,7 @@ use Rattle.tcc_print.proofs.Courses.{Gains-none}
 use Rattle.tcc_large_run.specs.LargeRuns.{Files, IsLargeRun, finished}
 use Rattle.tcc_large_run.specs.declared.outcome.Outcome.{Outcome}
 use Rattle.tcc_large_run.specs.private.Stages.{Concludes, IsOutcome, course, outcome_said}
+use Rattle.tcc_large_run.proofs.Files.{unsliced}
 use Rattle.tcc_large_run.proofs.Outcomes.{said_of}
 
 -- what is to be said of a snapshot is told of it
@@ -29,7 +30,7 @@ early options text before after files code (said, last, is, ends, inl whole) = (
   inl (
     whole.0,
     subst (λ (certificate : Option (List ℕ)). Gains files.certificate files.certificate (unwrap_or certificate [])) (sym whole.1) (Gains-none files.certificate),
-    inl (Gains-none files.slice),
+    unsliced options (finished text) last files.slice (inl whole.1),
     whole.2,
   ),
 )

@@ -1,5 +1,5 @@
 -- What a run of explain --large says of records that the small limits take is what a run without it says.
-use Rattle.std.proofs.Common.{ℕ, ◌≡◌, ◌≢◌, ◌⊎◌, ◌↔◌, Bool, true, false, cond, List, [], ◌∷◌, ◌++◌, Option}
+use Rattle.std.proofs.Common.{ℕ, ◌≡◌, ◌≢◌, ◌⊎◌, ◌↔◌, Bool, true, false, cond, List, [], ◌∷◌, ◌++◌, None, Option}
 use Rattle.std.proofs.Common.{length, take, drop, refl, sym, ap, subst, ◌∙◌, inl, inr, append_assoc, append-nil}
 use Rattle.std.specs.List.{AllZip}
 use Rattle.std.proofs.Math.Seq.{take-append_seam}
@@ -13,7 +13,7 @@ use Rattle.tcc_rows.specs.Items.{finished_in}
 use Rattle.tcc_rows.specs.declared.rows.Item.{Item}
 use Rattle.tcc_rows.specs.declared.rows.Item.TheVariants as item
 use Rattle.tcc_rows.proofs.BothLimits.{fails-large, fails-small, same-before, same-kept}
-use Rattle.tcc_print.specs.Courses.{AreSaid, Contents, Gains, IsEnded, IsWhole, MayEnd, Said}
+use Rattle.tcc_print.specs.Courses.{AreSaid, Contents, IsEnded, IsWhole, MayEnd, Said}
 use Rattle.tcc_print.specs.Moments.{at_end, is_due_after, sealed_after, sealed_in}
 use Rattle.tcc_print.specs.Statuses.{code_of}
 use Rattle.tcc_print.specs.declared.halt.Halt.{Halt}
@@ -53,6 +53,8 @@ sealed_keep : (all : List Item) → Fronts all → (items before : List Item) �
 sealed_keep all fronts [] before is = tt
 sealed_keep all fronts (item.Finished session txn ∷ items) before is =
     sealed_keep all fronts items (before ++ item.Finished session txn ∷ []) (append_assoc before (item.Finished session txn ∷ []) items ∙ is)
+sealed_keep all fronts (item.Unknown session txn ∷ items) before is =
+    sealed_keep all fronts items (before ++ item.Unknown session txn ∷ []) (append_assoc before (item.Unknown session txn ∷ []) items ∙ is)
 sealed_keep all fronts (item.Seal ∷ items) before is =
     (fronts before (item.Seal ∷ items) is, sealed_keep all fronts items (before ++ item.Seal ∷ []) (append_assoc before (item.Seal ∷ []) items ∙ is))
 sealed_keep all fronts (item.End ∷ items) before is =
@@ -191,12 +193,11 @@ module _ (law : (text : List ℕ) (n : ℕ) → KeepsLimits (finished_in (take n
       let (said, last, ends, end, (out, gains, sliced, ends_by)) = goes_out options records before after files files' code fine space run in
       (said, last, ends_small said ends, end, inl (out, gains, ends_by))
 
-  pub run_large : (before after : Option (List ℕ)) (file file' slice slice' : Contents) (code : ℕ) → small.IsRun options records before after file file' code
-      → Gains slice slice' []
-      → large.IsLargeRun options records before after (record { certificate = file; slice = slice }) (record { certificate = file'; slice = slice' }) code
-  run_large before after file file' slice slice' code (said, last, ends, end, inl (out, gains, ends_by)) none =
-      (said, last, ends_large said ends, end, inl (out, gains, inl none, ends_by))
-  run_large before after file file' slice slice' code (said, last, ends, end, inr (inl fails)) none =
-      (said, last, ends_large said ends, end, inr (inl (fails, none)))
-  run_large before after file file' slice slice' code (said, last, ends, end, inr (inr ((text, is, part), (between, out, prints)))) none =
-      (said, last, ends_large said ends, end, inr (inr (between, out, inl (inl (text, is, part, prints), none))))
+  pub run_large : (before after : Option (List ℕ)) (file file' : Contents) (code : ℕ) → small.IsRun options records before after file file' code
+      → large.IsLargeRun options records before after (record { certificate = file; slice = None }) (record { certificate = file'; slice = None }) code
+  run_large before after file file' code (said, last, ends, end, inl (out, gains, ends_by)) =
+      (said, last, ends_large said ends, end, inl (out, gains, refl, ends_by))
+  run_large before after file file' code (said, last, ends, end, inr (inl fails)) =
+      (said, last, ends_large said ends, end, inr (inl (fails, refl)))
+  run_large before after file file' code (said, last, ends, end, inr (inr ((text, is, part), (between, out, prints)))) =
+      (said, last, ends_large said ends, end, inr (inr (between, out, inl (inl (text, is, part, prints), refl))))

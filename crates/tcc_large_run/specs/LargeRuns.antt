@@ -1,5 +1,5 @@
 -- What is answered for the records of an input within the large limits, and what a run of explain --large does with their bytes.
-use Rattle.std.specs.Prelude.{ℕ, ◌≡◌, ◌≢◌, ◌⊎◌, nat_le, if◌then◌else◌, List, [], length, take, unwrap_or, Option, None, Some}
+use Rattle.std.specs.Prelude.{ℕ, ◌≡◌, ◌≢◌, ◌≤◌, ◌⊎◌, nat_le, if◌then◌else◌, List, [], length, take, unwrap_or, Option, None, Some}
 use Rattle.std.specs.Io.KnownBytes.{Appends}
 use Rattle.tcc_rows.specs.Answers as rows
 use Rattle.tcc_txn.specs.Finished.{KeepsLimits}
@@ -26,6 +26,7 @@ use Rattle.tcc_explain.specs.Explained.{IsAnswerOfHistory}
 use Rattle.tcc_least.specs.Shapes.{AreLeast}
 use Rattle.tcc_large.specs.Decisions.{HasLinks, IsDecision}
 use Rattle.tcc_slices.specs.Cuts.{IsCutOf}
+use Rattle.tcc_slices.specs.Limits.{NeedTooMuch}
 use Rattle.tcc_slices.specs.Slices.{IsSliceOf}
 use Rattle.tcc_slices.specs.Texts.{records_text}
 use Rattle.tcc_large.specs.declared.decision.Decision.{Decision}
@@ -101,11 +102,18 @@ pub record IsProvedLeast (level : Level) (h : History) (links : List Link) (runs
 
 -- ---- one answer
 
+-- a cycle that is said to be a least one by what is decided alone has four steps at most
+abbrev pub IsShort : Decision → Type 0
+IsShort (decision.Order order) = Unit {0}
+IsShort (decision.Least links) = cost links.items ≤ 4
+IsShort (decision.Cycle links) = Unit {0}
+
 -- what is said of a history past the small limits, and the claim of its certificate: what is decided; or a least cycle that the judge
 -- takes for one
 abbrev pub IsClaimedOf : Options → History → LargeCertificate → Said → Type 0
 IsClaimedOf options h claim said =
-    ((d : Decision) × IsDecision (judged h options.level) d × (claim ≡ claim_of options.level h d) × (said ≡ decision_said options h d))
+    ((d : Decision) × IsDecision (judged h options.level) d × IsShort d × (claim ≡ claim_of options.level h d)
+    × (said ≡ decision_said options h d))
     ⊎ ((links : List Link) × (runs : List Run) × IsProvedLeast options.level h links runs × (claim ≡ proved_claim options.level h links runs)
     × (said ≡ proved_said options h links runs))
 
@@ -152,17 +160,32 @@ Finishes text s = ((rows.answers_of text).fault ≡ None) × (finished_in (rows.
 -- which is the whole with transactions and operations left out
 abbrev pub IsSliceText : Level → Sessions → List Link → List ℕ → Type 0
 IsSliceText level whole links text =
-    (slice : Sessions) × (text ≡ records_text slice) × Finishes text slice × IsSliceOf level (history whole) links slice × IsCutOf slice whole
+    (slice : Sessions) × (text ≡ records_text slice) × Finishes text slice × IsSliceOf level whole (history whole) links slice × IsCutOf slice whole
 
 -- the text is that of the slice by the links that were said last
 abbrev pub IsSliceOfLast : Options → Sessions → Said → List ℕ → Type 0
 IsSliceOfLast options whole last text =
     (links : List Link) × HasSaid options (history whole) last links × IsSliceText options.level whole links text
 
--- where the last answer is an anomaly, the records of its slice go into the file, or nothing; else nothing
+-- the links have no slice within the small limits: they need more than a snapshot may have; or the records of their slice don't finish it
+abbrev pub HasNoSlice : Level → Sessions → List Link → Type 0
+HasNoSlice level whole links =
+    NeedTooMuch (history whole) links
+    ⊎ ((slice : Sessions) × IsSliceOf level whole (history whole) links slice × IsCutOf slice whole × (Finishes (records_text slice) slice → ⊥))
+
+-- what was said last is no answer, or no anomaly, or one of links that have no slice
+abbrev pub IsUnsliced : Options → Sessions → Said → Type 0
+IsUnsliced options whole last =
+    (last.certificate ≡ None)
+    ⊎ ((last.status ≢ Anomaly)
+    ⊎ ((links : List Link) × HasSaid options (history whole) last links × HasNoSlice options.level whole links))
+
+-- the records of the slice of what was said last go into the file, if one is given; nothing only where there is no slice
 abbrev pub IsSliced : Options → Sessions → Said → Contents → Contents → Type 0
-IsSliced options whole last file file' =
-    Gains file file' [] ⊎ ((slice : List ℕ) × IsSliceOfLast options whole last slice × Gains file file' slice)
+IsSliced options whole last None file' = file' ≡ None
+IsSliced options whole last (Some file) file' =
+    ((slice : List ℕ) × IsSliceOfLast options whole last slice × Gains (Some file) file' slice)
+    ⊎ (IsUnsliced options whole last × Gains (Some file) file' [])
 
 -- ---- what goes out
 
@@ -219,8 +242,8 @@ IsLargeRun options bytes before after files files' code =
 
 -- ---- what is accepted
 
--- what was said has a certificate, and no verdict on what it claims of the history but `Accepted` is that of the rules
+-- what was said has a certificate, what it claims of the history keeps all rules, and no verdict on it but `Accepted` is that of the rules
 abbrev pub IsAcceptedOf : History → Said → Type 0
 IsAcceptedOf h said =
-    (claim : LargeCertificate) × (said.certificate ≡ Some (large_certificate_text claim))
+    (claim : LargeCertificate) × (said.certificate ≡ Some (large_certificate_text claim)) × AllHold (rules_of h claim)
     × ((v : Verdict Rule) → IsVerdictOf (rules_of h claim) v → v ≡ verdict.Accepted)

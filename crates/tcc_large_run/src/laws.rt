@@ -7,7 +7,7 @@ ghost use Rattle.tcc_reads.specs.Faults.{read_faults};
 ghost use Rattle.tcc_graph.specs.Levels.{judged};
 ghost use Rattle.tcc_large.specs.{Decisions.IsDecision, declared.decision.Decision.Decision};
 ghost use Rattle.tcc_print.specs.{Statuses.code_of, declared.options.Options.Options, declared.status.Status.TheVariants.Device, declared.status.Status.TheVariants.Memory};
-ghost use Rattle.tcc_print.specs.Courses.{Contents, Gains, IsEnded, IsWhole, Said};
+ghost use Rattle.tcc_print.specs.Courses.{Contents, IsEnded, IsWhole, Said};
 ghost use Rattle.tcc_large_run.specs.{LargeClosing.IsAcceptedWith, LargeClosing.PrintsDecided, private.Laws.Laws};
 ghost use Rattle.tcc_large_run.specs.LargeRuns.{Files, IsAcceptedOf, IsLargeRun, IsSaidWithLarge, answers_of, decision_said, finished};
 ghost use Rattle.tcc_run.specs.Runs.{AskAlike, IsRun, IsSaidOfSnapshot};
@@ -20,7 +20,7 @@ use tcc_large_check::laws::accepted;
 use tcc_rows::laws::finished_is_snapshot;
 use tcc_run::laws::one_run;
 
-/// Whatever a run says of a large history by what is decided of it, its certificate is the text of a claim that keeps all rules: the
+/// Whatever a run says of a large history by what is decided of it, its certificate is the text of a claim that keeps all rules: so the
 /// verdict on it is `Accepted`, and no other.
 pub fn own_certificate(graph: &LargeGraph)
     ensures { (options : Options) (d : Decision) → IsDecision (judged graph.now options.level) d
@@ -66,7 +66,7 @@ pub fn headline()
 /// each text does that has no fault within them: a run with `--large` says, be it to the end or to what ended it, what a run without it
 /// may say, and nothing else; and what is said to the end is the same in both, for every number of workers. What a run with `--large`
 /// that ends neither by a device that failed nor out of memory puts out, writes as a certificate and ends with, a run without it may
-/// too; and so may a run with `--large` whatever one without it does, where nothing goes into the file of a slice.
+/// too; and so may a run with `--large` whatever one without it does, where no file is given for a slice.
 pub fn within_small()
     ensures snapshot { (options : Options) (s : Sessions) (said : Said) → KeepsLimits s
         → IsSaidWithLarge options s said ↔ IsSaidOfSnapshot options s said }
@@ -82,10 +82,8 @@ pub fn within_small()
         → IsLargeRun options records before after files files' code → code ≢ code_of Device → code ≢ code_of Memory
         → IsRun options records before after files.certificate files'.certificate code }
     ensures with_large { (options : Options) (records : List ℕ) → KeepsSmall records
-        → (before after : Option (List ℕ)) (file file' slice slice' : Contents) (code : ℕ)
-        → IsRun options records before after file file' code → Gains slice slice' []
-        → IsLargeRun options records before after (record { certificate = file; slice = slice })
-        (record { certificate = file'; slice = slice' }) code }
+        → (before after : Option (List ℕ)) (file file' : Contents) (code : ℕ) → IsRun options records before after file file' code
+        → IsLargeRun options records before after (record { certificate = file; slice = None }) (record { certificate = file'; slice = None }) code }
 {
     finished_is_snapshot();
     one_run();

@@ -8,6 +8,7 @@ pub mod laws;
 mod outcome;
 mod room;
 mod running;
+mod short;
 mod slice_records;
 mod watching;
 

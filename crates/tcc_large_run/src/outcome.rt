@@ -1,5 +1,5 @@
 //! What is said of a snapshot: what is known of its history, or all its read faults.
-ghost use Rattle.std.specs.Prelude.{◌≡◌, IfOk, IfSome, Some};
+ghost use Rattle.std.specs.Prelude.{◌≡◌, IfOk, option_map};
 ghost use Rattle.tcc_reads.specs.History.{History};
 ghost use Rattle.tcc_graph.specs.Levels.{judged};
 ghost use Rattle.tcc_cert.specs.LargeTexts.{HasLargeText};
@@ -8,10 +8,11 @@ ghost use Rattle.tcc_answer.specs.declared.answer.Answer.TheVariants as answer;
 ghost use Rattle.tcc_large.specs.Decisions.{IsDecision};
 ghost use Rattle.tcc_large.specs.declared.decision.Decision.TheVariants as decision;
 ghost use Rattle.tcc_print.specs.Saying.{IsTold};
-ghost use Rattle.tcc_large_run.specs.LargeRuns.{bare_cycle, bare_order, claim_of};
+ghost use Rattle.tcc_large_run.specs.LargeRuns.{IsShort, bare_cycle, bare_order, claim_of};
 ghost use Rattle.tcc_large_run.specs.private.Stages.{IsFoundOf, IsOutcome, course, outcome_links, outcome_status};
 
 use crate::room::check_room;
+use crate::short::short;
 use std::alloc::Global;
 use std::io::Write;
 use std::thread::Threads;
@@ -146,7 +147,8 @@ impl Outcome {
         answer: LargeAnswer,
         order: Option<Vec<u32>>,
     ) -> Result<Outcome, NoMemory>
-        ensures { IsDecision (judged answer.graph level) answer.decision → IfOk result (IsFoundOf level answer.graph answer.decision) }
+        ensures { IsDecision (judged answer.graph level) answer.decision → IsShort answer.decision
+            → IfOk result (IsFoundOf level answer.graph answer.decision) }
     {
         let LargeAnswer { graph, decision } = answer;
         check_room(&graph, &decision)?;
@@ -178,7 +180,14 @@ impl Outcome {
         }
         let level = run.options.level;
         match explain_large_with_order(run.alloc, snapshot, level) {
-            Ok((answer, order)) => Outcome::of_decision(run.alloc, level, answer, order),
+            Ok((answer, order)) => {
+                let LargeAnswer { graph, decision } = answer;
+                let answer = LargeAnswer {
+                    graph,
+                    decision: short(decision)?,
+                };
+                Outcome::of_decision(run.alloc, level, answer, order)
+            }
             Err(ResolveFault::Reads(faults)) => Ok(Outcome::Unresolved(faults)),
             Err(ResolveFault::NoMemory) => Err(NoMemory),
         }
@@ -200,7 +209,7 @@ impl Outcome {
 
     /// The links of the cycle, where it has one.
     pub(crate) fn links(&self) -> Option<&[Link]>
-        ensures { IfSome result (λ links. outcome_links self.now ≡ Some links.now) }
+        ensures { option_map (λ links. links.now) result ≡ outcome_links self.now }
     {
         match self {
             Outcome::Small(Answer::Anomaly(anomaly)) => Some(anomaly.links()),

@@ -1,10 +1,10 @@
 //! From the bytes of records to their answers: at each seal, and at the end.
-ghost use Rattle.std.specs.Prelude.{◌≡◌, ℕ, List, [], None, IfErr, IfOk, IfSome, MatchResult, OnOk, option_map};
-ghost use Rattle.tcc_rows.specs.{Ahead.fault_met, Answers.Answers, Answers.answers_after_within, Lines.Record, Reached.IsWithin, declared.rows.Item.Item};
+ghost use Rattle.std.specs.Prelude.{◌≡◌, ℕ, List, [], None, Some, IfErr, IfOk, IfSome, MatchResult, OnOk, option_map};
+ghost use Rattle.tcc_rows.specs.{Ahead.fault_met, Answers.Answers, Answers.answers_to, Lines.Record, Reached.IsWithin, declared.rows.Item.Item};
 ghost use Rattle.tcc_rows.specs.Recordings.{FailsBehind, IsRecording, TakesMoment, after_items};
 ghost use Rattle.tcc_txn.specs.declared.limits.Limits.TheVariants.{Large};
 ghost use Rattle.tcc_large_run.specs.LargeRuns.{IsLargeRun, answers_of, finished, records_of};
-ghost use Rattle.tcc_large_run.specs.private.Stages.{Concludes, IsOutcome, SendsSlice, WritesFiles, WritesSlice, course, outcome_said};
+ghost use Rattle.tcc_large_run.specs.private.Stages.{Concludes, IsOutcome, SendsSlice, WritesFiles, WritesSlice, course, outcome_links, outcome_said};
 ghost use Rattle.tcc_print.specs.{Saying.IsTold, Saying.SaysAt, private.Courses.AllAnswered, private.Courses.EndsEarly};
 
 use crate::certifying::write_certificate;
@@ -68,7 +68,7 @@ fn read_on<R: Read + Drop, G: Watcher>(
         → TakesMoment Large R.remaining taken ahead result recording.new }
     ensures within { (all : List Record) → IsWithin R.remaining recording.old.rows all → IsWithin R.remaining recording.new.rows all }
     ensures failed { IfErr result (λ fault. fault_met recording.old.rows ≡ None → fault.kind ≡ RowFaultKind.Read
-        → (all : List Record) (taken : List Item) (ahead : Answers) → answers_after_within Large [] all ≡ after_items taken ahead
+        → (all : List Record) (taken : List Item) (ahead : Answers) → answers_to Large all ≡ after_items taken ahead
         → IsWithin R.remaining recording.old.rows all → IsRecording Large R.remaining recording.old taken ahead
         → FailsBehind Large taken fault.row all) }
     ensures goes_on { OnOk result (fault_met recording.new.rows ≡ None) }
@@ -123,7 +123,7 @@ fn send_slice<T, W: Write, S: Write, N: Write, G: Watcher>(
     out: &mut W,
     notes: &mut N,
 ) -> Result<(), u8>
-    ensures { IsOutcome run.now.options.now.level snapshot.now outcome.now
+    ensures { IsOutcome run.now.options.now.level snapshot.now outcome.now → outcome_links outcome.now ≡ Some links.now
         → SendsSlice run.now.options.now snapshot.now links.now result (W.contents out.old) (W.contents out.new) (S.contents file.old) (S.contents file.new) }
 {
     run.gate.begin(Stage::Slicing);
@@ -254,7 +254,7 @@ fn run_recording<
 /// watcher, which is told what the run does, is their gate. Behind the last answer its certificate goes into the first file, if it
 /// is given: within the small limits in version 2, past them in version 3. Where the last answer is an anomaly, the records of its
 /// slice go into the second, if it is given: of a small history that is this one with transactions and operations left out, and
-/// has this anomaly and nothing that it doesn't need; or nothing, where none is found within the small limits. What a person may
+/// has this anomaly and nothing that it doesn't need; or nothing, where the anomaly needs more than the small limits allow. What a person may
 /// want to know besides, who reads the standard error, goes to the notes.
 ///
 /// The files are empty before: nothing goes into them where the last answer is that reads have faults, or where the run ends by a

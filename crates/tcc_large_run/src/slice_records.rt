@@ -1,7 +1,8 @@
 //! The slice of an anomaly: the records of a small history that has it. They are read back before they go out.
-ghost use Rattle.std.specs.Prelude.{◌≡◌, IfOk, IfSome, IsTrue};
-ghost use Rattle.tcc_reads.specs.Sources.{history};
-ghost use Rattle.tcc_large_run.specs.{LargeRuns.Finishes, LargeRuns.IsSliceText, private.Stages.IsOutcome};
+ghost use Rattle.std.specs.Prelude.{◌≡◌, ◌≢◌, ◌↔◌, [], IfOk, IsTrue, MatchOption, Some, option_map};
+ghost use Rattle.tcc_reads.specs.{Faults.read_faults, Sources.history};
+ghost use Rattle.tcc_graph.specs.{Levels.judged, Routes.AreCycle};
+ghost use Rattle.tcc_large_run.specs.{LargeRuns.Finishes, private.Stages.IsOutcome, private.Stages.IsSliceMade, private.Stages.outcome_links};
 
 use crate::outcome::Outcome;
 use std::alloc::Global;
@@ -13,18 +14,21 @@ use tcc_txn::{LargeSnapshot, NoMemory, Snapshot};
 
 /// Whether these records have no fault, and finish what the snapshot has.
 fn is_read_back(alloc: Global, text: &[u8], snapshot: &Snapshot) -> Result<bool, NoMemory>
-    ensures { IfOk result (λ found. IsTrue found → Finishes text.now snapshot.now) }
+    ensures { IfOk result (λ found. IsTrue found ↔ Finishes text.now snapshot.now) }
 {
     match snapshot_of(alloc, text) {
         Ok(read) => Ok(read.is_same(snapshot)),
-        Err(fault) if matches!(fault.kind, RowFaultKind::NoMemory) => Err(NoMemory),
+        // Bytes in memory are no device: reading them fails for want of memory alone.
+        Err(fault) if matches!(fault.kind, RowFaultKind::NoMemory | RowFaultKind::Read) => {
+            Err(NoMemory)
+        }
         Err(_) => Ok(false),
     }
 }
 
 /// The graph of a snapshot, where its reads are resolved.
 fn graph_of(alloc: Global, snapshot: &LargeSnapshot) -> Result<Option<LargeGraph>, NoMemory>
-    ensures { IfOk result (λ found. IfSome found (λ graph. graph ≡ history snapshot.now)) }
+    ensures { IfOk result (λ found. MatchOption found (read_faults snapshot.now ≢ []) (λ graph. graph ≡ history snapshot.now)) }
 {
     let resolved = match resolve_large(alloc, snapshot) {
         Ok(resolved) => resolved,
@@ -35,7 +39,7 @@ fn graph_of(alloc: Global, snapshot: &LargeSnapshot) -> Result<Option<LargeGraph
 }
 
 /// The records of the slice of a snapshot by the links of a cycle at the level, with the snapshot's graph; none where it would break
-/// the small limits.
+/// the small limits, or isn't read back.
 fn text_of(
     alloc: Global,
     snapshot: &LargeSnapshot,
@@ -43,7 +47,8 @@ fn text_of(
     level: Level,
     links: &[Link],
 ) -> Result<Option<Vec<u8>>, NoMemory>
-    ensures { graph.now ≡ history snapshot.now → IfOk result (λ made. IfSome made (λ text. IsSliceText level snapshot.now links.now text.items)) }
+    ensures { graph.now ≡ history snapshot.now → read_faults snapshot.now ≡ [] → AreCycle (judged (history snapshot.now) level) links.now
+        → IfOk result (λ made. IsSliceMade level snapshot.now links.now (option_map (λ text. text.items) made)) }
 {
     let Some(small) = slice(alloc, snapshot, graph, level, links)? else {
         return Ok(None);
@@ -61,7 +66,8 @@ fn text_anew(
     level: Level,
     links: &[Link],
 ) -> Result<Option<Vec<u8>>, NoMemory>
-    ensures { IfOk result (λ made. IfSome made (λ text. IsSliceText level snapshot.now links.now text.items)) }
+    ensures { read_faults snapshot.now ≡ [] → AreCycle (judged (history snapshot.now) level) links.now
+        → IfOk result (λ made. IsSliceMade level snapshot.now links.now (option_map (λ text. text.items) made)) }
 {
     let Some(graph) = graph_of(alloc, snapshot)? else {
         return Ok(None);
@@ -78,8 +84,8 @@ pub(crate) fn slice_text(
     outcome: &Outcome,
     links: &[Link],
 ) -> Result<Option<Vec<u8>>, NoMemory>
-    ensures { IsOutcome level snapshot.now outcome.now
-        → IfOk result (λ made. IfSome made (λ text. IsSliceText level snapshot.now links.now text.items)) }
+    ensures { IsOutcome level snapshot.now outcome.now → outcome_links outcome.now ≡ Some links.now
+        → IfOk result (λ made. IsSliceMade level snapshot.now links.now (option_map (λ text. text.items) made)) }
 {
     match outcome {
         Outcome::Large { graph, .. } => text_of(alloc, snapshot, graph, level, links),

@@ -1,154 +1,26 @@
--- The readings of each transaction, key by key: how they come together, and what has to stand before it by those of one key.
-use Rattle.std.proofs.Common.{◌≡◌, ◌≢◌, ◌<◌, ◌≤◌, ◌+◌, ◌-◌, ◌↔◌, ◌⊎◌, inl, inr, ℕ, List, [], ◌∷◌, ◌++◌, length, get_or, set, slice_index, refl, sym, ap, subst, ◌∙◌, arith}
-use Rattle.std.specs.Prelude.{max, zip}
+-- The readings of each transaction, key by key: what has to stand before it by those of one key.
+use Rattle.std.proofs.Common.{◌≡◌, ◌≢◌, ◌<◌, ◌≤◌, ◌+◌, ◌-◌, ◌↔◌, ◌⊎◌, inl, inr, ℕ, true, false, List, [], ◌∷◌, ◌++◌, length, get_or, set, slice_index, refl, sym, ap, subst, ◌∙◌, arith}
+use Rattle.std.specs.Prelude.{max, nat_le}
 use Rattle.std.specs.List.{Contains}
-use Rattle.std.proofs.lemmas.Bool.{cases_lt, cases_eq}
+use Rattle.std.proofs.lemmas.Bool.{cases_lt, cases_eq, cases_Bool, leb-true}
 use Rattle.std.proofs.lemmas.List.{get_or_default, get_or-set_same, get_or-set_other, length-set}
 use Rattle.std.proofs.lemmas.List.Elements.{All-weaker, All-contains, All-contains_itself, Contains-append_left, Contains-push, Contains-push_cases}
 use Rattle.tcc_reads.specs.History.{History, IsBySession, count, owner}
 use Rattle.tcc_graph.specs.Relations.{IsReadsPair}
 use Rattle.tcc_graph.specs.Keys.{keys, key_at, writers}
-use Rattle.tcc_graph.specs.Readings.{AreReadingsOfKey}
 use Rattle.tcc_graph.specs.Walks.{IsReached}
 use Rattle.tcc_graph.specs.Tables.{row_of}
 use Rattle.tcc_graph.proofs.Walking.{pair_walk, reached_append}
 use Rattle.tcc_graph.proofs.WriterLemmas.{writers_below}
-use Rattle.tcc_bits.proofs.Lists.{zip_at, zip_has, zip-long}
 use Rattle.tcc_clocks.specs.Clocks.{IsOneOf, IsBefore, AreOwners, AreLatestOf, AreClocks}
 use Rattle.tcc_clocks.specs.declared.latest.TheConstants.{WIDE}
-use Rattle.tcc_order.specs.private.CausalLinks.{IsLatestPast, AreLatestPast, IsOverwritten, IsLiftable, IsLifted, IsClock, IsCovered, AreEnough, Overwrites, TellsNothing, HasNone}
-use Rattle.tcc_order.specs.private.ByKey.{AreReadingsFrom, AreReadingRows, IsBeside, AddsReadings, IsTop, AreAlike, IsLikeBefore, reader_in, key_index_in}
-use Rattle.tcc_order.proofs.Readings.{key_place}
+use Rattle.tcc_order.specs.private.CausalLinks.{IsLatestPast, AreLatestPast, IsOverwritten, IsLiftable, IsLifted, IsClock, IsCovered, AreEnough, Overwrites}
+use Rattle.tcc_order.specs.private.News.{AreNews, AreNewsOf, IsTold, TellsNone}
+use Rattle.tcc_order.proofs.NewsLemmas.{nothing_told}
+use Rattle.tcc_order.specs.private.ByKey.{past_of, IsTop, AreAlike, IsLikeBefore, reader_in, key_index_in}
 use Rattle.tcc_clocks.proofs.EntryLemmas.{clock_reaches}
 use Rattle.tcc_clocks.proofs.Reaching.{same_session}
-use Rattle.tcc_order.proofs.EmptyRows.{nothing_kept}
 use Rattle.tcc_order.proofs.Needing.{IsUpTo, passed_enough}
-
--- ---- how they come together
-pub added_none : (sources readers : List ℕ) (key_index : ℕ) (rows : List (List (ℕ × ℕ))) → AddsReadings sources readers key_index 0 rows rows
-added_none sources readers key_index rows = record { same = refl; each = λ a c p. (inl, back a c p) }
-  where
-    back : (a c p : ℕ) → Contains (row_of rows a) (c, p) ⊎ ((p ≡ key_index) × IsBeside sources readers 0 a c) → Contains (row_of rows a) (c, p)
-    back a c p (inl was) = was
-    back a c p (inr (same, (k, l, from, to))) = absurd (omega arith)
-
-module _ (sources readers : List ℕ) (key_index n : ℕ) (old mid : List (List (ℕ × ℕ))) (before : AddsReadings sources readers key_index n old mid) where
-  abbrev s : ℕ
-  s = get_or sources n 0
-
-  abbrev entry : ℕ × ℕ
-  entry = (get_or readers n 0, key_index)
-
-  still_added : (a c p : ℕ) → Contains (row_of old a) (c, p) ⊎ ((p ≡ key_index) × IsBeside sources readers n a c)
-      → Contains (row_of old a) (c, p) ⊎ ((p ≡ key_index) × IsBeside sources readers (n + 1) a c)
-  still_added a c p (inl was) = inl was
-  still_added a c p (inr (same, (k, l, from, to))) = inr (same, (k, omega arith, from, to))
-
-  module _ (inside : get_or sources n 0 < length mid) where
-    abbrev new : List (List (ℕ × ℕ))
-    new = set mid (get_or sources n 0) (row_of mid (get_or sources n 0) ++ (get_or readers n 0, key_index) ∷ [])
-
-    same_row : row_of new s ≡ row_of mid s ++ entry ∷ []
-    same_row = get_or-set_same mid s (row_of mid s ++ entry ∷ []) [] inside
-
-    other_row : (a : ℕ) → a ≢ s → row_of new a ≡ row_of mid a
-    other_row a other = get_or-set_other mid s a (row_of mid s ++ entry ∷ []) [] other
-
-    pub added_more : AddsReadings sources readers key_index (n + 1) old new
-    added_more = record {
-      same = length-set mid s (row_of mid s ++ entry ∷ []) ∙ before.same;
-      each = λ a c p. (forth a c p (cases_eq a s), back a c p);
-    }
-      where
-        last : (a c p : ℕ) → a ≡ s → Contains (row_of mid s) (c, p) ⊎ (entry ≡ (c, p))
-            → Contains (row_of old a) (c, p) ⊎ ((p ≡ key_index) × IsBeside sources readers (n + 1) a c)
-        last a c p same (inl was) = still_added a c p ((before.each a c p).0 (rw same was))
-        last a c p same (inr at) =
-            inr (sym (ap (λ (z : ℕ × ℕ). z.1) at), (n, omega arith, sym same, ap (λ (z : ℕ × ℕ). z.0) at))
-
-        forth : (a c p : ℕ) → (a ≡ s) ⊎ (a ≢ s) → Contains (row_of new a) (c, p)
-            → Contains (row_of old a) (c, p) ⊎ ((p ≡ key_index) × IsBeside sources readers (n + 1) a c)
-        forth a c p (inr other) is = still_added a c p ((before.each a c p).0 (rw (other_row a other) at is))
-        forth a c p (inl same) is = last a c p same (Contains-push_cases (row_of mid s) entry (c, p) (rw (same, same_row) at is))
-
-        wider : (a c p : ℕ) → (a ≡ s) ⊎ (a ≢ s) → Contains (row_of mid a) (c, p) → Contains (row_of new a) (c, p)
-        wider a c p (inr other) was = rw (other_row a other) was
-        wider a c p (inl same) was = rw (same, same_row) (Contains-append_left (row_of mid s) (entry ∷ []) (c, p) (rw same at was))
-
-        at_end : (a c p k : ℕ) → p ≡ key_index → get_or sources k 0 ≡ a → get_or readers k 0 ≡ c → k ≡ n → Contains (row_of new a) (c, p)
-        at_end a c p k key from to last_one =
-            let source : s ≡ a = ap (λ z. get_or sources z 0) (sym last_one) ∙ from in
-            let reader : get_or readers n 0 ≡ c = ap (λ z. get_or readers z 0) (sym last_one) ∙ to in
-            rw (← source, same_row, key, ← reader) (Contains-push (row_of mid s) entry)
-
-        back : (a c p : ℕ) → Contains (row_of old a) (c, p) ⊎ ((p ≡ key_index) × IsBeside sources readers (n + 1) a c) → Contains (row_of new a) (c, p)
-        back a c p (inl was) = wider a c p (cases_eq a s) ((before.each a c p).1 (inl was))
-        back a c p (inr (key, (k, l, from, to))) = go (cases_eq k n)
-          where
-            go : (k ≡ n) ⊎ (k ≢ n) → Contains (row_of new a) (c, p)
-            go (inl last_one) = at_end a c p k key from to last_one
-            go (inr other) = wider a c p (cases_eq a s) ((before.each a c p).1 (inr (key, (k, omega arith, from, to))))
-
--- those of the keys before `end`
-pub record AreOfKeys (h : History) (end : ℕ) (rows : List (List (ℕ × ℕ))) : Type 0 where
-  pub long : length rows ≡ count h
-  pub each : (a c p : ℕ) → Contains (row_of rows a) (c, p) ↔ ((p < end) × IsReadsPair h a c (key_at h p))
-
-module _ (h : History) (end : ℕ) (sources readers : List ℕ) (of : AreReadingsOfKey h end sources readers) where
-  pub sources_below : (k : ℕ) → k < length sources → get_or sources k 0 < count h
-  sources_below k l = ((of.each (get_or sources k 0) (get_or readers k 0)).0 (zip_has sources readers k 0 of.long l)).0
-
-  beside : (a c : ℕ) → IsBeside sources readers (length sources) a c → IsReadsPair h a c (key_at h end)
-  beside a c (k, l, from, to) = rw (← from, ← to) ((of.each (get_or sources k 0) (get_or readers k 0)).0 (zip_has sources readers k 0 of.long l))
-
-  placed : (a c : ℕ) → IsReadsPair h a c (key_at h end) → IsBeside sources readers (length sources) a c
-  placed a c pair = go ((of.each a c).1 pair)
-    where
-      go : (let one : ℕ × ℕ = (a, c) in Contains (zip sources readers) one) → IsBeside sources readers (length sources) a c
-      go (k, l, e) =
-          let inside : k < length sources = omega (arith, l, zip-long sources readers of.long) in
-          let at = zip_at sources readers k 0 0 of.long inside in
-          let is = sym at ∙ (get_or_default (zip sources readers) k (0, 0) (a, c) l ∙ e) in
-          (k, inside, ap (λ z. z.0) is, ap (λ z. z.1) is)
-
-  pub keys_more : (old new : List (List (ℕ × ℕ))) → AreOfKeys h end old → AddsReadings sources readers end (length sources) old new → AreOfKeys h (end + 1) new
-  keys_more old new are adds = record { long = adds.same ∙ are.long; each = λ a c p. (forth a c p, back a c p) }
-    where
-      forth : (a c p : ℕ) → Contains (row_of new a) (c, p) → (p < end + 1) × IsReadsPair h a c (key_at h p)
-      forth a c p is = go ((adds.each a c p).0 is)
-        where
-          go : Contains (row_of old a) (c, p) ⊎ ((p ≡ end) × IsBeside sources readers (length sources) a c) → (p < end + 1) × IsReadsPair h a c (key_at h p)
-          go (inl was) = let w = (are.each a c p).0 was in (omega (arith, w.0), w.1)
-          go (inr w) = (omega (arith, w.0), subst (λ (z : ℕ). IsReadsPair h a c (key_at h z)) (sym w.0) (beside a c w.1))
-
-      back : (a c p : ℕ) → (p < end + 1) × IsReadsPair h a c (key_at h p) → Contains (row_of new a) (c, p)
-      back a c p w = go (cases_eq p end)
-        where
-          go : (p ≡ end) ⊎ (p ≢ end) → Contains (row_of new a) (c, p)
-          go (inl same) = (adds.each a c p).1 (inr (same, placed a c (subst (λ (z : ℕ). IsReadsPair h a c (key_at h z)) same w.1)))
-          go (inr other) = (adds.each a c p).1 (inl ((are.each a c p).1 (omega (arith, w.0, other), w.1)))
-
-pub no_keys : (h : History) (rows : List (List (ℕ × ℕ))) → length rows ≡ count h → HasNone rows → AreOfKeys h 0 rows
-no_keys h rows long none =
-    record { long = long; each = λ a c p. ((λ is. absurd (nothing_kept rows none a (c, p) is)), (λ w. absurd (omega (arith, w.0)))) }
-
-pub all_keys : (h : History) (end : ℕ) (rows : List (List (ℕ × ℕ))) → length (keys h) ≡ end → AreOfKeys h end rows → AreReadingRows h rows
-all_keys h end rows whole are = record {
-  long = are.long;
-  each = λ a l. record {
-    readers = All-weaker (Contains (row_of rows a)) (λ reading. reading.0 < count h) (λ reading is. (forth a reading.0 reading.1 is).1.1) (row_of rows a)
-        (All-contains_itself (row_of rows a));
-    within = All-weaker (Contains (row_of rows a)) (λ reading. reading.1 < length (keys h)) (λ reading is. (forth a reading.0 reading.1 is).0) (row_of rows a)
-        (All-contains_itself (row_of rows a));
-    each = λ c p. (forth a c p, back a c p);
-  };
-}
-  where
-    forth : (a c p : ℕ) → Contains (row_of rows a) (c, p) → (p < length (keys h)) × IsReadsPair h a c (key_at h p)
-    forth a c p is = let w = (are.each a c p).0 is in (omega (arith, w.0, whole), w.1)
-
-    back : (a c p : ℕ) → (p < length (keys h)) × IsReadsPair h a c (key_at h p) → Contains (row_of rows a) (c, p)
-    back a c p w = (are.each a c p).1 (omega (arith, w.0, whole), w.1)
 
 -- ---- what clocks hold
 module _ (table : List (List ℕ)) (readings : List (ℕ × ℕ)) (start : ℕ) (known : List ℕ) (k : ℕ) where
@@ -212,52 +84,70 @@ module _ (table : List (List ℕ)) (readings : List (ℕ × ℕ)) (start : ℕ) 
         → (length old ≡ WIDE) × ((k : ℕ) → k < WIDE → IsTop table readings start (n + 1) known k (slice_index old k))
     tops_passed same = (wide, λ k l. top_passed table readings start known k n (slice_index old k) from (is k l) same)
 
+-- what is known needn't be told
+pub top_past : (table : List (List ℕ)) (readings : List (ℕ × ℕ)) (start end : ℕ) (known : List ℕ) (k top : ℕ) → IsTop table readings start end known k top
+    → IsTop table readings start end known k (past_of (slice_index known k) top)
+top_past table readings start end known k top is = go (cases_Bool (nat_le top (slice_index known k)))
+  where
+    go : (nat_le top (slice_index known k) ≡ true) ⊎ (nat_le top (slice_index known k) ≡ false)
+        → IsTop table readings start end known k (past_of (slice_index known k) top)
+    go (inl t) =
+        let held : top ≤ slice_index known k = leb-true top (slice_index known k) t in
+        rw t record { attained = inl refl; greatest = λ j above less. omega (arith, held, is.greatest j above less) }
+    go (inr f) = rw f is
+
 -- ---- the readings of one transaction
 -- c reads x at an index before n
 abbrev pub IsReadBefore : History → List (ℕ × ℕ) → ℕ → ℕ → List ℕ → Type 0
 IsReadBefore h readings n c x = (j : ℕ) × (j < n) × (reader_in readings j ≡ c) × (key_at h (key_index_in readings j) ≡ x)
 
-module _ (h : History) (a : ℕ) (readings : List (ℕ × ℕ)) (are : AreReadingsFrom h a readings) where
+module _ (h : History) (from : ℕ) (table : List (List ℕ)) (a : ℕ) (readings : List (ℕ × ℕ)) (are : AreNewsOf h from table a readings) where
   there : (j : ℕ) → j < length readings → Contains readings (reader_in readings j, key_index_in readings j)
   there j l = (j, l, get_or_default readings j (reader_in readings j, key_index_in readings j) (0, 0) l)
 
   reads : (j : ℕ) → j < length readings → (key_index_in readings j < length (keys h)) × IsReadsPair h a (reader_in readings j) (key_at h (key_index_in readings j))
-  reads j l = (are.each (reader_in readings j) (key_index_in readings j)).0 (there j l)
+  reads j l = are.sound (reader_in readings j) (key_index_in readings j) (there j l)
 
   pub reading_below : (j : ℕ) → j < length readings → reader_in readings j < count h
-  reading_below j l = are.readers j (0, 0) l
+  reading_below j l = (reads j l).1.1
 
   pub reading_key : (j : ℕ) → j < length readings → key_index_in readings j < length (keys h)
-  reading_key j l = are.within j (0, 0) l
+  reading_key j l = (reads j l).0
 
   onward : (c : ℕ) (x : List ℕ) → IsReadBefore h readings (length readings) c x → IsReadsPair h a c x
   onward c x (j, l, reader, key) = rw (← reader, ← key) (reads j l).1
 
-  back : (c : ℕ) (x : List ℕ) → IsReadsPair h a c x → IsReadBefore h readings (length readings) c x
-  back c x pair =
-      let place = key_place h a c x pair in
-      go place.0 place.2 ((are.each c place.0).1 (place.1, subst (λ (y : List ℕ). IsReadsPair h a c y) (sym place.2) pair))
+  back : (c : ℕ) (x : List ℕ) → IsReadsPair h a c x → IsReadBefore h readings (length readings) c x ⊎ TellsNone h from table a c x
+  back c x pair = go (are.enough c x pair)
     where
-      go : (p : ℕ) → key_at h p ≡ x → (let one : ℕ × ℕ = (c, p) in Contains readings one) → IsReadBefore h readings (length readings) c x
-      go p name (j, l, e) =
+      go : IsTold h from table a readings c x → IsReadBefore h readings (length readings) c x ⊎ TellsNone h from table a c x
+      go (inl (p, name, (j, l, e))) =
           let at = get_or_default readings j (0, 0) (c, p) l ∙ e in
-          (j, l, ap (λ z. z.0) at, ap (λ z. key_at h z.1) at ∙ name)
+          inl (j, l, ap (λ z. z.0) at, ap (λ z. key_at h z.1) at ∙ name)
+      go (inr tells) = inr tells
 
-  pub read_all : (from : ℕ) (known new : List ℕ) → AreLatestPast h (IsOverwritten h (IsReadBefore h readings (length readings)) a) from known new
-      → AreLatestPast h (IsOverwritten h (IsReadsPair h a) a) from known new
-  read_all from known new past = record {
+  pub read_all : (new : List ℕ) → AreLatestPast h (IsOverwritten h (IsReadBefore h readings (length readings)) a) from (row_of table a) new
+      → AreLatestPast h (IsOverwritten h (IsReadsPair h a) a) from (row_of table a) new
+  read_all new past = record {
     wide = past.wide;
-    each = λ k l. record {
-      attained = go k (slice_index new k) (past.each k l).attained;
-      greatest = λ b one. (past.each k l).greatest b record { committed = one.committed; below = one.below; owned = one.owned; meant = narrow b one.meant };
-    };
+    each = λ k l. record { attained = go k (slice_index new k) (past.each k l).attained; greatest = λ b one. most k l b one one.meant };
   }
     where
       widen : (b : ℕ) → IsOverwritten h (IsReadBefore h readings (length readings)) a b → IsOverwritten h (IsReadsPair h a) a b
       widen b (c, x, t, writer, apart, reached) = (c, x, onward c x t, writer, apart, reached)
 
-      narrow : (b : ℕ) → IsOverwritten h (IsReadsPair h a) a b → IsOverwritten h (IsReadBefore h readings (length readings)) a b
-      narrow b (c, x, pair, writer, apart, reached) = (c, x, back c x pair, writer, apart, reached)
+      most : (k : ℕ) → k < WIDE → (b : ℕ) → IsOneOf h (IsOverwritten h (IsReadsPair h a) a) (from + k) b → IsOverwritten h (IsReadsPair h a) a b
+          → b ≤ max (slice_index new k) (slice_index (row_of table a) k)
+      most k l b one (c, x, pair, writer, apart, reached) = by (back c x pair)
+        where
+          by : IsReadBefore h readings (length readings) c x ⊎ TellsNone h from table a c x → b ≤ max (slice_index new k) (slice_index (row_of table a) k)
+          by (inl t) =
+              (past.each k l).greatest b
+              record { committed = one.committed; below = one.below; owned = one.owned; meant = (c, x, t, writer, apart, reached) }
+          by (inr tells) =
+              let held : b ≤ slice_index (row_of table a) k
+              = tells k b l record { committed = one.committed; below = one.below; owned = one.owned; meant = (writer, apart, reached) } in
+              omega (arith, held)
 
       go : (k v : ℕ) → (v ≡ 0) ⊎ IsOneOf h (IsOverwritten h (IsReadBefore h readings (length readings)) a) (from + k) v
           → (v ≡ 0) ⊎ IsOneOf h (IsOverwritten h (IsReadsPair h a) a) (from + k) v
@@ -424,7 +314,7 @@ like_before owners table rows a before some (inr w) alike = record {
 }
 
 module _ (h : History) (numbered : IsBySession h.entries) (owners : List ℕ) (known_owners : AreOwners h owners) (from a : ℕ) (low : a < count h)
-    (table : List (List ℕ)) (clocks : AreClocks h from table) (rows : List (List (ℕ × ℕ))) (all : AreReadingRows h rows)
+    (table : List (List ℕ)) (clocks : AreClocks h from table) (rows : List (List (ℕ × ℕ))) (all : AreNews h from table rows)
     (like : IsLikeBefore owners table rows a) (kept : List (List ℕ)) (are : AreEnough h (Overwrites h) (IsUpTo h from a) kept) where
   less_one : a - 1 < a
   less_one = omega (arith, like.more)
@@ -449,18 +339,16 @@ module _ (h : History) (numbered : IsBySession h.entries) (owners : List ℕ) (k
   handed_on b (d, way, inr reached) = (d, way, inr (reached_append h d (a - 1) a reached leads))
 
   -- a reader of the key there with the same row
-  other_reader : (c : ℕ) (x : List ℕ) → IsReadsPair h a c x → (e : ℕ) × IsReadsPair h (a - 1) e x × (row_of table c ≡ row_of table e)
-  other_reader c x pair = go (back h a (row_of rows a) (all.each a low) c x pair)
-    where
-      go : IsReadBefore h (row_of rows a) (length (row_of rows a)) c x → (e : ℕ) × IsReadsPair h (a - 1) e x × (row_of table c ≡ row_of table e)
-      go (j, l, reader, key) =
-          let w = like.alike j l in
-          let name : key_at h (key_index_in (row_of rows (a - 1)) j) ≡ x = ap (λ p. key_at h p) (sym w.1) ∙ key in (
-            reader_in (row_of rows (a - 1)) j,
-            subst (λ (y : List ℕ). IsReadsPair h (a - 1) (reader_in (row_of rows (a - 1)) j) y) name
-                (reads h (a - 1) (row_of rows (a - 1)) (all.each (a - 1) prior_low) j w.0).1,
-            ap (λ z. row_of table z) (sym reader) ∙ w.2,
-          )
+  other_reader : (c : ℕ) (x : List ℕ) → IsReadBefore h (row_of rows a) (length (row_of rows a)) c x
+      → (e : ℕ) × IsReadsPair h (a - 1) e x × (row_of table c ≡ row_of table e)
+  other_reader c x (j, l, reader, key) =
+      let w = like.alike j l in
+      let name : key_at h (key_index_in (row_of rows (a - 1)) j) ≡ x = ap (λ p. key_at h p) (sym w.1) ∙ key in (
+        reader_in (row_of rows (a - 1)) j,
+        subst (λ (y : List ℕ). IsReadsPair h (a - 1) (reader_in (row_of rows (a - 1)) j) y) name
+            (reads h from table (a - 1) (row_of rows (a - 1)) (all.each (a - 1)) j w.0).1,
+        ap (λ z. row_of table z) (sym reader) ∙ w.2,
+      )
 
   alike_covers : (b : ℕ) → Overwrites h a b → 0 < b → from ≤ owner h b → owner h b < from + WIDE → IsCovered h kept a b
   alike_covers b (small, below, (c, x, pair, writer, apart, reached)) some high less = by (owner h b - from) (omega (arith, high, less)) (omega (arith, high))
@@ -475,11 +363,19 @@ module _ (h : History) (numbered : IsBySession h.entries) (owners : List ℕ) (k
               let up : b ≤ slice_index (row_of table e) k = subst (λ (r : List ℕ). b ≤ slice_index r k) same top in
               clock_reaches h numbered e (from + k) (slice_index (row_of table e) k) b ((clocks.each e reading.1 reading.1).each k l) some below mine up
 
+          held : b ≤ slice_index (row_of table a) k → IsCovered h kept a b
+          held up = (b, inl refl, inr (clock_reaches h numbered a (from + k) (slice_index (row_of table a) k) b ((clocks.each a low low).each k l) some below mine up))
+
+          told : b ≢ a - 1 → IsReadBefore h (row_of rows a) (length (row_of rows a)) c x ⊎ TellsNone h from table a c x → IsCovered h kept a b
+          told other (inl t) =
+              let w = other_reader c x t in
+              handed_on b (are (a - 1) b (prior_low, below, (w.0, x, w.1, writer, other, again w.0 w.1 w.2)) some (inr (less, less_one)))
+          told other (inr tells) =
+              held (tells k b l record { committed = some; below = below; owned = mine; meant = (writer, apart, reached) })
+
           go : (b ≡ a - 1) ⊎ (b ≢ a - 1) → IsCovered h kept a b
           go (inl same) = (b, inl refl, inr (subst (λ (z : ℕ). IsReached h z a) (sym same) leads))
-          go (inr other) =
-              let w = other_reader c x pair in
-              handed_on b (are (a - 1) b (prior_low, below, (w.0, x, w.1, writer, other, again w.0 w.1 w.2)) some (inr (less, less_one)))
+          go (inr other) = told other (back h from table a (row_of rows a) (all.each a) c x pair)
 
   -- nothing more is kept of it
   pub alike_enough : AreEnough h (Overwrites h) (IsUpTo h from (a + 1)) kept
@@ -494,8 +390,9 @@ module _ (h : History) (numbered : IsBySession h.entries) (owners : List ℕ) (k
 
 -- a transaction that is passed over
 pub none_more : (h : History) → IsBySession h.entries → (owners : List ℕ) → AreOwners h owners → (from a : ℕ) → a < count h → (table : List (List ℕ))
-    → AreClocks h from table → (rows : List (List (ℕ × ℕ))) → AreReadingRows h rows → TellsNothing h table a ⊎ IsLikeBefore owners table rows a
+    → AreClocks h from table → (rows : List (List (ℕ × ℕ))) → AreNews h from table rows → (row_of rows a ≡ []) ⊎ IsLikeBefore owners table rows a
     → (kept : List (List ℕ)) → AreEnough h (Overwrites h) (IsUpTo h from a) kept → AreEnough h (Overwrites h) (IsUpTo h from (a + 1)) kept
-none_more h numbered owners known from a low table clocks rows all (inl nothing) kept are = passed_enough h numbered from a low table clocks nothing kept are
+none_more h numbered owners known from a low table clocks rows all (inl nothing) kept are =
+    passed_enough h numbered from a low table clocks (nothing_told h from table a (row_of rows a) (all.each a) nothing) kept are
 none_more h numbered owners known from a low table clocks rows all (inr like) kept are =
     alike_enough h numbered owners known from a low table clocks rows all like kept are

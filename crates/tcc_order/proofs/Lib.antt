@@ -14,6 +14,7 @@ mod Worked
 mod WorkedClocks
 pub mod Readings
 pub mod KeptRows
+pub mod NewsLemmas
 pub mod Needing
 pub mod ByKey
 pub mod Finding

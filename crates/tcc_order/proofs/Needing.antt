@@ -14,8 +14,9 @@ use Rattle.tcc_graph.specs.Tables.{row_of}
 use Rattle.tcc_graph.proofs.Walking.{pair_walk}
 use Rattle.tcc_bits.proofs.Lists.{one_of_taken, still_taken, last_taken, nothing_in}
 use Rattle.tcc_clocks.specs.Clocks.{IsOneOf, IsBefore, AreOwners, AreLatestOf, AreClocks}
-use Rattle.tcc_order.specs.private.CausalLinks.{AreLatestPast, TellsNothing, IsOverwritten, IsLiftable, IsLifted, lifted_by}
+use Rattle.tcc_order.specs.private.CausalLinks.{AreLatestPast, IsOverwritten, IsLiftable, IsLifted, lifted_by}
 use Rattle.tcc_order.specs.private.CausalLinks.{IsCovered, IsKeptEarlier, AreRuns, KeepsNews, IsBegun, AreDerived, AreEnough, Overwrites}
+use Rattle.tcc_order.specs.private.News.{IsOtherWriter, TellsNone}
 use Rattle.tcc_clocks.specs.declared.latest.TheConstants.{WIDE}
 use Rattle.tcc_clocks.proofs.EntryLemmas.{clock_reaches}
 use Rattle.tcc_clocks.proofs.Reaching.{same_session}
@@ -262,22 +263,19 @@ module _ (h : History) (numbered : IsBySession h.entries) (from a : ℕ) (low : 
         go k l (inl at) = was k at (runs k l)
         go k l (inr w) = now k w.0 w.1 (needs.each k l).attained
 
--- where readers have the row of a transaction, nothing more is kept of it
+-- where readers tell of a transaction no more than its clock does, nothing more is kept of it
 pub passed_enough : (h : History) → IsBySession h.entries → (from a : ℕ) → a < count h → (table : List (List ℕ)) → AreClocks h from table
-    → TellsNothing h table a → (kept : List (List ℕ)) → AreEnough h (Overwrites h) (IsUpTo h from a) kept
+    → ((c : ℕ) (x : List ℕ) → IsReadsPair h a c x → TellsNone h from table a c x) → (kept : List (List ℕ)) → AreEnough h (Overwrites h) (IsUpTo h from a) kept
     → AreEnough h (Overwrites h) (IsUpTo h from (a + 1)) kept
-passed_enough h numbered from a low table clocks same kept are d b over some meant = go meant (cases_eq d a) (cases_lt (owner h b) from)
+passed_enough h numbered from a low table clocks tells kept are d b over some meant = go meant (cases_eq d a) (cases_lt (owner h b) from)
   where
-    by : (c : ℕ) (x : List ℕ) → IsReadsPair h a c x → IsReached h b c → b < count h → (k : ℕ) → k < WIDE → owner h b ≡ from + k → IsCovered h kept a b
-    by c x pair reached below k l mine =
-        let reader = clocks.each c pair.1 pair.1 in
-        let top : b ≤ slice_index (row_of table c) k
-        = (reader.each k l).greatest b record { committed = some; below = below; owned = mine; meant = reached } in
-        let up : b ≤ slice_index (row_of table a) k = subst (λ (r : List ℕ). b ≤ slice_index r k) (same c x pair) top in
+    by : (c : ℕ) (x : List ℕ) → IsReadsPair h a c x → IsOtherWriter h a c x b → b < count h → (k : ℕ) → k < WIDE → owner h b ≡ from + k → IsCovered h kept a b
+    by c x pair other below k l mine =
+        let up : b ≤ slice_index (row_of table a) k = tells c x pair k b l record { committed = some; below = below; owned = mine; meant = other } in
         (b, inl refl, inr (clock_reaches h numbered a (from + k) (slice_index (row_of table a) k) b ((clocks.each a low low).each k l) some below mine up))
 
     covered : Overwrites h a b → from ≤ owner h b → owner h b < from + WIDE → IsCovered h kept a b
-    covered (small, below, (c, x, pair, writer, apart, reached)) high less = by c x pair reached below (owner h b - from) (omega (arith, high, less)) (omega (arith, high))
+    covered (small, below, (c, x, pair, writer, apart, reached)) high less = by c x pair (writer, apart, reached) below (owner h b - from) (omega (arith, high, less)) (omega (arith, high))
 
     go : IsUpTo h from (a + 1) d b → (d ≡ a) ⊎ (d ≢ a) → (owner h b < from) ⊎ (from ≤ owner h b) → IsCovered h kept d b
     go m kind (inl early) = are d b over some (inl early)

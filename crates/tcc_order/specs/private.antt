@@ -7,5 +7,6 @@ pub mod Placed
 pub mod Queued
 pub mod CausalLinks
 pub mod ByKey
+pub mod News
 pub mod Found
 pub mod AtomicLinks

@@ -1,18 +1,21 @@
 //! The links at `Causal` that are kept: of each transaction and each session the last one that has to stand before it, where
-//! it doesn't reach it. One that an earlier transaction of the same session has too is kept there alone; and where the readers of
-//! both are alike, the later one isn't looked at. For N transactions of S sessions, R reads, P pairs of a source and a key that is
-//! read from it, and W writers of a key that takes O(S (N + R + P log W)).
+//! it doesn't reach it. Only readings that may tell of one are looked at (`news`). One that an earlier transaction of the same
+//! session has too is kept there alone; and where the readers of both are alike, the later one isn't looked at. For N transactions
+//! of S sessions, R reads, of which P pairs of a source and a key have such readings, and W writers of a key that takes
+//! O(S (N + R + P log W)).
 ghost use Rattle.std.specs.Prelude.{◌≡◌, ◌≢◌, ◌<◌, ◌≤◌, ◌+◌, ◌-◌, ◌⊎◌, ◌↔◌, ℕ, length, slice_index, All, Contains, IfOk, OnOk};
 ghost use Rattle.tcc_reads.specs.History.{IsBySession, count, owner};
 ghost use Rattle.tcc_graph.specs.{Relations.IsReadsPair, Levels.causally, Tables.row_of, Orders.IsNumbering};
 ghost use Rattle.tcc_clocks.specs.{Parents.ArePrevious, declared.latest.TheConstants.WIDE};
 ghost use Rattle.tcc_clocks.specs.Clocks.{AreOwners, AreClocks, LeadsOnward};
-ghost use Rattle.tcc_order.specs.private.CausalLinks.{IsOverwritten, IsLifted, AreDerived, AreEnough, AreLinks, Overwrites, lifted_by, AreOrdered, AreSpansOf, CanLift, IsLastUpTo, IsLastBut, AreLatestPast, TellsNothing, KeepsNews, IsBegun};
-ghost use Rattle.tcc_order.specs.private.ByKey.{AreReadingsFrom, AreReadingRows, IsTop, AreAlike, IsLikeBefore, key_index_in, reader_in};
+ghost use Rattle.tcc_order.specs.private.CausalLinks.{IsOverwritten, IsLifted, AreDerived, AreEnough, AreLinks, Overwrites, lifted_by, AreOrdered, AreSpansOf, CanLift, IsLastUpTo, IsLastBut, AreLatestPast, KeepsNews, IsBegun};
+ghost use Rattle.tcc_order.specs.private.News.{AreNews, AreNewsOf};
+ghost use Rattle.tcc_order.specs.private.ByKey.{past_of, IsTop, AreAlike, IsLikeBefore, key_index_in, reader_in};
 ghost use Rattle.std.specs.List.Sorted.{IsNonDecreasing, IsPartitionPoint};
 ghost use Rattle.std.specs.Prelude.{nat_le, true, false, ◌∷◌, []};
 
-use crate::by_key::readings_by_key;
+use crate::news::{find_news, no_writers};
+use crate::reading_rows::{Readings, no_readings};
 use crate::rows::{MadeRows, empty_rows};
 use std::alloc::Global;
 use tcc_bits::Row;
@@ -161,8 +164,19 @@ fn end_of_key(readings: &[(u32, u32)], start: usize) -> usize
     readings.len()
 }
 
-/// Of each session of the block the greatest number that reaches one of the readers from `start` to below `end`. One with the
-/// clock of `a` is passed over.
+/// Leaves of each session only a number that is past what is known.
+fn keep_past(top: &mut [u32], known: &[u32])
+    requires { length top.old ≡ length known.now }
+    ensures same { length top.new ≡ length top.old }
+    ensures each { (k : ℕ) → k < length top.old → slice_index top.new k ≡ past_of (slice_index known.now k) (slice_index top.old k) }
+{
+    for (session, last) in top.iter_mut().enumerate() {
+        *last = if *last <= known[session] { 0 } else { *last };
+    }
+}
+
+/// Of each session of the block the greatest number that reaches one of the readers from `start` to below `end`, where it is past
+/// the clock of `a`. One with that clock is passed over.
 fn top_of(table: &SharedRows, readings: &[(u32, u32)], start: usize, end: usize, a: u32) -> Clock
     requires upto { start ≤ end }
     requires within { end ≤ length readings.now }
@@ -172,6 +186,7 @@ fn top_of(table: &SharedRows, readings: &[(u32, u32)], start: usize, end: usize,
     ensures wide { length result ≡ WIDE }
     ensures tops { (k : ℕ) → k < WIDE → IsTop table.now readings.now start end (row_of table.now a) k (slice_index result k) }
 {
+    let known = table.get(a);
     let mut top = [0; WIDE];
     for index in start..end {
         let reader = readings[index].0;
@@ -179,6 +194,7 @@ fn top_of(table: &SharedRows, readings: &[(u32, u32)], start: usize, end: usize,
             raise_each(&mut top, table.get(reader));
         }
     }
+    keep_past(&mut top, known);
     top
 }
 
@@ -200,7 +216,7 @@ fn needed(
     requires owners { AreOwners graph.now owners.now }
     requires clocks { AreClocks graph.now from table.now }
     requires spans { AreSpansOf graph.now owners.now from spans.now }
-    requires readings { AreReadingsFrom graph.now a readings.now }
+    requires readings { AreNewsOf graph.now from table.now a readings.now }
     requires below { a < count graph.now }
     ensures { AreLatestPast graph.now (IsOverwritten graph.now (IsReadsPair graph.now a) a) from (row_of table.now a) need.new }
 {
@@ -214,21 +230,6 @@ fn needed(
         lift_writers(need, owners, from, &top, writers, a);
         start = end;
     }
-}
-
-/// Whether not all that read from `a` are known to have its row.
-fn has_news(graph: &LargeGraph, table: &SharedRows, a: u32) -> bool
-    requires long { length table.now ≡ count graph.now }
-    requires below { a < count graph.now }
-    ensures { result ≡ false → TellsNothing graph.now table.now a }
-{
-    let (readers, _key_indices) = graph.readings_at(a);
-    for reader in readers {
-        if !table.are_same(*reader, a) {
-            return true;
-        }
-    }
-    false
 }
 
 /// The number before `c`, if it is of the same session, or else 0.
@@ -278,7 +279,7 @@ fn are_alike(table: &SharedRows, readings: &[(u32, u32)], others: &[(u32, u32)])
 }
 
 /// Whether the readers of `a` are like those of the transaction before it in its session.
-fn is_like_before(owners: &[u32], table: &SharedRows, readings: &[Row<(u32, u32)>], a: u32) -> bool
+fn is_like_before(owners: &[u32], table: &SharedRows, readings: &[Readings], a: u32) -> bool
     requires below { a < length owners.now }
     requires long { length readings.now ≡ length owners.now }
     requires readers { All (λ row. All (λ reading. reading.0 < length table.now) row) readings.now }
@@ -295,23 +296,16 @@ fn is_like_before(owners: &[u32], table: &SharedRows, readings: &[Row<(u32, u32)
 
 /// Whether more may have to stand before `a` than what its clock holds, and than what has to stand before the transaction before
 /// it in its session.
-fn has_more(
-    graph: &LargeGraph,
-    owners: &[u32],
-    table: &SharedRows,
-    readings: &[Row<(u32, u32)>],
-    a: u32,
-) -> bool
-    requires owners { AreOwners graph.now owners.now }
-    requires long { length table.now ≡ count graph.now }
-    requires readings { AreReadingRows graph.now readings.now }
-    requires below { a < count graph.now }
-    ensures { result ≡ false → TellsNothing graph.now table.now a ⊎ IsLikeBefore owners.now table.now readings.now a }
+fn has_more(owners: &[u32], table: &SharedRows, readings: &[Readings], a: u32) -> bool
+    requires below { a < length owners.now }
+    requires long { length readings.now ≡ length owners.now }
+    requires readers { All (λ row. All (λ reading. reading.0 < length table.now) row) readings.now }
+    ensures { result ≡ false → (row_of readings.now a ≡ []) ⊎ IsLikeBefore owners.now table.now readings.now a }
 {
-    if is_like_before(owners, table, readings, a) {
+    if readings[a as usize].as_slice().is_empty() {
         return false;
     }
-    has_news(graph, table, a)
+    !is_like_before(owners, table, readings, a)
 }
 
 /// Keeps the numbers that are greater than those of the clock and those of the run: what the run holds is kept already, into an
@@ -340,12 +334,12 @@ fn keep_block(
     owners: &[u32],
     from: u32,
     table: &SharedRows,
-    readings: &[Row<(u32, u32)>],
+    readings: &[Readings],
 ) -> Result<(), NoMemory>
     requires numbered { IsBySession graph.now.entries }
     requires owners { AreOwners graph.now owners.now }
     requires clocks { AreClocks graph.now from table.now }
-    requires readings { AreReadingRows graph.now readings.now }
+    requires readings { AreNews graph.now from table.now readings.now }
     requires long { length kept.old ≡ count graph.now }
     requires derived { AreDerived (Overwrites graph.now) kept.old }
     requires enough { AreEnough graph.now (Overwrites graph.now) (λ a b. owner graph.now b < from) kept.old }
@@ -360,7 +354,7 @@ fn keep_block(
     find_spans(&mut spans, graph, bounds)?;
     for a in 0..graph.count() {
         begin_session(&mut run, owners, a);
-        if has_more(graph, owners, table, readings, a) {
+        if has_more(owners, table, readings, a) {
             let from_a = readings[a as usize].as_slice();
             needed(&mut need, graph, owners, from, &spans, table, from_a, a);
             keep(&mut kept[a as usize], &need, table.get(a), &mut run)?;
@@ -384,12 +378,25 @@ pub(crate) fn causal_links(
     let owners = owners(alloc, graph)?;
     let mut kept = empty_rows(alloc, graph.count())?;
     let mut table = SharedRows::new(alloc, graph.count())?;
-    let readings = readings_by_key(alloc, graph)?;
+    let mut readings = no_readings(alloc, graph.count())?;
+    let mut last = no_writers(alloc, graph)?;
+    let mut heads = vec![in alloc; 0; last.len()]?;
     let steps = steps_along(alloc, graph, parents, order)?;
     let sessions = graph.sessions().len();
     for block in 0..sessions.div_ceil(WIDE) {
         let from = (block * WIDE) as u32;
         find_clocks(&mut table, graph, &owners, from, order, &steps)?;
+        find_news(
+            &mut readings,
+            &mut last,
+            &mut heads,
+            &owners,
+            from,
+            graph,
+            &table,
+            order,
+            &steps,
+        )?;
         keep_block(alloc, &mut kept, graph, &owners, from, &table, &readings)?;
     }
     Ok(kept)

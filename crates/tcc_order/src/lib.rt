@@ -3,13 +3,14 @@
 #![tactic(auto)]
 
 mod atomic_links;
-mod by_key;
 mod causal_links;
 mod clocks_along;
 mod commit_order;
 mod kahn;
 pub mod laws;
+mod news;
 mod placement;
+mod reading_rows;
 mod ready;
 mod rows;
 

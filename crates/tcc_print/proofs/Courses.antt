@@ -9,7 +9,7 @@ use Rattle.std.proofs.KnownBytes.{Appends-trans}
 use Rattle.std.proofs.lemmas.Grind.{flat_map-append}
 use Rattle.std.proofs.lemmas.Bool.Decides.{nat_tests}
 use Rattle.std.proofs.Math.Seq.{take-append-add, take-length}
-use Rattle.tcc_rows.specs.Answers.{Answers, answers_after_within, answers_within, ending, records_within}
+use Rattle.tcc_rows.specs.Answers.{Answers, answers_to, answers_within, ending, records_within}
 use Rattle.tcc_rows.specs.Failing.{items_before_within}
 use Rattle.tcc_rows.specs.Items.{finished_in}
 use Rattle.tcc_rows.specs.Lines.{Record}
@@ -479,7 +479,7 @@ module _ {R B O : Type 0} (remaining : R → Option (List ℕ)) (course : Course
       → TakesMoment course.limits remaining taken ahead (Err fault) new)
       → IsWithin remaining old.rows (records_within course.limits text)
       → (fault.kind ≡ kind.Read → (all : List Record) (taken : List Item) (ahead : Answers)
-      → answers_after_within course.limits [] all ≡ after_items taken ahead → IsWithin remaining old.rows all
+      → answers_to course.limits all ≡ after_items taken ahead → IsWithin remaining old.rows all
       → IsRecording course.limits remaining old taken ahead → FailsBehind course.limits taken fault.row all)
       → PrintsOrMemory course.options.json now after (halted course.options.json (by_row fault)) (halt_status (by_row fault)) code
       → EndsEarly course text before after code

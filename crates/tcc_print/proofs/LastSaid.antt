@@ -55,6 +55,13 @@ since [] true before e = cc e
 since [] false before e = inl (refl, ap finished_in (append-nil before))
 since (item.Finished session txn ∷ items) true before e = moved before _ items _ (since items true (before ++ item.Finished session txn ∷ []) e)
 since (item.Finished session txn ∷ items) false before e = inr (moved before _ items _ (since items true (before ++ item.Finished session txn ∷ []) e))
+since (item.Unknown session txn ∷ items) true before e = moved before _ items _ (since items true (before ++ item.Unknown session txn ∷ []) e)
+since (item.Unknown session txn ∷ items) false before e = go (since items false (before ++ item.Unknown session txn ∷ []) e)
+  where
+    go : EndsSince (before ++ item.Unknown session txn ∷ []) items → EndsSince before (item.Unknown session txn ∷ items)
+    go (inl (none, same)) =
+        inl (none, ap finished_in (sym (append_assoc before (item.Unknown session txn ∷ []) items)) ∙ same ∙ finished_on before (item.Unknown session txn))
+    go (inr ends) = inr (moved before _ items _ ends)
 since (item.Seal ∷ items) true before e = from_seal before items (since items false (before ++ item.Seal ∷ []) e)
 since (item.Seal ∷ items) false before e = inr (from_seal before items (since items false (before ++ item.Seal ∷ []) e))
 since (item.End ∷ items) true before e = moved before _ items _ (since items true (before ++ item.End ∷ []) e)

@@ -25,6 +25,9 @@ sealed-append before [] ys = ap (λ b. sealed_after b ys) (sym (append-nil befor
 sealed-append before (item.Finished session txn ∷ xs) ys =
     sealed-append (before ++ item.Finished session txn ∷ []) xs ys
     ∙ ap (λ b. sealed_after (before ++ item.Finished session txn ∷ []) xs ++ sealed_after b ys) (append_assoc before (item.Finished session txn ∷ []) xs)
+sealed-append before (item.Unknown session txn ∷ xs) ys =
+    sealed-append (before ++ item.Unknown session txn ∷ []) xs ys
+    ∙ ap (λ b. sealed_after (before ++ item.Unknown session txn ∷ []) xs ++ sealed_after b ys) (append_assoc before (item.Unknown session txn ∷ []) xs)
 sealed-append before (item.Seal ∷ xs) ys =
     ap (λ rest. finished_in before ∷ rest)
     (sealed-append (before ++ item.Seal ∷ []) xs ys
@@ -37,6 +40,7 @@ sealed-append before (item.End ∷ xs) ys =
 sealed-none : (before passed : List Item) → has_seal passed ≡ false → sealed_after before passed ≡ []
 sealed-none before [] none = refl
 sealed-none before (item.Finished session txn ∷ passed) none = sealed-none (before ++ item.Finished session txn ∷ []) passed none
+sealed-none before (item.Unknown session txn ∷ passed) none = sealed-none (before ++ item.Unknown session txn ∷ []) passed none
 sealed-none before (item.Seal ∷ passed) none = cc
 sealed-none before (item.End ∷ passed) none = sealed-none (before ++ item.End ∷ []) passed none
 
@@ -63,6 +67,7 @@ finished-seal taken passed =
 due-append : (due : Bool) (xs ys : List Item) → is_due_after due (xs ++ ys) ≡ is_due_after (is_due_after due xs) ys
 due-append due [] ys = refl
 due-append due (item.Finished session txn ∷ xs) ys = due-append true xs ys
+due-append due (item.Unknown session txn ∷ xs) ys = due-append due xs ys
 due-append due (item.Seal ∷ xs) ys = due-append false xs ys
 due-append due (item.End ∷ xs) ys = due-append due xs ys
 
@@ -85,6 +90,7 @@ passed-from due s (item.Finished session txn ∷ passed) none =
       | inl rise ↦ inl (rise.0, omega (arith, more, rise.1))
       | inr same ↦ inl (same.0, omega (arith, more, ap transaction_count same.1))
     ]
+passed-from due s (item.Unknown session txn ∷ passed) none = passed-from due s passed none
 passed-from due s (item.Seal ∷ passed) none = cc
 passed-from due s (item.End ∷ passed) none = passed-from due s passed none
 

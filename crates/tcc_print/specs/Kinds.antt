@@ -24,6 +24,7 @@ row_told row_kind.UnknownWord = record { word = codes "UnknownWord"; status = Ro
 row_told row_kind.BadKey = record { word = codes "BadKey"; status = RowFault }
 row_told row_kind.BadValue = record { word = codes "BadValue"; status = RowFault }
 row_told row_kind.WriteOfZero = record { word = codes "WriteOfZero"; status = RowFault }
+row_told row_kind.SessionEnded = record { word = codes "SessionEnded"; status = RowFault }
 row_told row_kind.NotBegun = record { word = codes "NotBegun"; status = RowFault }
 row_told row_kind.AlreadyBegun = record { word = codes "AlreadyBegun"; status = RowFault }
 row_told row_kind.TooManyOps = passed_limit (codes "TooManyOps")

@@ -9,6 +9,7 @@ use Rattle.tcc_rows.specs.declared.rows.Item.TheVariants as item
 abbrev pub sealed_after : List Item → List Item → List Sessions
 sealed_after before [] = []
 sealed_after before (item.Finished session txn ∷ items) = sealed_after (before ++ item.Finished session txn ∷ []) items
+sealed_after before (item.Unknown session txn ∷ items) = sealed_after (before ++ item.Unknown session txn ∷ []) items
 sealed_after before (item.Seal ∷ items) = finished_in before ∷ sealed_after (before ++ item.Seal ∷ []) items
 sealed_after before (item.End ∷ items) = sealed_after (before ++ item.End ∷ []) items
 
@@ -20,6 +21,7 @@ sealed_in items = sealed_after [] items
 abbrev pub is_due_after : Bool → List Item → Bool
 is_due_after due [] = due
 is_due_after due (item.Finished session txn ∷ items) = is_due_after true items
+is_due_after due (item.Unknown session txn ∷ items) = is_due_after due items
 is_due_after due (item.Seal ∷ items) = is_due_after false items
 is_due_after due (item.End ∷ items) = is_due_after due items
 

@@ -17,12 +17,15 @@ abbrev pub too_few_text : ℕ → ℕ → List ℕ
 too_few_text required transactions =
     codes "--require " ++ (decimal required ++ (codes ": only " ++ (decimal transactions ++ codes " transactions\n")))
 
--- of the last answer of a run: that it is an order with fewer transactions than are required
+-- of an order of so many numbers, `init` among them: that it has fewer transactions than are required
+abbrev pub order_note : ℕ → ℕ → List ℕ
+order_note required numbers = if nat_lt (numbers - 1) required then too_few_text required (numbers - 1) else []
+
+-- of the last answer of a run: that it is such an order
 abbrev pub last_note : ℕ → Option Answer → List ℕ
 last_note required None = []
 last_note required (Some (answer.Anomaly a)) = []
-last_note required (Some (answer.Commit c)) =
-    if nat_lt (length c.order - 1) required then too_few_text required (length c.order - 1) else []
+last_note required (Some (answer.Commit c)) = order_note required (length c.order)
 
 -- no slice is within the small limits
 abbrev pub no_slice_note : List ℕ

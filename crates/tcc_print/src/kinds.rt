@@ -36,6 +36,7 @@ pub(crate) fn row_told(kind: &RowFaultKind) -> Told
         RowFaultKind::BadKey => Told::new("BadKey", Status::RowFault),
         RowFaultKind::BadValue => Told::new("BadValue", Status::RowFault),
         RowFaultKind::WriteOfZero => Told::new("WriteOfZero", Status::RowFault),
+        RowFaultKind::SessionEnded => Told::new("SessionEnded", Status::RowFault),
         RowFaultKind::NotBegun => Told::new("NotBegun", Status::RowFault),
         RowFaultKind::AlreadyBegun => Told::new("AlreadyBegun", Status::RowFault),
         RowFaultKind::TooManyOps => Told::new("TooManyOps", Status::Limit),

@@ -1,7 +1,7 @@
 //! Notes: what standard error tells a person beside the answers, which is what to mend. Each is made as a whole before a byte of
 //! it goes out; where it can't be made or written it is left out, and nothing else changes.
-ghost use Rattle.std.specs.Prelude.{◌≡◌, ℕ, List, IfOk};
-ghost use Rattle.tcc_print.specs.Notes.{IsNoted, AddsNotes, last_note, no_slice_note, too_few_text};
+ghost use Rattle.std.specs.Prelude.{◌≡◌, ℕ, List, IfOk, length};
+ghost use Rattle.tcc_print.specs.Notes.{IsNoted, AddsNotes, last_note, no_slice_note, order_note, too_few_text};
 ghost use Rattle.tcc_rows.specs.declared.fault.RowFaultKind.TheVariants as row_kind;
 
 mod mending;
@@ -42,15 +42,22 @@ fn too_few(alloc: Global, required: u32, transactions: usize) -> Result<Vec<u8>,
     Ok(text.into_bytes())
 }
 
+/// Notes of an order, which `init` begins, that it has fewer transactions than are required, where it has.
+pub fn note_order<N: Write>(alloc: Global, order: &[u32], required: u32, notes: &mut N)
+    ensures { IsNoted (N.contents notes.old) (N.contents notes.new) (order_note required (length order.now)) }
+{
+    let transactions = order.len().saturating_sub(1);
+    if transactions < required as usize {
+        send_note(too_few(alloc, required, transactions), notes);
+    }
+}
+
 /// Notes of the last answer of a run that it is an order with fewer transactions than are required, where it is one.
 pub fn note_last<N: Write>(alloc: Global, last: &Option<Answer>, required: u32, notes: &mut N)
     ensures { IsNoted (N.contents notes.old) (N.contents notes.new) (last_note required last.now) }
 {
     if let Some(Answer::Commit(commit)) = last {
-        let transactions = commit.order().len().saturating_sub(1);
-        if transactions < required as usize {
-            send_note(too_few(alloc, required, transactions), notes);
-        }
+        note_order(alloc, commit.order(), required, notes);
     }
 }
 

@@ -5,7 +5,6 @@ use Rattle.std.specs.Prelude.{◌==◌, unwrap_or}
 use Rattle.std.specs.List.{list_any, position_from}
 use Rattle.std.specs.List.Sorted.{IsStrictlySortedBy, IsSortedBy, IsBinarySearchResult}
 use Rattle.std.specs.Str.{bytes_eq}
-use Rattle.std.specs.BTreeSet.{BTreeSet, contains}
 use Rattle.std.specs.Ordering.{is_lt}
 use Rattle.std.specs.declared.cmp.Ordering.{Ordering}
 use Rattle.std.specs.declared.cmp.Ordering.TheVariants.{Less, Equal, Greater}
@@ -14,12 +13,13 @@ use Rattle.std.proofs.lemmas.Cmp.{nat_list_cmp_total, tied_itself}
 use Rattle.std.proofs.lemmas.Map.Keys.{Less-from_sorted}
 use Rattle.std.proofs.lemmas.Map.Lookups.{exact_bytes}
 use Rattle.std.proofs.lemmas.List.Sorted.{searchable_from_sorted}
+use Rattle.tcc_txn.specs.Symbols.{IsNumber}
 use Rattle.tcc_txn.specs.declared.op.Op.{Op}
 use Rattle.tcc_txn.specs.declared.op.Op.TheVariants.{Get, Put}
 use Rattle.tcc_reads.specs.Sources.{name_cmp, puts_at}
 use Rattle.tcc_reads.specs.private.Numbers.{Numbered}
 use Rattle.tcc_reads.specs.private.KeyIndices.{indices_put, has_key, index_of, key_index, writes_key, AreKeysOf, AreKnownIn, AreKnown}
-use Rattle.tcc_reads.proofs.Ties.{names_tie, same_name, itself, numbers_same}
+use Rattle.tcc_reads.proofs.Ties.{same_name, itself, numbers_same}
 
 -- ---- the first that passes
 
@@ -143,14 +143,18 @@ one_place names i j d sorted h k same = elim (cases_order i j) [
   ]
 ]
 
+-- a key that stands at a number has it as its index
+pub numbered_key : (names : List (List ℕ)) (x : List ℕ) (i : ℕ) → IsStrictlySortedBy name_cmp names → IsNumber names x i → index_of names x ≡ Some i
+numbered_key names x i sorted number =
+    let there : 0 + i ≡ i = omega arith in
+    only_position (bytes_eq x) 0 names i [] number.within (ap (bytes_eq x) number.named ∙ itself x)
+    (λ j l e. one_place names i j [] sorted number.within l (number.named ∙ same_name x (get_or names j []) e))
+    ∙ ap Some there
+
 pub found : (names : List (List ℕ)) (x : List ℕ) (i : ℕ) → IsStrictlySortedBy name_cmp names → i < length names
     → IsBinarySearchResult (λ y. name_cmp y x) names (Ok i) → index_of names x ≡ Some i
 found names x i sorted within searched =
-    let here : get_or names i [] ≡ x = exact_bytes (get_or names i []) x (searched []) in
-    let there : 0 + i ≡ i = omega arith in
-    only_position (bytes_eq x) 0 names i [] within (ap (bytes_eq x) here ∙ itself x)
-    (λ j l e. one_place names i j [] sorted within l (here ∙ same_name x (get_or names j []) e))
-    ∙ ap Some there
+    numbered_key names x i sorted (record { within = within; named = exact_bytes (get_or names i []) x (searched []) })
 
 pub missed : (names : List (List ℕ)) (x : List ℕ) (i : ℕ) → IsStrictlySortedBy name_cmp names
     → IsBinarySearchResult (λ y. name_cmp y x) names (Err i) → index_of names x ≡ None
@@ -164,10 +168,6 @@ missed names x i sorted searched =
     ]))
 
 -- ---- the keys of some transactions
-
--- a set has the key where the list of its keys does
-pub contains_is : (set : BTreeSet (List ℕ)) (x : List ℕ) → contains name_cmp set x ≡ has_key set.keys x
-contains_is set x = λ i. list_any (λ k. names_tie x k i) set.keys
 
 known_in : (keys : List (List ℕ)) (ops : List Op) → ((x : List ℕ) → list_any (puts_at x) ops ≡ true → has_key keys x ≡ true) → AreKnownIn keys ops
 known_in keys [] all = tt

@@ -52,7 +52,8 @@ module _ {K : Type 0} {R : K → K → Ordering} (o : IsTotalOrder R) where
   once_sorted (x ∷ xs) = inserted_sorted x (sorted_once R xs) (once_sorted xs)
 
   module _ (exact : TellsApart R) where
-    any_inserted : (p : K → Bool) (k : K) (xs : List K) → list_any p (insert_key R xs k) ≡ (p k || list_any p xs)
+    -- what is among keys with one more
+    pub any_inserted : (p : K → Bool) (k : K) (xs : List K) → list_any p (insert_key R xs k) ≡ (p k || list_any p xs)
     any_inserted p k [] = refl
     any_inserted p k (x ∷ xs) =
         (elim (R k x) as (λ r. R k x ≡ r → list_any p (match_ordering r (k ∷ x ∷ xs) (x ∷ xs) (x ∷ insert_key R xs k)) ≡ (p k || (p x || list_any p xs))) [
@@ -61,7 +62,8 @@ module _ {K : Type 0} {R : K → K → Ordering} (o : IsTotalOrder R) where
           | Greater ↦ λ is. ap (λ b. p x || b) (any_inserted p k xs) ∙ or_swap (p x) (p k) (list_any p xs)
         ]) refl
 
-    any_once : (p : K → Bool) (xs : List K) → list_any p (sorted_once R xs) ≡ list_any p xs
+    -- in order, each once, are the same items
+    pub any_once : (p : K → Bool) (xs : List K) → list_any p (sorted_once R xs) ≡ list_any p xs
     any_once p [] = refl
     any_once p (x ∷ xs) = any_inserted p x (sorted_once R xs) ∙ ap (λ b. p x || b) (any_once p xs)
 

@@ -1,19 +1,15 @@
 -- The resolver's look-ups, one operation at a time.
-use Rattle.std.proofs.Common.{◌≡◌, ℕ, ◌+◌, cond, Bool, true, false, ◌&&◌, List, [], ◌∷◌, ◌++◌, ◌<◌, length, get_or, take, drop, Option, None, Some, refl, ap, sym, ◌∙◌}
+use Rattle.std.proofs.Common.{◌≡◌, ℕ, ◌+◌, ◌-◌, arith, cond, ◌&&◌, List, [], ◌∷◌, ◌++◌, ◌<◌, length, get_or, take, drop, Option, None, Some, refl, ap, sym, ◌∙◌}
 use Rattle.std.specs.Option.{option_or}
-use Rattle.std.specs.Str.{bytes_eq}
 use Rattle.std.specs.Prelude.{◌==◌}
-use Rattle.std.specs.BTreeMap as tree
-use Rattle.std.specs.BTreeMap.{BTreeMap}
-use Rattle.std.specs.Ordering.{is_eq}
 use Rattle.tcc_txn.specs.declared.op.Op.{Op}
 use Rattle.tcc_txn.specs.declared.op.Op.TheVariants.{Get, Put}
 use Rattle.tcc_reads.specs.declared.fault.ReadFaultKind.TheVariants.{Duplicate}
 use Rattle.tcc_reads.specs.declared.judging.OpJudgement.TheVariants.{Faulty, Silent}
 use Rattle.tcc_reads.specs.private.Numbers.{Numbered}
-use Rattle.tcc_reads.specs.Sources.{name_cmp, value_put, visible_write}
-use Rattle.tcc_reads.specs.private.Verdicts.{Writes, AreOwnIn, IsOwn, AreVisibleWrites, write_judgement}
-use Rattle.tcc_reads.proofs.Ties.{names_tie, numbers_same, read_at}
+use Rattle.tcc_reads.specs.Sources.{value_put, visible_write}
+use Rattle.tcc_reads.specs.private.Verdicts.{Writes, AreOwnIn, IsOwn, write_judgement}
+use Rattle.tcc_reads.proofs.Ties.{IsReadBefore, numbers_same, read_at, read_before}
 
 option_or-none : (o : Option ℕ) → option_or None o ≡ option_or o None
 option_or-none None = refl
@@ -30,18 +26,17 @@ visible_write-push x (first ∷ before) op =
     ap (λ o. option_or o (value_put x first)) (visible_write-push x before op)
     ∙ option_or-assoc (value_put x op) (visible_write x before) (value_put x first)
 
-chosen : (b : Bool) (value : ℕ) (o : Option ℕ) → cond b (Some value) o ≡ option_or (cond b (Some value) None) o
-chosen true value o = refl
-chosen false value o = refl
-
-pub put_visible : (old new : BTreeMap (List ℕ) ℕ) (key : List ℕ) (value : ℕ) (before : List Op)
-    → ((x : List ℕ) → tree.get name_cmp new x ≡ cond (is_eq (name_cmp key x)) (Some value) (tree.get name_cmp old x))
-    → AreVisibleWrites old before → AreVisibleWrites new (before ++ Put key value ∷ [])
-put_visible old new key value before updates own x =
-    updates x ∙ ap (λ b. cond b (Some value) (tree.get name_cmp old x)) (names_tie key x)
-    ∙ ap (λ o. cond (bytes_eq key x) (Some value) o) (own x)
-    ∙ chosen (bytes_eq key x) value (visible_write x before)
-    ∙ sym (visible_write-push x before (Put key value))
+-- the latest write among the first operations, by the last of them and those before it
+pub latest_write : (x : List ℕ) (ops : List Op) (left : ℕ) (d op : Op) → left < length ops → get_or ops (length ops - 1 - left) d ≡ op
+    → visible_write x (take (length ops - left) ops) ≡ option_or (value_put x op) (visible_write x (take (length ops - (left + 1)) ops))
+latest_write x ops left d op within is =
+    let same : length ops - left - 1 ≡ length ops - 1 - left = omega arith in
+    let next : length ops - left - 1 ≡ length ops - (left + 1) = omega arith in
+    let read : IsReadBefore ops (length ops - left) op
+    = read_before ops (length ops - left) d op (omega arith) (omega arith) (ap (λ k. get_or ops k d) same ∙ is) in
+    ap (visible_write x) (sym read.behind)
+    ∙ visible_write-push x (take (length ops - left - 1) ops) op
+    ∙ ap (λ k. option_or (value_put x op) (visible_write x (take k ops))) next
 
 -- an own write is silent
 pub own_is_silent : (table : Writes) (n : Numbered) (before after : List Op) (op : Op) (position : ℕ)
@@ -57,11 +52,8 @@ own_after : (table : Writes) (n : Numbered) (before after : List Op) (op : Op)
 own_after table n before after (Get key value) own = own
 own_after table n before after (Put key value) own = own.1
 
--- the operation at an index taken in: what is known of those before the index and from there on
+-- the operation at an index taken in: what is known of those from there on
 module _ (ops : List Op) (index : ℕ) (op : Op) (within : index < length ops) (is : get_or ops index op ≡ op) where
-  pub own_on : (own : BTreeMap (List ℕ) ℕ) → AreVisibleWrites own (take index ops ++ op ∷ []) → AreVisibleWrites own (take (index + 1) ops)
-  own_on own known = rw (read_at ops index op op within is).behind known
-
   pub own_ahead : (table : Writes) (n : Numbered) → AreOwnIn table n (take index ops) (drop index ops) → AreOwnIn table n (take (index + 1) ops) (drop (index + 1) ops)
   own_ahead table n own =
       let read = read_at ops index op op within is in

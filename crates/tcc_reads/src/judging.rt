@@ -1,16 +1,15 @@
 //! What each operation of a transaction is: a fault, an external read with its source, or neither.
-ghost use Rattle.std.specs.Prelude.{◌≡◌, ◌≤◌, length, true, ◌∷◌, [], ◌++◌, List, IfOk, OnOk, option_to_list, if◌then◌else◌, None};
-ghost use Rattle.std.specs.BTreeMap as tree;
+ghost use Rattle.std.specs.Prelude.{◌≡◌, ◌≤◌, length, true, [], ◌++◌, IfOk, OnOk, option_to_list, if◌then◌else◌, None};
 ghost use Rattle.std.specs.Option.{option_copied};
-ghost use Rattle.tcc_txn.specs.{declared.op.Op.Op, declared.limits.TheConstants.MAX_OPERATIONS, Transactions.op_key, Transactions.op_value};
-ghost use Rattle.tcc_reads.specs.{Sources.name_cmp, private.Tracings.is_outside, private.Tracings.sources_traced};
-ghost use Rattle.tcc_reads.specs.private.Verdicts.{writers_in, is_in, write_judgement, read_judgement, op_judgement, fault_in, source_in, IsOwn, AreOwnIn, AreVisibleWrites, faults_found, sources_found};
+ghost use Rattle.tcc_txn.specs.{declared.limits.TheConstants.MAX_OPERATIONS, Transactions.op_key, Transactions.op_value};
+ghost use Rattle.tcc_reads.specs.{Sources.visible_write, private.Tracings.is_outside, private.Tracings.sources_traced};
+ghost use Rattle.tcc_reads.specs.private.Verdicts.{writers_in, is_in, write_judgement, read_judgement, op_judgement, fault_in, source_in, IsOwn, AreOwnIn, faults_found, sources_found};
 
 use crate::standing::Standing;
 use crate::writers::{Writer, Writers, first_writer};
 use crate::{ReadFault, ReadFaultKind};
 use std::alloc::{AllocError, Global};
-use std::collections::{BTreeMap, BTreeSet};
+use std::collections::BTreeSet;
 use tcc_txn::{Name, Op};
 
 /// What an operation is.
@@ -67,18 +66,37 @@ fn read_judgement(standing: &Standing<'_>, writer: Option<&Writer>) -> OpJudgeme
     }
 }
 
-/// Of an operation at a position of its transaction, from 1, where `own` has the latest own write of each key. Where no
-/// value was written twice, writes need no look-up.
+/// The value of the latest write of a key among these operations, if there is one: from the last one back.
+fn latest_write(ops: &[Op], key: &Name) -> Option<u64>
+    ensures { result ≡ visible_write key.now ops.now }
+{
+    for left in 0..ops.len() {
+        let op = ops[ops.len() - 1 - left];
+        if let Op::Put {
+            key: written,
+            value,
+        } = op
+        {
+            if written == *key {
+                return Some(value);
+            }
+        }
+    }
+    None
+}
+
+/// Of an operation at a position of its transaction, from 1, after these. Where no value was written twice, writes need no
+/// look-up.
 fn judgement_of(
     writers: &Writers,
     distinct: bool,
     standing: &Standing<'_>,
     position: u16,
     op: Op,
-    own: &BTreeMap<Name, u64>,
+    before: &[Op],
 ) -> OpJudgement
     requires { distinct ≡ true → IsOwn (writers_in writers.now) standing.now position op }
-    ensures { result ≡ op_judgement (writers_in writers.now) standing.now position op (tree.get name_cmp own.now (op_key op)) }
+    ensures { result ≡ op_judgement (writers_in writers.now) standing.now position op (visible_write (op_key op) before.now) }
 {
     match op {
         Op::Put { key, value } => {
@@ -92,9 +110,9 @@ fn judgement_of(
             if !standing.txn.committed() {
                 return OpJudgement::Silent;
             }
-            match own.get(&key) {
+            match latest_write(before, &key) {
                 Some(written) => {
-                    if *written == value {
+                    if written == value {
                         OpJudgement::Silent
                     } else {
                         OpJudgement::Faulty(ReadFaultKind::BrokenInternal)
@@ -163,28 +181,13 @@ fn note_traced(
     Ok(())
 }
 
-/// Takes in an operation as the latest one of its transaction.
-fn put_own(own: &mut BTreeMap<Name, u64>, op: Op) -> Result<(), AllocError>
-    ensures { OnOk result ((before : List Op) → AreVisibleWrites own.old before → AreVisibleWrites own.new (before ++ op ∷ [])) }
-{
-    match op {
-        Op::Put { key, value } => {
-            own.insert(key, value)?;
-            Ok(())
-        }
-        Op::Get { .. } => Ok(()),
-    }
-}
-
-/// Judges these operations of a transaction: adds its faults, and gives its external reads with their sources. What `own`
-/// held is forgotten.
+/// Judges these operations of a transaction: adds its faults, and gives its external reads with their sources.
 pub(crate) fn judge(
     alloc: Global,
     writers: &Writers,
     distinct: bool,
     standing: &Standing<'_>,
     ops: &[Op],
-    own: &mut BTreeMap<Name, u64>,
     faults: &mut Vec<ReadFault>,
 ) -> Result<Vec<(Name, u32)>, AllocError>
     requires ops { ops.now ≡ standing.now.stand.txn.ops }
@@ -193,38 +196,32 @@ pub(crate) fn judge(
     ensures faults { IfOk result (λ _. faults.new.items ≡ faults.old.items ++ faults_found (writers_in writers.now) standing.now) }
     ensures sources { IfOk result (λ reads. reads.items ≡ sources_found (writers_in writers.now) standing.now) }
 {
-    own.clear();
     let mut reads = Vec::new(alloc);
     for (before, op) in ops.iter().enumerate() {
         let position = before as u16 + 1;
-        let judgement = judgement_of(writers, distinct, standing, position, *op, own);
+        let judgement = judgement_of(writers, distinct, standing, position, *op, &ops[..before]);
         note(standing, position, op, judgement, faults, &mut reads)?;
-        put_own(own, *op)?;
     }
     Ok(reads)
 }
 
 /// Traces the external reads of a transaction of these operations: gives those without a fault, with their sources, but none of these keys and values.
-/// What `own` held is forgotten.
 pub(crate) fn trace(
     alloc: Global,
     writers: &Writers,
     rewrites: &BTreeSet<(Name, u64)>,
     standing: &Standing<'_>,
     ops: &[Op],
-    own: &mut BTreeMap<Name, u64>,
 ) -> Result<Vec<(Name, u32)>, AllocError>
     requires ops { ops.now ≡ standing.now.stand.txn.ops }
     requires few { length ops.now ≤ MAX_OPERATIONS }
     ensures { IfOk result (λ reads. reads.items ≡ sources_traced (writers_in writers.now) (is_outside rewrites.now) standing.now) }
 {
-    own.clear();
     let mut reads = Vec::new(alloc);
     for (before, op) in ops.iter().enumerate() {
         let position = before as u16 + 1;
-        let judgement = judgement_of(writers, false, standing, position, *op, own);
+        let judgement = judgement_of(writers, false, standing, position, *op, &ops[..before]);
         note_traced(rewrites, op, judgement, &mut reads)?;
-        put_own(own, *op)?;
     }
     Ok(reads)
 }

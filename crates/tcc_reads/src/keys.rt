@@ -1,22 +1,25 @@
-//! The keys that transactions write, each by its index.
+//! The keys that transactions write, each by its index. A look-up asks a cache of indices and compares one name; where that
+//! is another one it halves the names, in as many steps as the logarithm of their count.
 ghost use Rattle.std.specs.Prelude.{All, ◌≡◌, ◌<◌, ◌≤◌, ◌||◌, true, List, ℕ, length, IfOk, IfSome, OnOk};
-ghost use Rattle.std.specs.BTreeSet.{contains};
 ghost use Rattle.std.specs.List.{list_any};
 ghost use Rattle.std.specs.List.Sorted.{IsStrictlySortedBy};
+ghost use Rattle.tcc_txn.specs.Symbols.{IsNumber};
 ghost use Rattle.tcc_reads.specs.{Sources.name_cmp, Sources.puts_at, private.Numbers.IsPlace, private.Numbers.numbered};
 ghost use Rattle.tcc_reads.specs.private.KeyIndices.{has_key, index_of, key_index, writes_key, AreKeysOf};
 
 use crate::numbering::visit;
+use crate::sorting::sorted_once;
 use crate::standing::Place;
 use std::alloc::Global;
-use std::collections::BTreeSet;
 use std::marker::Model;
-use tcc_txn::{Bounds, Name, NoMemory, Op, SnapshotWithin};
+use tcc_txn::{Bounds, Name, Nearby, NoMemory, Op, SnapshotWithin, SymbolTable};
 
 /// Names of keys in byte order, each once.
 #[derive(Drop)]
 pub(crate) struct Keys {
     names: Vec<Name>,
+    /// The index of most keys, found without halving.
+    nearby: Nearby,
 }
 
 impl Model for Keys {
@@ -33,18 +36,18 @@ impl Model for Keys {
 }
 
 /// Adds the key of a write.
-fn add_key(keys: &mut BTreeSet<Name>, op: &Op) -> Result<(), NoMemory>
-    ensures { OnOk result ((x : List ℕ) → contains name_cmp keys.new x ≡ (puts_at x op.now || contains name_cmp keys.old x)) }
+fn add_key(keys: &mut SymbolTable, op: &Op) -> Result<(), NoMemory>
+    ensures { OnOk result ((x : List ℕ) → has_key keys.new x ≡ (puts_at x op.now || has_key keys.old x)) }
 {
     if let Op::Put { key, .. } = op {
-        keys.insert(*key)?;
+        keys.number(*key)?;
     }
     Ok(())
 }
 
 /// Adds the keys that some operations write.
-fn add_keys(keys: &mut BTreeSet<Name>, ops: &[Op]) -> Result<(), NoMemory>
-    ensures { OnOk result ((x : List ℕ) → contains name_cmp keys.new x ≡ (list_any (puts_at x) ops.now || contains name_cmp keys.old x)) }
+fn add_keys(keys: &mut SymbolTable, ops: &[Op]) -> Result<(), NoMemory>
+    ensures { OnOk result ((x : List ℕ) → has_key keys.new x ≡ (list_any (puts_at x) ops.now || has_key keys.old x)) }
 {
     for op in ops {
         add_key(keys, op)?;
@@ -52,16 +55,16 @@ fn add_keys(keys: &mut BTreeSet<Name>, ops: &[Op]) -> Result<(), NoMemory>
     Ok(())
 }
 
-/// The keys that these transactions write.
+/// The keys that these transactions write, each once.
 fn keys_written<B: Bounds>(
     alloc: Global,
     snapshot: &SnapshotWithin<B>,
     places: &[Place],
-) -> Result<BTreeSet<Name>, NoMemory>
+) -> Result<SymbolTable, NoMemory>
     requires { All (IsPlace snapshot.now) places.now }
-    ensures { IfOk result (λ keys. (x : List ℕ) → contains name_cmp keys x ≡ list_any (writes_key x) (numbered snapshot.now places.now)) }
+    ensures { IfOk result (λ keys. (x : List ℕ) → has_key keys x ≡ list_any (writes_key x) (numbered snapshot.now places.now)) }
 {
-    let mut keys = BTreeSet::new(alloc);
+    let mut keys = SymbolTable::new(alloc);
     let mut ops = Vec::new(alloc);
     for place in places {
         visit(snapshot, place, &mut ops)?;
@@ -70,12 +73,20 @@ fn keys_written<B: Bounds>(
     Ok(keys)
 }
 
-/// The keys of a set in order.
-fn in_order(alloc: Global, keys: BTreeSet<Name>) -> Result<Vec<Name>, NoMemory>
-    ensures value { IfOk result (λ names. names.items ≡ keys.keys) }
+/// These names, of their own.
+fn copied(alloc: Global, names: &[Name]) -> Result<Vec<Name>, NoMemory>
+    ensures { IfOk result (λ copy. copy.items ≡ names.now) }
+{
+    Ok(names.iter().copied().collect(alloc)?)
+}
+
+/// The keys of a table in order.
+fn in_order(alloc: Global, keys: &SymbolTable) -> Result<Vec<Name>, NoMemory>
+    ensures same { IfOk result (λ names. (x : List ℕ) → has_key names.items x ≡ has_key keys.now x) }
     ensures sorted { IfOk result (λ names. IsStrictlySortedBy name_cmp names.items) }
 {
-    Ok(keys.into_iter().collect(alloc)?)
+    let names = copied(alloc, keys.names())?;
+    Ok(sorted_once(names))
 }
 
 impl Keys {
@@ -88,11 +99,12 @@ impl Keys {
         requires { All (IsPlace snapshot.now) places.now }
         ensures { IfOk result (λ keys. AreKeysOf (numbered snapshot.now places.now) keys) }
     {
-        let names = in_order(alloc, keys_written(alloc, snapshot, places)?)?;
+        let names = in_order(alloc, &keys_written(alloc, snapshot, places)?)?;
         if names.len() > u32::MAX as usize {
             return Err(NoMemory);
         }
-        Ok(Keys { names })
+        let nearby = Nearby::of(alloc, &names)?;
+        Ok(Keys { names, nearby })
     }
 
     /// How many there are.
@@ -103,11 +115,27 @@ impl Keys {
         self.names.len()
     }
 
+    /// The index of a key that the cache knows; none says nothing.
+    fn near(&self, key: &Name) -> Option<u32>
+        ensures { IfSome result (λ k. IsNumber self.now key.now k) }
+    {
+        let index = self.nearby.number(key);
+        match self.names.get(index as usize) {
+            Some(name) => { if *name == *key { Some(index) } else { None } }
+            None => None,
+        }
+    }
+
     /// The index of a key; none where it isn't there.
     pub fn find(&self, key: &Name) -> Option<u32>
         ensures value { result ≡ index_of self.now key.now }
         ensures within { IfSome result (λ k. k < length self.now) }
     {
+        // The proof reads here that the names are in order.
+        let _ = &self.names;
+        if let Some(index) = self.near(key) {
+            return Some(index);
+        }
         match self.names.binary_search(key) {
             Ok(index) => Some(index as u32),
             Err(_) => None,

@@ -13,7 +13,6 @@ use crate::standing::{Place, Standing};
 use crate::writers::{FirstWrites, first_writes};
 use crate::{LargeResolved, ReadFault, ResolveFault, Resolved, Transaction};
 use std::alloc::{AllocError, Global};
-use std::collections::BTreeMap;
 use tcc_txn::{Bounds, LargeSnapshot, Name, NoMemory, Op, Snapshot, SnapshotWithin};
 
 /// The keys that some operations write, in order, each once.
@@ -52,13 +51,12 @@ pub(crate) fn transaction(
     })
 }
 
-/// Adds a transaction of these operations, if it was committed, and its faults. What `own` held is forgotten.
+/// Adds a transaction of these operations, if it was committed, and its faults.
 fn examine_one(
     alloc: Global,
     first: &FirstWrites,
     standing: &Standing<'_>,
     ops: &[Op],
-    own: &mut BTreeMap<Name, u64>,
     transactions: &mut Vec<Transaction>,
     faults: &mut Vec<ReadFault>,
 ) -> Result<(), AllocError>
@@ -68,15 +66,7 @@ fn examine_one(
     ensures transactions { OnOk result (transactions.new.items ≡ transactions.old.items ++ entries_found (writers_in first.now.writers) (standing.now ∷ [])) }
     ensures faults { OnOk result (faults.new.items ≡ faults.old.items ++ faults_found (writers_in first.now.writers) standing.now) }
 {
-    let reads = judge(
-        alloc,
-        &first.writers,
-        first.distinct,
-        standing,
-        ops,
-        own,
-        faults,
-    )?;
+    let reads = judge(alloc, &first.writers, first.distinct, standing, ops, faults)?;
     if standing.txn.committed() {
         transactions.push(transaction(alloc, standing, ops, reads)?)?;
     }
@@ -118,7 +108,6 @@ pub(crate) fn examine<B: Bounds>(
 {
     let mut transactions = with_initial(alloc)?;
     let mut faults = Vec::new(alloc);
-    let mut own = BTreeMap::new(alloc);
     let mut ops = Vec::new(alloc);
     for place in places {
         let standing = visit(snapshot, place, &mut ops)?;
@@ -127,7 +116,6 @@ pub(crate) fn examine<B: Bounds>(
             first,
             &standing,
             &ops,
-            &mut own,
             &mut transactions,
             &mut faults,
         )?;

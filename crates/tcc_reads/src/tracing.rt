@@ -13,7 +13,7 @@ use crate::standing::{Place, Standing};
 use crate::writers::{FirstWrites, first_writes};
 use crate::{LargeResolved, ReadFault, ReadFaultKind, Transaction};
 use std::alloc::{AllocError, Global};
-use std::collections::{BTreeMap, BTreeSet};
+use std::collections::BTreeSet;
 use tcc_txn::{Bounds, Name, NoMemory, Op, SnapshotWithin};
 
 /// What can be traced of a snapshot, and what can't.
@@ -73,12 +73,11 @@ fn trace_all<B: Bounds>(
         ≡ initial ∷ entries_traced (writers_in first.now.writers) (is_outside rewrites.now) (numbered snapshot.now places.now)) }
 {
     let mut transactions = with_initial(alloc)?;
-    let mut own = BTreeMap::new(alloc);
     let mut ops = Vec::new(alloc);
     for place in places {
         let standing = visit(snapshot, place, &mut ops)?;
         if standing.txn.committed() {
-            let reads = trace(alloc, &first.writers, rewrites, &standing, &ops, &mut own)?;
+            let reads = trace(alloc, &first.writers, rewrites, &standing, &ops)?;
             transactions.push(transaction(alloc, &standing, &ops, reads)?)?;
         }
     }

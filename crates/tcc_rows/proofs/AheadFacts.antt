@@ -13,7 +13,7 @@ use Rattle.csv.specs.declared.parser.State.TheVariants as st
 use Rattle.tcc_rows.specs.Ahead.{FaultsIn, IsFailure}
 use Rattle.tcc_rows.specs.private.Failing.{FailsIn}
 use Rattle.tcc_rows.specs.Midway.{IsMidway}
-use Rattle.tcc_rows.specs.Answers.{Answers, after_item, answers_after_within, answers_within, ending, fault_at_end, judged_within, records_within}
+use Rattle.tcc_rows.specs.Answers.{Answers, after_item, answers_after_within, given_within, ending, fault_at_end, judged_within, records_within}
 use Rattle.tcc_rows.specs.ByteLimit.{marked, past_limit}
 use Rattle.tcc_txn.specs.Limits.{most_bytes}
 use Rattle.tcc_rows.specs.Lines.{Record, is_cut, line_of}
@@ -89,7 +89,7 @@ module _ (limits : Limits) where
   pub all-ahead : {R : Type 0} (remaining : R → Option (List ℕ)) (reader : R) (rows : Rows R)
       → IfSome (remaining reader) (λ text. HasLeft remaining rows.records (records_within limits text)) → IsAfter limits [] rows.progress
       → rows.records.count ≡ 0 → rows.records.stage ≡ records_stage.Going
-      → IfSome (remaining reader) (λ text. IsMidway limits remaining rows (answers_within limits text))
+      → IfSome (remaining reader) (λ text. IsMidway limits remaining rows (given_within limits text))
   all-ahead remaining reader rows has progress none going =
       if-some (remaining reader) (λ text left. record {
         past = [];
@@ -122,6 +122,7 @@ module _ (limits : Limits) where
   no-end past line.Seal e = cc e
   no-end past (line.Begin session) e = cc e
   no-end past (line.Finish session committed) e = cc e
+  no-end past (line.Unknown session) e = cc e
   no-end past (line.Operation session op) e = cc e
 
   -- one more lawful record
@@ -286,6 +287,11 @@ module _ (limits : Limits) where
         going-on remaining new here.past here.left f.0 has f.3 counted going here.fits,
       )
       by (Ok (Some (item.Finished name txn))) f = (
+        answers_after_within limits (f.0 ∷ here.past) here.left,
+        here.answers ∙ lawful here.past here.fields here.left f.0 f.1 ∙ ap (λ o. after_item o (answers_after_within limits (f.0 ∷ here.past) here.left)) (sym f.2),
+        going-on remaining new here.past here.left f.0 has f.3 counted going here.fits,
+      )
+      by (Ok (Some (item.Unknown name txn))) f = (
         answers_after_within limits (f.0 ∷ here.past) here.left,
         here.answers ∙ lawful here.past here.fields here.left f.0 f.1 ∙ ap (λ o. after_item o (answers_after_within limits (f.0 ∷ here.past) here.left)) (sym f.2),
         going-on remaining new here.past here.left f.0 has f.3 counted going here.fits,

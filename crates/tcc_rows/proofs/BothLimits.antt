@@ -9,12 +9,14 @@ use Rattle.csv.specs.Reading.{default_config, records, strip_bom}
 use Rattle.tcc_txn.specs.Limits.{most_bytes, most_keys, most_sessions, most_transactions}
 use Rattle.tcc_txn.specs.declared.limits.Limits.TheVariants.{Small, Large}
 use Rattle.tcc_txn.specs.declared.limits.TheConstants.{MAX_INPUT_BYTES, MAX_OPERATIONS, LARGE_INPUT_BYTES}
-use Rattle.tcc_rows.specs.Answers.{Answers, after_item, answers_after_within, answers_of, answers_within, go_on, judged_within, records_of, records_within}
+use Rattle.std.specs.FinMap.{empty}
+use Rattle.tcc_rows.specs.Answers.{Answers, after_item, answers_after_within, answers_of, answers_within, go_on, judged_within, records_of, records_within, settled}
+use Rattle.tcc_rows.specs.Settling.{settled_after}
 use Rattle.tcc_rows.specs.BothLimits.{KeepsSmall, ends_beyond_small, is_beyond_small}
 use Rattle.tcc_rows.specs.ByteLimit.{marked}
 use Rattle.tcc_rows.specs.Failing.{AreLawfulWithin, FailsAtWithin, items_before_within, records_before}
 use Rattle.tcc_rows.specs.Lines.{Record, is_cut, line_of}
-use Rattle.tcc_rows.specs.Past.{begin_count, fault_within, is_begun, item_of, keys, least, open_sessions, ops_since, sessions}
+use Rattle.tcc_rows.specs.Past.{begin_count, fault_in_time, fault_within, is_begun, is_late, item_of, keys, least, open_sessions, ops_since, sessions}
 use Rattle.tcc_rows.specs.declared.fault.RowFault.{RowFault}
 use Rattle.tcc_rows.specs.declared.fault.RowFaultKind.{RowFaultKind}
 use Rattle.tcc_rows.specs.declared.fault.RowFaultKind.TheVariants as kind
@@ -47,19 +49,23 @@ at-both : (b : Bool) (k : RowFaultKind) (x y : Option RowFaultKind) → (is_limi
 at-both true k x y more e = refl
 at-both false k x y more e = more e
 
-same-fault : (past : List Line) (last : Line) → is_limits (fault_within Small past last) ≡ false → fault_within Large past last ≡ fault_within Small past last
-same-fault past line.Seal e = refl
-same-fault past (line.Finish session committed) e = refl
-same-fault past (line.Begin session) e =
+same-in_time : (past : List Line) (last : Line) → is_limits (fault_in_time Small past last) ≡ false → fault_in_time Large past last ≡ fault_in_time Small past last
+same-in_time past line.Seal e = refl
+same-in_time past (line.Finish session committed) e = refl
+same-in_time past (line.Unknown session) e = refl
+same-in_time past (line.Begin session) e =
     at-both (is_begun session past) kind.AlreadyBegun _ _
     (at-limit (most_sessions Small) (most_sessions Large) (length (sessions (line.Begin session ∷ past))) kind.TooManySessions _ _ (omega arith) refl
     (at-limit (most_transactions Small) (most_transactions Large) (begin_count (line.Begin session ∷ past)) kind.TooManyTransactions None None (omega arith) refl
     (λ _. refl))) e
-same-fault past (line.Operation session op) e =
+same-in_time past (line.Operation session op) e =
     at-both (not (is_begun session past)) kind.NotBegun _ _
     (at-both (nat_lt MAX_OPERATIONS (length (ops_since session (line.Operation session op ∷ past)))) kind.TooManyOps _ _
     (at-limit (most_keys Small) (most_keys Large) (length (keys (line.Operation session op ∷ past))) kind.TooManyKeys None None (omega arith) refl
     (λ _. refl))) e
+
+same-fault : (past : List Line) (last : Line) → is_limits (fault_within Small past last) ≡ false → fault_within Large past last ≡ fault_within Small past last
+same-fault past last e = at-both (is_late past last) kind.SessionEnded _ _ (same-in_time past last) e
 
 -- ---- one record
 
@@ -112,7 +118,7 @@ same-records text short =
     ap (λ bytes. records default_config (strip_bom bytes)) (large ∙ sym small)
 
 pub same-kept : (text : List ℕ) → KeepsSmall text → answers_within Large text ≡ answers_of text
-same-kept text keeps = ap (answers_after_within Large []) (same-records text keeps.0) ∙ same-after (records_of text) [] keeps.1
+same-kept text keeps = ap settled (ap (answers_after_within Large []) (same-records text keeps.0) ∙ same-after (records_of text) [] keeps.1)
 
 -- where there is no fault there are not too many bytes
 pub lawful-kept : (text : List ℕ) → (answers_of text).fault ≡ None → KeepsSmall text
@@ -173,4 +179,4 @@ module _ (text : List ℕ) (keeps : KeepsSmall text) where
       → items_before_within Large row (records_within Large text) ≡ items_before_within Small row (records_of text)
   same-before row fails =
       ap (items_before_within Large row) (same-records text keeps.0)
-      ∙ ap (λ (a : Answers). a.items) (same-after (records_before row (records_of text)) [] (lawful-end (records_before row (records_of text)) [] fails.1))
+      ∙ ap (λ (a : Answers). settled_after false empty [] a.items) (same-after (records_before row (records_of text)) [] (lawful-end (records_before row (records_of text)) [] fails.1))

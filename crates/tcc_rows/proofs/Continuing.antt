@@ -12,10 +12,11 @@ use Rattle.tcc_txn.proofs.Nesting.{nested_itself, nested_on, nested_transaction}
 
 nested_item : (s : Sessions) (i : Item) → IsNested s (with_item s i)
 nested_item s (item.Finished session txn) = nested_transaction s session txn
+nested_item s (item.Unknown session txn) = nested_itself s
 nested_item s item.Seal = nested_itself s
 nested_item s item.End = nested_itself s
 
-nested_items : (s : Sessions) (items : List Item) → IsNested s (fold with_item s items)
+pub nested_items : (s : Sessions) (items : List Item) → IsNested s (fold with_item s items)
 nested_items s [] = nested_itself s
 nested_items s (i ∷ items) = nested_on s (with_item s i) (fold with_item (with_item s i) items) (nested_item s i) (nested_items (with_item s i) items)
 

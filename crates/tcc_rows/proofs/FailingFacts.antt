@@ -2,25 +2,30 @@
 use Rattle.std.proofs.Common.{◌≡◌, ℕ, suc, ◌+◌, ◌-◌, ◌≤◌, ◌<◌, ◌⊎◌, inl, inr, Bool, true, false, not, cond, List, [], ◌∷◌, ◌++◌}
 use Rattle.std.proofs.Common.{length, take, drop, refl, sym, ap, subst, ◌∙◌, arith, Option, None, Some, Result, Ok, Err}
 use Rattle.std.proofs.Common.{length-append, nat_lt}
-use Rattle.std.specs.Prelude.{codes, is_some, option_map, ◌==◌}
+use Rattle.std.specs.Prelude.{codes, is_none, is_some, option_map, ◌==◌}
+use Rattle.std.specs.FinMap as finite
+use Rattle.std.proofs.lemmas.List.Elements.{filter-append}
 use Rattle.std.specs.Option.{option_map_or}
 use Rattle.std.proofs.Math.Seq.{take-append_seam}
 use Rattle.std.proofs.lemmas.List.{take-append-drop}
-use Rattle.tcc_rows.specs.Answers.{Answers, after_item, answers_after_within, go_on, judged_within}
+use Rattle.tcc_rows.specs.Answers.{Answers, after_item, answers_after_within, answers_to, go_on, judged_within}
 use Rattle.tcc_rows.specs.private.Failing as failing
-use Rattle.tcc_rows.specs.Failing.{AreLawfulWithin, FailsAtWithin, items_before_within, records_before}
+use Rattle.tcc_rows.specs.Failing.{AreLawfulWithin, FailsAtWithin, given_before_within, items_before_within, records_before}
 use Rattle.tcc_txn.specs.Limits.{most_keys, most_sessions, most_transactions}
 use Rattle.tcc_txn.specs.Bytes.{same}
 use Rattle.tcc_rows.specs.Lines.{Record, accessed, in_session, is_cut, line_of, op_of, value_of}
 use Rattle.tcc_txn.specs.Names.{name_fault}
-use Rattle.tcc_rows.specs.Past.{begin_count, fault_within, is_begun, item_of, keys, least, open_sessions, ops_since, seal_count, sessions}
-use Rattle.tcc_rows.specs.Recordings.{after_items}
+use Rattle.tcc_rows.specs.Past.{begin_count, fault_in_time, fault_within, is_begun, is_late, item_of, keys, least, open_sessions, ops_since, seal_count, sessions}
+use Rattle.tcc_rows.specs.Recordings.{HasSealsBefore, after_items, is_seal, seals_in}
+use Rattle.tcc_rows.specs.Settling.{settled_after}
+use Rattle.tcc_rows.proofs.Settled.{held_after, settled-append}
 use Rattle.tcc_txn.specs.declared.limits.TheConstants.{MAX_OPERATIONS, MAX_SEALS}
 use Rattle.tcc_txn.specs.declared.limits.Limits.{Limits}
 use Rattle.tcc_txn.specs.declared.limits.Limits.TheVariants.{Small}
 use Rattle.tcc_txn.specs.declared.op.Op.{Op}
 use Rattle.tcc_txn.specs.declared.op.Op.TheVariants.{Put}
 use Rattle.tcc_rows.specs.declared.rows.Item.{Item}
+use Rattle.tcc_rows.specs.declared.rows.Item.TheVariants as item
 use Rattle.tcc_rows.specs.declared.fault.RowFault.{RowFault}
 use Rattle.tcc_rows.specs.declared.fault.RowFaultKind.{RowFaultKind}
 use Rattle.tcc_rows.specs.declared.fault.RowFaultKind.TheVariants as kind
@@ -65,7 +70,8 @@ line-of_record (session ∷ word ∷ []) =
     either (is_some (name_fault session)) (Err kind.BadSession) _ refl
     (either (same word (codes "begin")) (Ok (line.Begin session)) _ refl
     (either (same word (codes "commit")) (Ok (line.Finish session true)) _ refl
-    (either (same word (codes "abort")) (Ok (line.Finish session false)) (Err kind.UnknownWord) refl refl)))
+    (either (same word (codes "abort")) (Ok (line.Finish session false)) _ refl
+    (either (same word (codes "unknown")) (Ok (line.Unknown session)) (Err kind.UnknownWord) refl refl))))
 line-of_record (a ∷ b ∷ c ∷ []) = refl
 line-of_record (session ∷ word ∷ key ∷ value ∷ []) =
     either (is_some (name_fault session)) (Err kind.BadSession) _ refl
@@ -84,17 +90,21 @@ one-of true x y e f = e
 one-of false x y e f = f
 
 module _ (limits : Limits) where
-  fault-of_record : (past : List Line) (last : Line) → none_at_end (fault_within limits past last) ≡ true
-  fault-of_record past line.Seal = one-of (nat_lt MAX_SEALS (seal_count (line.Seal ∷ past))) (Some kind.TooManySeals) None refl refl
-  fault-of_record past (line.Begin session) =
+  fault-in_time : (past : List Line) (last : Line) → none_at_end (fault_in_time limits past last) ≡ true
+  fault-in_time past line.Seal = one-of (nat_lt MAX_SEALS (seal_count (line.Seal ∷ past))) (Some kind.TooManySeals) None refl refl
+  fault-in_time past (line.Begin session) =
       one-of (is_begun session past) (Some kind.AlreadyBegun) _ refl
       (one-of (nat_lt (most_sessions limits) (length (sessions (line.Begin session ∷ past)))) (Some kind.TooManySessions) _ refl
       (one-of (nat_lt (most_transactions limits) (begin_count (line.Begin session ∷ past))) (Some kind.TooManyTransactions) None refl refl))
-  fault-of_record past (line.Finish session committed) = one-of (is_begun session past) None (Some kind.NotBegun) refl refl
-  fault-of_record past (line.Operation session op) =
+  fault-in_time past (line.Finish session committed) = one-of (is_begun session past) None (Some kind.NotBegun) refl refl
+  fault-in_time past (line.Unknown session) = one-of (is_begun session past) None (Some kind.NotBegun) refl refl
+  fault-in_time past (line.Operation session op) =
       one-of (not (is_begun session past)) (Some kind.NotBegun) _ refl
       (one-of (nat_lt MAX_OPERATIONS (length (ops_since session (line.Operation session op ∷ past)))) (Some kind.TooManyOps) _ refl
       (one-of (nat_lt (most_keys limits) (length (keys (line.Operation session op ∷ past)))) (Some kind.TooManyKeys) None refl refl))
+
+  fault-of_record : (past : List Line) (last : Line) → none_at_end (fault_within limits past last) ≡ true
+  fault-of_record past last = one-of (is_late past last) (Some kind.SessionEnded) (fault_in_time limits past last) refl (fault-in_time past last)
 
   judged-of_record : (past : List Line) (fields : Record) (k : RowFaultKind) → judged_within limits past fields ≡ Err k → at_end k ≡ false
   judged-of_record past fields k e = by (is_cut fields) (line_of fields) refl refl (line-of_record fields)
@@ -162,44 +172,64 @@ module _ (limits : Limits) where
       by (inl e) = cc (e, record_fault)
       by (inr l) = absurd (omega (arith, l, early))
 
-  -- ---- as many items, whatever the lines before
+  -- ---- as many items, and as many seals, whatever the lines before
+
+  same-line : (p q : List Line) (fields : Record) (l m : Line) → judged_within limits p fields ≡ Ok l → judged_within limits q fields ≡ Ok m → l ≡ m
+  same-line p q fields l m e f =
+      (let both : ◌≡◌ {A = Result Line RowFaultKind} (Ok l) (Ok m) = sym (judged-line limits p fields l e) ∙ judged-line limits q fields m f in cc both)
+
+  -- what is the same of the items of each line is the same of all
+  module _ {X : Type 0} (of_items : List Item → X) (one : (p q : List Line) (l : Line) (a b : Answers) → of_items a.items ≡ of_items b.items
+      → of_items (after_item (item_of p l) a).items ≡ of_items (after_item (item_of q l) b).items) where
+    as-same : (left : List Record) (p q : List Line) → length p ≡ length q → (answers_after_within limits p left).fault ≡ (answers_after_within limits q left).fault
+        → of_items (answers_after_within limits p left).items ≡ of_items (answers_after_within limits q left).items
+    as-same [] p q long fault = refl
+    as-same (fields ∷ rest) p q long fault = by (judged_within limits p fields) (judged_within limits q fields) refl refl fault (as-same rest)
+      where
+        apart : (p q : List Line) (k : RowFaultKind) (m : Line) → length p ≡ length q → judged_within limits p fields ≡ Err k
+            → Some (record { row = length p + 1; kind = k }) ≡ (after_item (item_of q m) (answers_after_within limits (m ∷ q) rest)).fault → ⊥
+        apart p q k m long e fault =
+            not-later (length (m ∷ q)) (length p + 1) k (answers_after_within limits (m ∷ q) rest).fault (sym (fault ∙ same-fault (item_of q m) (answers_after_within limits (m ∷ q) rest)))
+            (judged-of_record p fields k e) (omega (arith, long)) (behind rest (m ∷ q))
+
+        by : (r s : Result Line RowFaultKind) → judged_within limits p fields ≡ r → judged_within limits q fields ≡ s
+            → (go_on p (λ lines. answers_after_within limits lines rest) r).fault ≡ (go_on q (λ lines. answers_after_within limits lines rest) s).fault
+            → ((p q : List Line) → length p ≡ length q → (answers_after_within limits p rest).fault ≡ (answers_after_within limits q rest).fault
+            → of_items (answers_after_within limits p rest).items ≡ of_items (answers_after_within limits q rest).items)
+            → of_items (go_on p (λ lines. answers_after_within limits lines rest) r).items ≡ of_items (go_on q (λ lines. answers_after_within limits lines rest) s).items
+        by (Err j) (Err k) e f fault next = refl
+        by (Err k) (Ok m) e f fault next = absurd (apart p q k m long e fault)
+        by (Ok l) (Err k) e f fault next = absurd (apart q p k l (sym long) f (sym fault))
+        by (Ok l) (Ok m) e f fault next =
+            let is : l ≡ m = same-line p q fields l m e f in
+            let faults : (answers_after_within limits (l ∷ p) rest).fault ≡ (answers_after_within limits (m ∷ q) rest).fault
+            = sym (same-fault (item_of p l) (answers_after_within limits (l ∷ p) rest)) ∙ fault ∙ same-fault (item_of q m) (answers_after_within limits (m ∷ q) rest) in
+            one p q l (answers_after_within limits (l ∷ p) rest) (answers_after_within limits (m ∷ q) rest) (next (l ∷ p) (m ∷ q) (ap suc long) faults)
+            ∙ ap (λ x. of_items (after_item (item_of q x) (answers_after_within limits (m ∷ q) rest)).items) is
 
   of-one : (p q : List Line) (l : Line) (a b : Answers) → length a.items ≡ length b.items
       → length (after_item (item_of p l) a).items ≡ length (after_item (item_of q l) b).items
   of-one p q line.Seal a b e = omega (arith, e)
   of-one p q (line.Begin session) a b e = e
   of-one p q (line.Finish session committed) a b e = omega (arith, e)
+  of-one p q (line.Unknown session) a b e = omega (arith, e)
   of-one p q (line.Operation session op) a b e = e
-
-  same-line : (p q : List Line) (fields : Record) (l m : Line) → judged_within limits p fields ≡ Ok l → judged_within limits q fields ≡ Ok m → l ≡ m
-  same-line p q fields l m e f =
-      (let both : ◌≡◌ {A = Result Line RowFaultKind} (Ok l) (Ok m) = sym (judged-line limits p fields l e) ∙ judged-line limits q fields m f in cc both)
 
   as-many : (left : List Record) (p q : List Line) → length p ≡ length q → (answers_after_within limits p left).fault ≡ (answers_after_within limits q left).fault
       → length (answers_after_within limits p left).items ≡ length (answers_after_within limits q left).items
-  as-many [] p q long fault = refl
-  as-many (fields ∷ rest) p q long fault = by (judged_within limits p fields) (judged_within limits q fields) refl refl fault (as-many rest)
-    where
-      apart : (p q : List Line) (k : RowFaultKind) (m : Line) → length p ≡ length q → judged_within limits p fields ≡ Err k
-          → Some (record { row = length p + 1; kind = k }) ≡ (after_item (item_of q m) (answers_after_within limits (m ∷ q) rest)).fault → ⊥
-      apart p q k m long e fault =
-          not-later (length (m ∷ q)) (length p + 1) k (answers_after_within limits (m ∷ q) rest).fault (sym (fault ∙ same-fault (item_of q m) (answers_after_within limits (m ∷ q) rest)))
-          (judged-of_record p fields k e) (omega (arith, long)) (behind rest (m ∷ q))
+  as-many = as-same length of-one
 
-      by : (r s : Result Line RowFaultKind) → judged_within limits p fields ≡ r → judged_within limits q fields ≡ s
-          → (go_on p (λ lines. answers_after_within limits lines rest) r).fault ≡ (go_on q (λ lines. answers_after_within limits lines rest) s).fault
-          → ((p q : List Line) → length p ≡ length q → (answers_after_within limits p rest).fault ≡ (answers_after_within limits q rest).fault
-          → length (answers_after_within limits p rest).items ≡ length (answers_after_within limits q rest).items)
-          → length (go_on p (λ lines. answers_after_within limits lines rest) r).items ≡ length (go_on q (λ lines. answers_after_within limits lines rest) s).items
-      by (Err j) (Err k) e f fault next = refl
-      by (Err k) (Ok m) e f fault next = absurd (apart p q k m long e fault)
-      by (Ok l) (Err k) e f fault next = absurd (apart q p k l (sym long) f (sym fault))
-      by (Ok l) (Ok m) e f fault next =
-          let is : l ≡ m = same-line p q fields l m e f in
-          let faults : (answers_after_within limits (l ∷ p) rest).fault ≡ (answers_after_within limits (m ∷ q) rest).fault
-          = sym (same-fault (item_of p l) (answers_after_within limits (l ∷ p) rest)) ∙ fault ∙ same-fault (item_of q m) (answers_after_within limits (m ∷ q) rest) in
-          of-one p q l (answers_after_within limits (l ∷ p) rest) (answers_after_within limits (m ∷ q) rest) (next (l ∷ p) (m ∷ q) (ap suc long) faults)
-          ∙ ap (λ x. length (after_item (item_of q x) (answers_after_within limits (m ∷ q) rest)).items) is
+  sealed-one : (p q : List Line) (l : Line) (a b : Answers) → seals_in a.items ≡ seals_in b.items
+      → seals_in (after_item (item_of p l) a).items ≡ seals_in (after_item (item_of q l) b).items
+  sealed-one p q line.Seal a b e = ap (λ items. item.Seal ∷ items) e
+  sealed-one p q (line.Begin session) a b e = e
+  sealed-one p q (line.Finish session committed) a b e = e
+  sealed-one p q (line.Unknown session) a b e = e
+  sealed-one p q (line.Operation session op) a b e = e
+
+  as-sealed : (left : List Record) (p q : List Line) → length p ≡ length q → (answers_after_within limits p left).fault ≡ (answers_after_within limits q left).fault
+      → seals_in (answers_after_within limits p left).items ≡ seals_in (answers_after_within limits q left).items
+  as-sealed = as-same seals_in sealed-one
 
   -- ---- the records before the row
 
@@ -254,7 +284,7 @@ module _ (limits : Limits) where
   -- the items that were taken are those of the records before the row, and these are lawful
   pub fails-at : (all : List Record) (taken : List Item) (ahead : Answers) (row : ℕ) → answers_after_within limits [] all ≡ after_items taken ahead
       → failing.FailsIn limits all ahead row
-      → FailsAtWithin limits row all × (taken ≡ items_before_within limits row all)
+      → FailsAtWithin limits row all × (taken ≡ given_before_within limits row all)
   fails-at all taken ahead row answers at =
       let fault : (answers_after_within limits [] (at.first ++ at.left)).fault ≡ (answers_after_within limits at.past at.left).fault
       = ap (λ records. (answers_after_within limits [] records).fault) (sym at.whole) ∙ ap (λ (a : Answers). a.fault) (answers ∙ ap (after_items taken) at.answers) in
@@ -274,6 +304,28 @@ module _ (limits : Limits) where
         same-front taken (answers_after_within limits [] at.first).items _ _ both many ∙ ap (λ records. (answers_after_within limits [] records).items) before,
       )
 
+  -- as many seals come before the row
+  pub fails-sealed : (all : List Record) (ahead : Answers) (row : ℕ) → (answers_after_within limits [] all).fault ≡ ahead.fault
+      → failing.FailsIn limits all ahead row
+      → FailsAtWithin limits row all × HasSealsBefore limits row all ahead
+  fails-sealed all ahead row faults at =
+      let fault : (answers_after_within limits [] (at.first ++ at.left)).fault ≡ (answers_after_within limits at.past at.left).fault
+      = ap (λ records. (answers_after_within limits [] records).fault) (sym at.whole) ∙ faults ∙ ap (λ (a : Answers). a.fault) at.answers in
+      let front = split at.left at.past at.first [] (omega (arith, at.long)) fault in
+      let same : seals_in (answers_after_within limits at.past at.left).items ≡ seals_in (answers_after_within limits front.lines at.left).items
+      = as-sealed at.left at.past front.lines (sym front.long) (sym fault ∙ front.fault) in
+      let before : at.first ≡ records_before row all
+      = sym (take-append_seam at.first at.left) ∙ ap (take (length at.first)) (sym at.whole) ∙ ap (λ n. take n all) (omega (arith, at.here)) in (
+        (
+          omega (arith, at.here, ap length at.whole, length-append at.first at.left),
+          subst (AreLawfulWithin limits []) before front.lawful,
+        ),
+        ap (λ records. seals_in (answers_after_within limits [] records).items) at.whole ∙ ap seals_in front.items
+            ∙ filter-append is_seal (answers_after_within limits [] at.first).items (answers_after_within limits front.lines at.left).items
+            ∙ ap (λ items. seals_in (answers_after_within limits [] at.first).items ++ items) (sym same ∙ ap (λ (a : Answers). seals_in a.items) (sym at.answers))
+            ∙ ap (λ records. seals_in (answers_after_within limits [] records).items ++ seals_in ahead.items) before,
+      )
+
   -- the items of lawful records come first
   front : (left first : List Record) (q : List Line) → AreLawfulWithin limits q first
       → (lines : List Line) × ((answers_after_within limits q (first ++ left)).items ≡ (answers_after_within limits q first).items ++ (answers_after_within limits lines left).items)
@@ -287,14 +339,21 @@ module _ (limits : Limits) where
       )
 
   -- the items of the records before a row are the first of all items
-  pub first-items : (row : ℕ) (all : List Record) → AreLawfulWithin limits [] (records_before row all)
-      → take (length (items_before_within limits row all)) (answers_after_within limits [] all).items ≡ items_before_within limits row all
-  first-items row all lawful =
+  pub items-before : (row : ℕ) (all : List Record) → AreLawfulWithin limits [] (records_before row all)
+      → (rest : List Item) × ((answers_to limits all).items ≡ items_before_within limits row all ++ rest)
+  items-before row all lawful =
       let (lines, is) = front (drop (row - 1) all) (records_before row all) [] lawful in
-      let whole : (answers_after_within limits [] all).items ≡ items_before_within limits row all ++ (answers_after_within limits lines (drop (row - 1) all)).items
+      let last = (answers_after_within limits lines (drop (row - 1) all)).items in
+      let whole : (answers_after_within limits [] all).items ≡ given_before_within limits row all ++ last
       = ap (λ records. (answers_after_within limits [] records).items) (sym (take-append-drop (row - 1) all)) ∙ is in
-      ap (take (length (items_before_within limits row all))) whole ∙ take-append_seam (items_before_within limits row all) (answers_after_within limits lines (drop (row - 1) all)).items
+      let ends = is_none (answers_after_within limits [] all).fault in
+      let held = held_after finite.empty [] (given_before_within limits row all) in (
+        settled_after ends held.0 held.1 last,
+        ap (settled_after ends finite.empty []) whole ∙ settled-append ends (given_before_within limits row all) last finite.empty [],
+      )
 
-pub front-items : (row : ℕ) (all : List Record) → AreLawfulWithin Small [] (records_before row all)
-    → take (length (items_before_within Small row all)) (answers_after_within Small [] all).items ≡ items_before_within Small row all
-front-items = first-items Small
+  pub first-items : (row : ℕ) (all : List Record) → AreLawfulWithin limits [] (records_before row all)
+      → take (length (items_before_within limits row all)) (answers_to limits all).items ≡ items_before_within limits row all
+  first-items row all lawful =
+      let (rest, is) = items-before row all lawful in
+      ap (take (length (items_before_within limits row all))) is ∙ take-append_seam (items_before_within limits row all) rest

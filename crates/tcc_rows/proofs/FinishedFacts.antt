@@ -1,4 +1,5 @@
--- What lawful lines finish keeps the limits of a snapshot: each finished transaction was begun, and each session with one has begun one.
+-- What lawful lines finish keeps the limits of a snapshot, also with all whose outcome nobody told: each such transaction was begun, and each
+-- session with one has begun one.
 use Rattle.std.proofs.Common.{◌≡◌, ℕ, ◌+◌, ◌-◌, ◌≤◌, Bool, true, false, cond, ◌||◌, T, List, [], ◌∷◌, ◌++◌, map, length, sum_by}
 use Rattle.std.proofs.Common.{refl, sym, ap, subst, ◌∙◌, arith, Option, None, Some, Result, Ok, Err, append_assoc, append-nil}
 use Rattle.std.proofs.Common.{nat_lt}
@@ -14,13 +15,13 @@ use Rattle.std.proofs.lemmas.Bool.Decides.{nat_tests}
 use Rattle.std.proofs.lemmas.List.{length-map}
 use Rattle.std.proofs.lemmas.Map.Lookups.{exact_bytes}
 use Rattle.std.proofs.lemmas.Map.Made.{length-le_from_is_member}
-use Rattle.tcc_rows.specs.Answers.{Answers, after_item, answers_after_within, answers_within, go_on, judged_within, records_within}
+use Rattle.tcc_rows.specs.Answers.{Answers, after_item, answers_after_within, given_within, go_on, judged_within, records_within}
 use Rattle.tcc_txn.specs.Finished.{IsWithinLimits, transaction_count, with_transaction}
 use Rattle.tcc_rows.specs.Items.{finished_in, with_item}
 use Rattle.tcc_txn.specs.Limits.{most_sessions, most_transactions}
 use Rattle.tcc_txn.specs.Bytes.{same}
 use Rattle.tcc_rows.specs.Lines.{Record, is_cut, line_of}
-use Rattle.tcc_rows.specs.Past.{begin_count, fault_within, is_begun, item_of, ops_since, sessions}
+use Rattle.tcc_rows.specs.Past.{begin_count, fault_in_time, fault_within, is_begun, is_late, item_of, ops_since, sessions, writes_of}
 use Rattle.tcc_txn.specs.Snapshots.{Sessions, first_repeated, snapshot_fault_within}
 use Rattle.tcc_txn.specs.Transactions.{Transaction}
 use Rattle.tcc_txn.specs.declared.limits.Limits.{Limits}
@@ -36,7 +37,7 @@ use Rattle.tcc_rows.proofs.PastFacts.{begun-seen, same-itself, same-name, same-s
 use Rattle.tcc_txn.proofs.SnapshotFaults.{fault_by_within, faultless_within}
 use Rattle.tcc_txn.proofs.SortedParts.{name_cmp}
 
-fold-append : {A B : Type 0} (f : B → A → B) (start : B) (xs ys : List A) → fold f start (xs ++ ys) ≡ fold f (fold f start xs) ys
+pub fold-append : {A B : Type 0} (f : B → A → B) (start : B) (xs ys : List A) → fold f start (xs ++ ys) ≡ fold f (fold f start xs) ys
 fold-append f start [] ys = refl
 fold-append f start (x ∷ xs) ys = fold-append f (f start x) xs ys
 
@@ -57,6 +58,7 @@ no-fewer_sessions s (item.Finished session txn ∷ items) =
     let more = no-fewer_sessions (with_transaction s session txn) items in
     let one = at-least (finite.contains_key s session) (finite.len s) in
     omega (arith, more, one, len-with_transaction s session txn)
+no-fewer_sessions s (item.Unknown session txn ∷ items) = no-fewer_sessions s items
 no-fewer_sessions s (item.Seal ∷ items) = no-fewer_sessions s items
 no-fewer_sessions s (item.End ∷ items) = no-fewer_sessions s items
 
@@ -65,6 +67,7 @@ no-fewer_transactions s [] = omega arith
 no-fewer_transactions s (item.Finished session txn ∷ items) =
     let more = no-fewer_transactions (with_transaction s session txn) items in
     omega (arith, more, count-with_transaction s session txn)
+no-fewer_transactions s (item.Unknown session txn ∷ items) = no-fewer_transactions s items
 no-fewer_transactions s (item.Seal ∷ items) = no-fewer_transactions s items
 no-fewer_transactions s (item.End ∷ items) = no-fewer_transactions s items
 
@@ -79,6 +82,30 @@ items_in (last ∷ past) = pushed (item_of past last) (items_in past)
 
 abbrev pub finished_by : List Line → Sessions
 finished_by past = finished_in (items_in past)
+
+-- what some items finish, where all whose outcome nobody told count as committed
+abbrev pub with_any : Sessions → Item → Sessions
+with_any s (item.Finished session txn) = with_transaction s session txn
+with_any s (item.Unknown session txn) = with_transaction s session txn
+with_any s item.Seal = s
+with_any s item.End = s
+
+abbrev pub all_in : List Item → Sessions
+all_in items = fold with_any finite.empty items
+
+all_in-append : (xs ys : List Item) → all_in (xs ++ ys) ≡ fold with_any (all_in xs) ys
+all_in-append xs ys = fold-append with_any finite.empty xs ys
+
+all_in-push : (xs : List Item) (x : Item) → all_in (xs ++ x ∷ []) ≡ with_any (all_in xs) x
+all_in-push xs x = all_in-append xs (x ∷ [])
+
+abbrev all_by : List Line → Sessions
+all_by past = all_in (items_in past)
+
+-- a faultless line of a session that hasn't ended
+pub late-free : {X : Type 0} (a : Bool) (x : X) (y : Option X) → cond a (Some x) y ≡ None → (a ≡ false) × (y ≡ None)
+late-free true x y e = cc
+late-free false x y e = (refl, e)
 
 -- a faultless begin
 pub no-begin-fault : {X : Type 0} (a b c : Bool) (x y z : X) → cond a (Some x) (cond b (Some y) (cond c (Some z) None)) ≡ None
@@ -113,10 +140,10 @@ is-false b never = by b refl
     by true e = absurd (never e)
     by false e = e
 
-abbrev has : Sessions → List ℕ → Bool
+abbrev pub has : Sessions → List ℕ → Bool
 has m q = finite.contains_key m q
 
-has-insert : (m : Sessions) (s q : List ℕ) (v : List Transaction) → has (finite.insert m s v) q ≡ cond (same s q) true (has m q)
+pub has-insert : (m : Sessions) (s q : List ℕ) (v : List Transaction) → has (finite.insert m s v) q ≡ cond (same s q) true (has m q)
 has-insert m s q v =
     ap is_some (finite.get-insert nat_list_cmp_total m s v q) ∙ ap (λ b. is_some (cond b (Some v) (finite.get m q))) (tied-same q s) ∙ by (same s q)
   where
@@ -163,7 +190,7 @@ all-apart : {X : Type 0} (name : List ℕ) (es : List (List ℕ × X)) → T (be
 all-apart name [] below = tt
 all-apart name (e ∷ es) below = (ap is_eq (less-if _ (both-parts _ _ below).0), all-apart name es (both-parts _ _ below).1)
 
-distinct-keys : {X : Type 0} (es : List (List ℕ × X)) → T (is_sorted name_cmp es) → IsDistinct (eq_by_cmp name_cmp) (map (λ e. e.0) es)
+pub distinct-keys : {X : Type 0} (es : List (List ℕ × X)) → T (is_sorted name_cmp es) → IsDistinct (eq_by_cmp name_cmp) (map (λ e. e.0) es)
 unfolding IsDistinct
 distinct-keys [] sorted = tt
 distinct-keys (e ∷ es) sorted = (all-apart e.0 es (both-parts _ _ sorted).0, distinct-keys es (both-parts _ _ sorted).1)
@@ -192,6 +219,13 @@ none-repeated earlier (name ∷ later) distinct =
     (none-repeated (earlier ++ name ∷ []) later (subst (IsDistinct (eq_by_cmp name_cmp)) (sym (append_assoc earlier (name ∷ []) later)) distinct))
 
 module _ (limits : Limits) where
+  -- what keeps the limits with more items keeps them without these
+  pub within-before : (s : Sessions) (items : List Item) → IsWithinLimits limits (fold with_item s items) → IsWithinLimits limits s
+  within-before s items kept =
+      let sessions = no-fewer_sessions s items in
+      let transactions = no-fewer_transactions s items in
+      (omega (arith, kept.0, sessions), omega (arith, kept.1, transactions))
+
   -- what keeps the limits kept them before its last items
   pub limits-before : (xs ys : List Item) → IsWithinLimits limits (finished_in (xs ++ ys)) → IsWithinLimits limits (finished_in xs)
   limits-before xs ys kept =
@@ -205,12 +239,16 @@ module _ (limits : Limits) where
   AreLawful [] = Unit {0}
   AreLawful (last ∷ past) = (fault_within limits past last ≡ None) × AreLawful past
 
+  pub in-time : (past : List Line) (l : Line) → fault_within limits past l ≡ None → (is_late past l ≡ false) × (fault_in_time limits past l ≡ None)
+  in-time past l none = late-free (is_late past l) kind.SessionEnded (fault_in_time limits past l) none
+
   faultless-begin : (past : List Line) (session : List ℕ) → fault_within limits past (line.Begin session) ≡ None
       → (nat_lt (most_sessions limits) (length (sessions (line.Begin session ∷ past))) ≡ false)
       × (nat_lt (most_transactions limits) (begin_count (line.Begin session ∷ past)) ≡ false)
   faultless-begin past session none =
       let all = no-begin-fault (is_begun session past) (nat_lt (most_sessions limits) (length (sessions (line.Begin session ∷ past))))
-      (nat_lt (most_transactions limits) (begin_count (line.Begin session ∷ past))) kind.AlreadyBegun kind.TooManySessions kind.TooManyTransactions none in
+      (nat_lt (most_transactions limits) (begin_count (line.Begin session ∷ past))) kind.AlreadyBegun kind.TooManySessions kind.TooManyTransactions
+      (in-time past (line.Begin session) none).1 in
       (all.1, all.2)
 
   pub few_begun : (past : List Line) → AreLawful past → begin_count past ≤ most_transactions limits
@@ -218,6 +256,7 @@ module _ (limits : Limits) where
   few_begun (line.Seal ∷ past) lawful = few_begun past lawful.1
   few_begun (line.Begin session ∷ past) lawful = fits (most_transactions limits) _ (faultless-begin past session lawful.0).1
   few_begun (line.Finish session committed ∷ past) lawful = few_begun past lawful.1
+  few_begun (line.Unknown session ∷ past) lawful = few_begun past lawful.1
   few_begun (line.Operation session op ∷ past) lawful = few_begun past lawful.1
 
   pub few_seated : (past : List Line) → AreLawful past → length (sessions past) ≤ most_sessions limits
@@ -225,16 +264,17 @@ module _ (limits : Limits) where
   few_seated (line.Seal ∷ past) lawful = few_seated past lawful.1
   few_seated (line.Begin session ∷ past) lawful = fits (most_sessions limits) _ (faultless-begin past session lawful.0).0
   few_seated (line.Finish session committed ∷ past) lawful = few_seated past lawful.1
+  few_seated (line.Unknown session ∷ past) lawful = few_seated past lawful.1
   few_seated (line.Operation session op ∷ past) lawful = few_seated past lawful.1
 
   -- each finished transaction was begun, and so was each one that sessions of a map have begun
   begun-finished : (past : List Line) → AreLawful past → (m : Sessions) → ((q : List ℕ) → has m q ≡ true → is_begun q past ≡ true)
-      → transaction_count (finished_by past) + finite.len m ≤ begin_count past
+      → transaction_count (all_by past) + finite.len m ≤ begin_count past
   begun-finished [] lawful m begun =
       let none : finite.len m ≡ 0 = len-none m (λ q h. differ (begun q h)) in
       omega (arith, none, count-empty)
   begun-finished (line.Seal ∷ past) lawful m begun =
-      subst (λ s. transaction_count s + finite.len m ≤ begin_count past) (sym (finished_in-push (items_in past) item.Seal)) (begun-finished past lawful.1 m begun)
+      subst (λ s. transaction_count s + finite.len m ≤ begin_count past) (sym (all_in-push (items_in past) item.Seal)) (begun-finished past lawful.1 m begun)
   begun-finished (line.Begin s ∷ past) lawful m begun =
       let others : (q : List ℕ) → has (finite.remove m s) q ≡ true → is_begun q past ≡ true
       = λ q h. other (same s q) (has m q) (is_begun q past) (sym (has-remove m s q) ∙ h) (begun q) in
@@ -246,7 +286,7 @@ module _ (limits : Limits) where
       other true h o e more = cc
       other false h o e more = more e
   begun-finished (line.Finish s committed ∷ past) lawful m begun =
-      let started : is_begun s past ≡ true = no-finish-fault (is_begun s past) kind.NotBegun lawful.0 in
+      let started : is_begun s past ≡ true = no-finish-fault (is_begun s past) kind.NotBegun (in-time past (line.Finish s committed) lawful.0).1 in
       let absent : has m s ≡ false = is-false (has m s) (λ h. closed (same s s) (is_begun s past) (same-itself s) (begun s h)) in
       let others : (q : List ℕ) → has (finite.insert m s []) q ≡ true → is_begun q past ≡ true
       =
@@ -256,8 +296,30 @@ module _ (limits : Limits) where
       let longer : finite.len (finite.insert m s []) ≡ finite.len m + 1
       = finite.len-insert nat_list_cmp_total m s [] ∙ ap (λ b. cond b (finite.len m) (finite.len m + 1)) absent in
       let txn : Transaction = record { ops = ops_since s past; committed = committed } in
-      let counted : transaction_count (finished_by (line.Finish s committed ∷ past)) ≡ transaction_count (finished_by past) + 1
-      = ap transaction_count (finished_in-push (items_in past) (item.Finished s txn)) ∙ count-with_transaction (finished_by past) s txn in
+      let counted : transaction_count (all_by (line.Finish s committed ∷ past)) ≡ transaction_count (all_by past) + 1
+      = ap transaction_count (all_in-push (items_in past) (item.Finished s txn)) ∙ count-with_transaction (all_by past) s txn in
+      omega (arith, more, longer, counted)
+    where
+      closed : (b o : Bool) → b ≡ true → cond b false o ≡ true → ⊥
+      closed true o e h = cc
+      closed false o e h = cc
+
+      other : (b h o : Bool) → cond b true h ≡ true → (h ≡ true → cond b false o ≡ true) → (b ≡ true → o ≡ true) → o ≡ true
+      other true h o e more here = here refl
+      other false h o e more here = more e
+  begun-finished (line.Unknown s ∷ past) lawful m begun =
+      let started : is_begun s past ≡ true = no-finish-fault (is_begun s past) kind.NotBegun (in-time past (line.Unknown s) lawful.0).1 in
+      let absent : has m s ≡ false = is-false (has m s) (λ h. closed (same s s) (is_begun s past) (same-itself s) (begun s h)) in
+      let others : (q : List ℕ) → has (finite.insert m s []) q ≡ true → is_begun q past ≡ true
+      =
+      λ q h. other (same s q) (has m q) (is_begun q past) (sym (has-insert m s q []) ∙ h) (begun q)
+      (λ e. subst (λ n. is_begun n past ≡ true) (exact-same s q e) started) in
+      let more = begun-finished past lawful.1 (finite.insert m s []) others in
+      let longer : finite.len (finite.insert m s []) ≡ finite.len m + 1
+      = finite.len-insert nat_list_cmp_total m s [] ∙ ap (λ b. cond b (finite.len m) (finite.len m + 1)) absent in
+      let txn : Transaction = record { ops = writes_of (ops_since s past); committed = true } in
+      let counted : transaction_count (all_by (line.Unknown s ∷ past)) ≡ transaction_count (all_by past) + 1
+      = ap transaction_count (all_in-push (items_in past) (item.Unknown s txn)) ∙ count-with_transaction (all_by past) s txn in
       omega (arith, more, longer, counted)
     where
       closed : (b o : Bool) → b ≡ true → cond b false o ≡ true → ⊥
@@ -270,10 +332,10 @@ module _ (limits : Limits) where
   begun-finished (line.Operation s op ∷ past) lawful m begun = begun-finished past lawful.1 m begun
 
   -- a session with a finished transaction has begun one
-  seated-finished : (past : List Line) → AreLawful past → (q : List ℕ) → has (finished_by past) q ≡ true → list_any (same q) (sessions past) ≡ true
+  seated-finished : (past : List Line) → AreLawful past → (q : List ℕ) → has (all_by past) q ≡ true → list_any (same q) (sessions past) ≡ true
   seated-finished [] lawful q h = absurd (nothing-empty q h)
   seated-finished (line.Seal ∷ past) lawful q h =
-      seated-finished past lawful.1 q (ap (λ s. has s q) (sym (finished_in-push (items_in past) item.Seal)) ∙ h)
+      seated-finished past lawful.1 q (ap (λ s. has s q) (sym (all_in-push (items_in past) item.Seal)) ∙ h)
   seated-finished (line.Begin s ∷ past) lawful q h = by (same s q) refl (seated-finished past lawful.1 q h)
     where
       by : (b : Bool) → same s q ≡ b → list_any (same q) (sessions past) ≡ true → list_any (same q) (sessions (line.Begin s ∷ past)) ≡ true
@@ -281,25 +343,35 @@ module _ (limits : Limits) where
       by false e more = seen-other s q (sessions past) e ∙ more
   seated-finished (line.Finish s committed ∷ past) lawful q h =
       let txn : Transaction = record { ops = ops_since s past; committed = committed } in
-      let found = ap (λ m. has m q) (sym (finished_in-push (items_in past) (item.Finished s txn))) ∙ h in
-      by (same s q) refl (sym (has-insert (finished_by past) s q (unwrap_or (finite.get (finished_by past) s) [] ++ txn ∷ [])) ∙ found)
+      let found = ap (λ m. has m q) (sym (all_in-push (items_in past) (item.Finished s txn))) ∙ h in
+      by (same s q) refl (sym (has-insert (all_by past) s q (unwrap_or (finite.get (all_by past) s) [] ++ txn ∷ [])) ∙ found)
       (seated-finished past lawful.1 q)
     where
-      by : (b : Bool) → same s q ≡ b → cond b true (has (finished_by past) q) ≡ true
-          → (has (finished_by past) q ≡ true → list_any (same q) (sessions past) ≡ true) → list_any (same q) (sessions past) ≡ true
-      by true e found more = begun-seen q past (subst (λ n. is_begun n past ≡ true) (exact-same s q e) (no-finish-fault (is_begun s past) kind.NotBegun lawful.0))
+      by : (b : Bool) → same s q ≡ b → cond b true (has (all_by past) q) ≡ true
+          → (has (all_by past) q ≡ true → list_any (same q) (sessions past) ≡ true) → list_any (same q) (sessions past) ≡ true
+      by true e found more = begun-seen q past (subst (λ n. is_begun n past ≡ true) (exact-same s q e) (no-finish-fault (is_begun s past) kind.NotBegun (in-time past (line.Finish s committed) lawful.0).1))
+      by false e found more = more found
+  seated-finished (line.Unknown s ∷ past) lawful q h =
+      let txn : Transaction = record { ops = writes_of (ops_since s past); committed = true } in
+      let found = ap (λ m. has m q) (sym (all_in-push (items_in past) (item.Unknown s txn))) ∙ h in
+      by (same s q) refl (sym (has-insert (all_by past) s q (unwrap_or (finite.get (all_by past) s) [] ++ txn ∷ [])) ∙ found)
+      (seated-finished past lawful.1 q)
+    where
+      by : (b : Bool) → same s q ≡ b → cond b true (has (all_by past) q) ≡ true
+          → (has (all_by past) q ≡ true → list_any (same q) (sessions past) ≡ true) → list_any (same q) (sessions past) ≡ true
+      by true e found more = begun-seen q past (subst (λ n. is_begun n past ≡ true) (exact-same s q e) (no-finish-fault (is_begun s past) kind.NotBegun (in-time past (line.Unknown s) lawful.0).1))
       by false e found more = more found
   seated-finished (line.Operation s op ∷ past) lawful q h = seated-finished past lawful.1 q h
 
-  few-finished : (past : List Line) → AreLawful past → finite.len (finished_by past) ≤ length (sessions past)
+  few-finished : (past : List Line) → AreLawful past → finite.len (all_by past) ≤ length (sessions past)
   few-finished past lawful =
-      let m = finished_by past in
+      let m = all_by past in
       let fewer : length (finite.keys m) ≤ length (sessions past)
       = length-le_from_is_member (eq_by_cmp_equiv nat_list_cmp_total) (finite.keys m) (sessions past) (distinct-keys (finite.entries m) (finite.entries_sorted m))
       (λ q h. any-same q (sessions past) ∙ seated-finished past lawful q (finite.contains_key-keys m q ∙ h)) in
       omega (arith, fewer, finite.len-entries m, length-map (finite.entries m) (λ e. e.0))
 
-  lawful-limits : (past : List Line) → AreLawful past → IsWithinLimits limits (finished_by past)
+  lawful-limits : (past : List Line) → AreLawful past → IsWithinLimits limits (all_by past)
   lawful-limits past lawful =
       let transactions = begun-finished past lawful finite.empty (λ q h. absurd (nothing-empty q h)) in
       (omega (arith, few-finished past lawful, few_seated past lawful), omega (arith, transactions, few_begun past lawful))
@@ -320,24 +392,24 @@ module _ (limits : Limits) where
           of found (fault_within limits past found) refl (sym after ∙ e)
 
   -- the items of all lines that follow lawful ones keep the limits
-  limits-after : (left : List Record) (past : List Line) → AreLawful past → IsWithinLimits limits (finished_in (items_in past ++ (answers_after_within limits past left).items))
-  limits-after [] past lawful = subst (λ items. IsWithinLimits limits (finished_in items)) (sym (append-nil (items_in past))) (lawful-limits past lawful)
+  limits-after : (left : List Record) (past : List Line) → AreLawful past → IsWithinLimits limits (all_in (items_in past ++ (answers_after_within limits past left).items))
+  limits-after [] past lawful = subst (λ items. IsWithinLimits limits (all_in items)) (sym (append-nil (items_in past))) (lawful-limits past lawful)
   limits-after (fields ∷ rest) past lawful = by (judged_within limits past fields) refl (limits-after rest)
     where
-      more : (o : Option Item) (ahead : Answers) → IsWithinLimits limits (finished_in (pushed o (items_in past) ++ ahead.items))
-          → IsWithinLimits limits (finished_in (items_in past ++ (after_item o ahead).items))
+      more : (o : Option Item) (ahead : Answers) → IsWithinLimits limits (all_in (pushed o (items_in past) ++ ahead.items))
+          → IsWithinLimits limits (all_in (items_in past ++ (after_item o ahead).items))
       more None ahead kept = kept
-      more (Some first) ahead kept = subst (λ items. IsWithinLimits limits (finished_in items)) (append_assoc (items_in past) (first ∷ []) ahead.items) kept
+      more (Some first) ahead kept = subst (λ items. IsWithinLimits limits (all_in items)) (append_assoc (items_in past) (first ∷ []) ahead.items) kept
 
       by : (r : Result Line RowFaultKind) → judged_within limits past fields ≡ r
-          → ((lines : List Line) → AreLawful lines → IsWithinLimits limits (finished_in (items_in lines ++ (answers_after_within limits lines rest).items)))
-          → IsWithinLimits limits (finished_in (items_in past ++ (go_on past (λ lines. answers_after_within limits lines rest) r).items))
-      by (Err k) e next = subst (λ items. IsWithinLimits limits (finished_in items)) (sym (append-nil (items_in past))) (lawful-limits past lawful)
+          → ((lines : List Line) → AreLawful lines → IsWithinLimits limits (all_in (items_in lines ++ (answers_after_within limits lines rest).items)))
+          → IsWithinLimits limits (all_in (items_in past ++ (go_on past (λ lines. answers_after_within limits lines rest) r).items))
+      by (Err k) e next = subst (λ items. IsWithinLimits limits (all_in items)) (sym (append-nil (items_in past))) (lawful-limits past lawful)
       by (Ok last) e next = more (item_of past last) (answers_after_within limits (last ∷ past) rest) (next (last ∷ past) (judged-free past fields last e, lawful))
 
-  -- what a text's records finish keeps the limits of a snapshot
-  pub text-limits : (text : List ℕ) → IsWithinLimits limits (finished_in (answers_within limits text).items)
-  text-limits text = limits-after (records_within limits text) [] tt
+  -- what a text's records finish keeps the limits of a snapshot, also with all whose outcome nobody told
+  pub all-limits : (text : List ℕ) → IsWithinLimits limits (all_in (given_within limits text).items)
+  all-limits text = limits-after (records_within limits text) [] tt
 
   pub no-snapshot-fault : (s : Sessions) → IsWithinLimits limits s → snapshot_fault_within limits (finite.entries s) ≡ None
   no-snapshot-fault s kept =

@@ -2,7 +2,7 @@
 use Rattle.std.proofs.Common.{◌≡◌, ℕ, zero, suc, ◌+◌, ◌≤◌, Bool, true, false, not, cond, ◌||◌, List, [], ◌∷◌, ◌++◌}
 use Rattle.std.proofs.Common.{filter, length, refl, sym, ap, subst, ◌∙◌, arith, Option, None, Some, Result, Ok, Err}
 use Rattle.std.proofs.Common.{nat_lt}
-use Rattle.std.specs.Prelude.{codes, is_some, option_map}
+use Rattle.std.specs.Prelude.{codes, is_none, is_some, option_map}
 use Rattle.std.specs.List.{AllByRecursion, Contains, IsDistinct, list_any}
 use Rattle.std.specs.Cmp.Lexicographic.{nat_list_eq_equiv}
 use Rattle.std.proofs.lemmas.Bool.{or_left, or_right}
@@ -10,13 +10,15 @@ use Rattle.std.proofs.lemmas.Bool.Decides.{nat_tests}
 use Rattle.std.proofs.lemmas.List.Elements.{filter-append}
 use Rattle.std.proofs.lemmas.Map.Keys.{IsDistinct-cons}
 use Rattle.std.proofs.lemmas.Map.Made.{length-le_from_is_member}
-use Rattle.tcc_rows.specs.Answers.{Answers, after_item, answers_of, fault_at_end, go_on, records_of}
+use Rattle.tcc_rows.specs.Answers.{Answers, after_item, answers_of, fault_at_end, given_within, go_on, records_of}
+use Rattle.tcc_rows.proofs.Settled.{none-sealed, seals-settled, unsealed-none}
+use Rattle.std.specs.FinMap as finite
 use Rattle.tcc_rows.specs.private.Words.{answers_after, judged}
 use Rattle.tcc_rows.specs.Interleaved.{AreInterleaved, is_by, is_by_none, records_by_none}
 use Rattle.tcc_txn.specs.Bytes.{same}
 use Rattle.tcc_rows.specs.Lines.{Record, in_session, is_cut, line_of, op_of}
 use Rattle.tcc_txn.specs.Names.{name_fault}
-use Rattle.tcc_rows.specs.Past.{begin_count, begins, fault_of, is_begun, item_of, keys, least, open_sessions, ops_since, seal_count, seals, sessions, with_name}
+use Rattle.tcc_rows.specs.Past.{begin_count, begins, ends, fault_in_time, fault_of, is_begun, is_ended, item_of, keys, least, open_sessions, ops_since, seal_count, seals, sessions, with_name}
 use Rattle.tcc_rows.specs.Recordings.{has_seal}
 use Rattle.tcc_txn.specs.Transactions.{op_key}
 use Rattle.tcc_txn.specs.declared.limits.Limits.TheVariants.{Small}
@@ -28,7 +30,7 @@ use Rattle.tcc_rows.specs.declared.fault.RowFaultKind.{RowFaultKind}
 use Rattle.tcc_rows.specs.declared.fault.RowFaultKind.TheVariants as kind
 use Rattle.tcc_rows.specs.Line.{Line}
 use Rattle.tcc_rows.specs.Line as line
-use Rattle.tcc_rows.proofs.FinishedFacts.{AreLawful, few_begun, few_seated, fits, judged-free, no-begin-fault, no-finish-fault}
+use Rattle.tcc_rows.proofs.FinishedFacts.{AreLawful, few_begun, few_seated, fits, in-time, judged-free, no-begin-fault, no-finish-fault}
 use Rattle.tcc_rows.proofs.Interleaving.{begun-kept, does, drops, judged-line, keeps, lines-filter, lines_after, noted, ops-kept, same-lines}
 use Rattle.tcc_rows.proofs.LeastOpen.{none-open}
 use Rattle.tcc_txn.proofs.Lists.{from_filter, in_filter}
@@ -46,22 +48,26 @@ abbrev owner : Line → Option (List ℕ)
 owner line.Seal = None
 owner (line.Begin session) = Some session
 owner (line.Finish session committed) = Some session
+owner (line.Unknown session) = Some session
 owner (line.Operation session op) = Some session
 
 stands-owner : (l : Line) → stands (owner l) l ≡ true
 stands-owner line.Seal = refl
 stands-owner (line.Begin session) = same-itself session
 stands-owner (line.Finish session committed) = same-itself session
+stands-owner (line.Unknown session) = same-itself session
 stands-owner (line.Operation session op) = same-itself session
 
 only-owner : (o : Option (List ℕ)) (l : Line) → stands o l ≡ true → o ≡ owner l
 only-owner None line.Seal e = refl
 only-owner None (line.Begin session) e = cc e
 only-owner None (line.Finish session committed) e = cc e
+only-owner None (line.Unknown session) e = cc e
 only-owner None (line.Operation session op) e = cc e
 only-owner (Some q) line.Seal e = cc e
 only-owner (Some q) (line.Begin session) e = ap Some (sym (same-name session q e))
 only-owner (Some q) (line.Finish session committed) e = ap Some (sym (same-name session q e))
+only-owner (Some q) (line.Unknown session) e = ap Some (sym (same-name session q e))
 only-owner (Some q) (line.Operation session op) e = ap Some (sym (same-name session q e))
 
 -- each session has the same lines in both, and so have seals
@@ -150,6 +156,7 @@ distinct-sessions [] = tt
 distinct-sessions (line.Seal ∷ past) = distinct-sessions past
 distinct-sessions (line.Begin session ∷ past) = distinct-with session (sessions past) (distinct-sessions past)
 distinct-sessions (line.Finish session committed ∷ past) = distinct-sessions past
+distinct-sessions (line.Unknown session ∷ past) = distinct-sessions past
 distinct-sessions (line.Operation session op ∷ past) = distinct-sessions past
 
 distinct-keys : (past : List Line) → IsDistinct same (keys past)
@@ -158,6 +165,7 @@ distinct-keys [] = tt
 distinct-keys (line.Seal ∷ past) = distinct-keys past
 distinct-keys (line.Begin session ∷ past) = distinct-keys past
 distinct-keys (line.Finish session committed ∷ past) = distinct-keys past
+distinct-keys (line.Unknown session ∷ past) = distinct-keys past
 distinct-keys (line.Operation session op ∷ past) = distinct-with (op_key op) (keys past) (distinct-keys past)
 
 -- a line begins a transaction of the session
@@ -165,6 +173,7 @@ abbrev opens : List ℕ → Line → Bool
 opens q line.Seal = false
 opens q (line.Begin session) = same session q
 opens q (line.Finish session committed) = false
+opens q (line.Unknown session) = false
 opens q (line.Operation session op) = false
 
 -- a line has the key
@@ -172,6 +181,7 @@ abbrev has_key : List ℕ → Line → Bool
 has_key q line.Seal = false
 has_key q (line.Begin session) = false
 has_key q (line.Finish session committed) = false
+has_key q (line.Unknown session) = false
 has_key q (line.Operation session op) = same (op_key op) q
 
 seen-by : (name q : List ℕ) (names : List (List ℕ)) (rest : Bool) → list_any (same q) names ≡ rest
@@ -187,6 +197,7 @@ opened-sessions q [] = refl
 opened-sessions q (line.Seal ∷ past) = opened-sessions q past
 opened-sessions q (line.Begin session ∷ past) = seen-by session q (sessions past) (list_any (opens q) past) (opened-sessions q past)
 opened-sessions q (line.Finish session committed ∷ past) = opened-sessions q past
+opened-sessions q (line.Unknown session ∷ past) = opened-sessions q past
 opened-sessions q (line.Operation session op ∷ past) = opened-sessions q past
 
 had-keys : (q : List ℕ) (past : List Line) → list_any (same q) (keys past) ≡ list_any (has_key q) past
@@ -194,6 +205,7 @@ had-keys q [] = refl
 had-keys q (line.Seal ∷ past) = had-keys q past
 had-keys q (line.Begin session ∷ past) = had-keys q past
 had-keys q (line.Finish session committed ∷ past) = had-keys q past
+had-keys q (line.Unknown session ∷ past) = had-keys q past
 had-keys q (line.Operation session op ∷ past) = seen-by (op_key op) q (keys past) (list_any (has_key q) past) (had-keys q past)
 
 -- one that passes is one of its session
@@ -246,15 +258,33 @@ abbrev FollowsIn : Bool → List Op → Line → Type 0
 FollowsIn begun ops line.Seal = Unit {0}
 FollowsIn begun ops (line.Begin session) = begun ≡ false
 FollowsIn begun ops (line.Finish session committed) = begun ≡ true
+FollowsIn begun ops (line.Unknown session) = begun ≡ true
 FollowsIn begun ops (line.Operation session op) = (begun ≡ true) × (length (ops ++ op ∷ []) ≤ MAX_OPERATIONS)
 
 -- each line of the session may follow those before it
 abbrev FollowBy : List ℕ → List Line → Type 0
 FollowBy q [] = Unit {0}
-FollowBy q (l ∷ past) = (does q l ≡ true → FollowsIn (is_begun q past) (ops_since q past) l) × FollowBy q past
+FollowBy q (l ∷ past) = (does q l ≡ true → (is_ended q past ≡ false) × FollowsIn (is_begun q past) (ops_since q past) l) × FollowBy q past
 
 follows-as : (l : Line) (a b : Bool) (xs ys : List Op) → a ≡ b → xs ≡ ys → FollowsIn a xs l → FollowsIn b ys l
 follows-as l a b xs ys e f follows = subst (λ ops. FollowsIn b ops l) f (subst (λ begun. FollowsIn begun xs l) e follows)
+
+-- whether a session has ended depends on its lines alone
+ends-own : (q : List ℕ) (l : Line) → does q l ≡ false → ends q l ≡ false
+ends-own q line.Seal e = refl
+ends-own q (line.Begin session) e = refl
+ends-own q (line.Finish session committed) e = refl
+ends-own q (line.Unknown session) e = e
+ends-own q (line.Operation session op) e = refl
+
+ended-kept : (q : List ℕ) (past : List Line) → is_ended q past ≡ is_ended q (filter (does q) past)
+ended-kept q [] = refl
+ended-kept q (l ∷ past) = by (does q l) refl (ended-kept q past)
+  where
+    by : (b : Bool) → does q l ≡ b → is_ended q past ≡ is_ended q (filter (does q) past)
+        → is_ended q (l ∷ past) ≡ is_ended q (cond b (l ∷ filter (does q) past) (filter (does q) past))
+    by true e more = ap (λ b. ends q l || b) more
+    by false e more = ap (λ b. b || is_ended q past) (ends-own q l e) ∙ more
 
 -- whether lines may follow one another depends on those of the session alone
 follow-kept : (q : List ℕ) (past : List Line) → FollowBy q past → FollowBy q (filter (does q) past)
@@ -262,7 +292,10 @@ follow-kept q [] all = tt
 follow-kept q (l ∷ past) all = by (does q l) refl (follow-kept q past all.1)
   where
     by : (b : Bool) → does q l ≡ b → FollowBy q (filter (does q) past) → FollowBy q (cond b (l ∷ filter (does q) past) (filter (does q) past))
-    by true e more = (λ own. follows-as l (is_begun q past) _ (ops_since q past) _ (begun-kept q past) (ops-kept q past) (all.0 own), more)
+    by true e more = (
+      λ own. (sym (ended-kept q past) ∙ (all.0 own).0, follows-as l (is_begun q past) _ (ops_since q past) _ (begun-kept q past) (ops-kept q past) (all.0 own).1),
+      more,
+    )
     by false e more = more
 
 follow-back : (q : List ℕ) (past : List Line) → FollowBy q (filter (does q) past) → FollowBy q past
@@ -271,9 +304,11 @@ follow-back q (l ∷ past) all = by (does q l) refl all (follow-back q past)
   where
     by : (b : Bool) → does q l ≡ b → FollowBy q (cond b (l ∷ filter (does q) past) (filter (does q) past))
         → (FollowBy q (filter (does q) past) → FollowBy q past)
-        → (does q l ≡ true → FollowsIn (is_begun q past) (ops_since q past) l) × FollowBy q past
-    by true e all more =
-        (λ own. follows-as l _ (is_begun q past) _ (ops_since q past) (sym (begun-kept q past)) (sym (ops-kept q past)) (all.0 own), more all.1)
+        → (does q l ≡ true → (is_ended q past ≡ false) × FollowsIn (is_begun q past) (ops_since q past) l) × FollowBy q past
+    by true e all more = (
+      λ own. (ended-kept q past ∙ (all.0 own).0, follows-as l _ (is_begun q past) _ (ops_since q past) (sym (begun-kept q past)) (sym (ops-kept q past)) (all.0 own).1),
+      more all.1,
+    )
     by false e all more = (λ own. cc (e, own), more all)
 
 -- no fault of an operation
@@ -291,13 +326,15 @@ no-seal-fault false x e = refl
 operation-free : (past : List Line) (session : List ℕ) (op : Op) → fault_of past (line.Operation session op) ≡ None
     → (is_begun session past ≡ true) × (nat_lt MAX_OPERATIONS (length (ops_since session (line.Operation session op ∷ past))) ≡ false)
     × (nat_lt MAX_KEYS (length (keys (line.Operation session op ∷ past))) ≡ false)
-operation-free past session op free = no-operation-fault (is_begun session past) _ _ kind.NotBegun kind.TooManyOps kind.TooManyKeys free
+operation-free past session op free =
+    no-operation-fault (is_begun session past) _ _ kind.NotBegun kind.TooManyOps kind.TooManyKeys (in-time Small past (line.Operation session op) free).1
 
 few-had : (past : List Line) → AreLawful Small past → length (keys past) ≤ MAX_KEYS
 few-had [] lawful = omega arith
 few-had (line.Seal ∷ past) lawful = few-had past lawful.1
 few-had (line.Begin session ∷ past) lawful = few-had past lawful.1
 few-had (line.Finish session committed ∷ past) lawful = few-had past lawful.1
+few-had (line.Unknown session ∷ past) lawful = few-had past lawful.1
 few-had (line.Operation session op ∷ past) lawful = fits MAX_KEYS _ (operation-free past session op lawful.0).2
 
 few-sealed : (past : List Line) → AreLawful Small past → seal_count past ≤ MAX_SEALS
@@ -305,6 +342,7 @@ few-sealed [] lawful = omega arith
 few-sealed (line.Seal ∷ past) lawful = fits MAX_SEALS _ (no-seal-fault _ kind.TooManySeals lawful.0)
 few-sealed (line.Begin session ∷ past) lawful = few-sealed past lawful.1
 few-sealed (line.Finish session committed ∷ past) lawful = few-sealed past lawful.1
+few-sealed (line.Unknown session ∷ past) lawful = few-sealed past lawful.1
 few-sealed (line.Operation session op ∷ past) lawful = few-sealed past lawful.1
 
 own-ops : (session : List ℕ) (op : Op) (past : List Line) → ops_since session (line.Operation session op ∷ past) ≡ ops_since session past ++ op ∷ []
@@ -312,22 +350,32 @@ own-ops session op past = rw (same-itself session) refl
 
 follow-lawful : (q : List ℕ) (past : List Line) → AreLawful Small past → FollowBy q past
 follow-lawful q [] lawful = tt
-follow-lawful q (line.Seal ∷ past) lawful = (λ own. tt, follow-lawful q past lawful.1)
-follow-lawful q (line.Begin session ∷ past) lawful = (
-  λ own. subst (λ name. is_begun name past ≡ false) (same-name session q own)
-      (no-begin-fault (is_begun session past) _ _ kind.AlreadyBegun kind.TooManySessions kind.TooManyTransactions lawful.0).0,
-  follow-lawful q past lawful.1,
-)
-follow-lawful q (line.Finish session committed ∷ past) lawful = (
-  λ own. subst (λ name. is_begun name past ≡ true) (same-name session q own) (no-finish-fault (is_begun session past) kind.NotBegun lawful.0),
-  follow-lawful q past lawful.1,
-)
+follow-lawful q (line.Seal ∷ past) lawful = (λ own. cc own, follow-lawful q past lawful.1)
+follow-lawful q (line.Begin session ∷ past) lawful =
+    let free = in-time Small past (line.Begin session) lawful.0 in (
+      λ own. subst (λ name. (is_ended name past ≡ false) × (is_begun name past ≡ false)) (same-name session q own)
+          (free.0, (no-begin-fault (is_begun session past) _ _ kind.AlreadyBegun kind.TooManySessions kind.TooManyTransactions free.1).0),
+      follow-lawful q past lawful.1,
+    )
+follow-lawful q (line.Finish session committed ∷ past) lawful =
+    let free = in-time Small past (line.Finish session committed) lawful.0 in (
+      λ own. subst (λ name. (is_ended name past ≡ false) × (is_begun name past ≡ true)) (same-name session q own)
+          (free.0, no-finish-fault (is_begun session past) kind.NotBegun free.1),
+      follow-lawful q past lawful.1,
+    )
+follow-lawful q (line.Unknown session ∷ past) lawful =
+    let free = in-time Small past (line.Unknown session) lawful.0 in (
+      λ own. subst (λ name. (is_ended name past ≡ false) × (is_begun name past ≡ true)) (same-name session q own)
+          (free.0, no-finish-fault (is_begun session past) kind.NotBegun free.1),
+      follow-lawful q past lawful.1,
+    )
 follow-lawful q (line.Operation session op ∷ past) lawful =
+    let late = (in-time Small past (line.Operation session op) lawful.0).0 in
     let free = operation-free past session op lawful.0 in
     let room : length (ops_since session past ++ op ∷ []) ≤ MAX_OPERATIONS =
     subst (λ ops. length ops ≤ MAX_OPERATIONS) (own-ops session op past) (fits MAX_OPERATIONS _ free.1) in (
-      λ own. subst (λ name. (is_begun name past ≡ true) × (length (ops_since name past ++ op ∷ []) ≤ MAX_OPERATIONS)) (same-name session q own)
-          (free.0, room),
+      λ own. subst (λ name. (is_ended name past ≡ false) × ((is_begun name past ≡ true) × (length (ops_since name past ++ op ∷ []) ≤ MAX_OPERATIONS)))
+          (same-name session q own) (late, (free.0, room)),
       follow-lawful q past lawful.1,
     )
 
@@ -358,25 +406,31 @@ keeps-before (line.Begin session) past k =
       seals = k.seals;
     }
 keeps-before (line.Finish session committed) past k = record { transactions = k.transactions; sessions = k.sessions; keys = k.keys; seals = k.seals }
+keeps-before (line.Unknown session) past k = record { transactions = k.transactions; sessions = k.sessions; keys = k.keys; seals = k.seals }
 keeps-before (line.Operation session op) past k =
     record { transactions = k.transactions; sessions = k.sessions; keys = omega (arith, k.keys, no-longer (op_key op) (keys past)); seals = k.seals }
 
 free-after : (past : List Line) (l : Line) → Keeps (l ∷ past) → ((q : List ℕ) → FollowBy q (l ∷ past)) → fault_of past l ≡ None
 free-after past line.Seal k follow = let few = not-past MAX_SEALS _ k.seals in rw few refl
 free-after past (line.Begin session) k follow =
-    let closed : is_begun session past ≡ false = (follow session).0 (same-itself session) in
+    let (late, closed) = (follow session).0 (same-itself session) in
     let few = not-past MAX_SESSIONS _ k.sessions in
     let short = not-past MAX_TRANSACTIONS _ k.transactions in
-    rw (closed, few, short) refl
+    rw (late, closed, few, short) refl
 free-after past (line.Finish session committed) k follow =
-    let started : is_begun session past ≡ true = (follow session).0 (same-itself session) in
-    rw started refl
+    let (late, started) = (follow session).0 (same-itself session) in
+    rw (late, started) refl
+free-after past (line.Unknown session) k follow =
+    let (late, started) = (follow session).0 (same-itself session) in
+    rw (late, started) refl
 free-after past (line.Operation session op) k follow =
-    let (started, room) = (follow session).0 (same-itself session) in
+    let (late, standing) = (follow session).0 (same-itself session) in
+    let (started, room) = standing in
     let short : nat_lt MAX_OPERATIONS (length (ops_since session (line.Operation session op ∷ past))) ≡ false
     = not-past MAX_OPERATIONS _ (subst (λ ops. length ops ≤ MAX_OPERATIONS) (sym (own-ops session op past)) room) in
     let few = not-past MAX_KEYS _ k.keys in
-    by (is_begun session past) _ _ kind.NotBegun kind.TooManyOps kind.TooManyKeys started short few
+    ap (λ b. cond b (Some kind.SessionEnded) (fault_in_time Small past (line.Operation session op))) late
+    ∙ by (is_begun session past) _ _ kind.NotBegun kind.TooManyOps kind.TooManyKeys started short few
   where
     by : {X : Type 0} (a b c : Bool) (x y z : X) → a ≡ true → b ≡ false → c ≡ false → cond (not a) (Some x) (cond b (Some y) (cond c (Some z) None)) ≡ None
     by true false false x y z s t u = refl
@@ -434,7 +488,7 @@ ended-same some other same free = rw (none-open (λ q. is_begun q other) (sessio
 -- ---- records that are lines
 
 -- the record is within the limit on bytes, and a line
-abbrev IsLine : Record → Type 0
+abbrev pub IsLine : Record → Type 0
 IsLine fields = (is_cut fields ≡ false) × (l : Line) × (line_of fields ≡ Ok l)
 
 judged-clean : (past : List Line) (fields : Record) (last : Line) → judged past fields ≡ Ok last → is_cut fields ≡ false
@@ -445,10 +499,10 @@ judged-clean past fields last = by (is_cut fields) refl
     by false is e = is
 
 -- what records without a fault are
-record IsClean (past : List Line) (left : List Record) : Type 0 where
-  each : (fields : Record) → Contains left fields → IsLine fields
-  lawful : AreLawful Small (lines_after past left)
-  ended : fault_at_end (lines_after past left) ≡ None
+pub record IsClean (past : List Line) (left : List Record) : Type 0 where
+  pub each : (fields : Record) → Contains left fields → IsLine fields
+  pub lawful : AreLawful Small (lines_after past left)
+  pub ended : fault_at_end (lines_after past left) ≡ None
 
 same-fault : (o : Option Item) (ahead : Answers) → (after_item o ahead).fault ≡ ahead.fault
 same-fault None ahead = refl
@@ -458,7 +512,7 @@ head-or-later : {X : Type 0} (P : X → Type 0) (x : X) (xs : List X) → P x �
 head-or-later P x xs here later y (zero, l, e) = subst P e here
 head-or-later P x xs here later y (suc k, l, e) = later y (k, omega arith, e)
 
-clean-after : (left : List Record) (past : List Line) → AreLawful Small past → (answers_after past left).fault ≡ None → IsClean past left
+pub clean-after : (left : List Record) (past : List Line) → AreLawful Small past → (answers_after past left).fault ≡ None → IsClean past left
 clean-after [] past lawful free = record { each = λ fields inside. absurd (omega (arith, inside.1)); lawful = lawful; ended = free }
 clean-after (fields ∷ rest) past lawful free = by (judged past fields) refl free (clean-after rest)
   where
@@ -475,7 +529,7 @@ clean-after (fields ∷ rest) past lawful free = by (judged past fields) refl fr
           ended = rw is after.ended;
         }
 
-lawful-before : (left : List Record) (past : List Line) → AreLawful Small (lines_after past left) → AreLawful Small past
+pub lawful-before : (left : List Record) (past : List Line) → AreLawful Small (lines_after past left) → AreLawful Small past
 lawful-before [] past lawful = lawful
 lawful-before (fields ∷ rest) past lawful = by (line_of fields) (lawful-before rest (noted (line_of fields) past) lawful)
   where
@@ -530,17 +584,18 @@ sealed-by (word ∷ []) l e = by (same word (codes "seal")) e
     by true e = let at : line.Seal ≡ l = cc e in rw (← at) refl
     by false e = cc e
 sealed-by (session ∷ word ∷ []) l e =
-    by (is_some (name_fault session)) (same word (codes "begin")) (same word (codes "commit")) (same word (codes "abort")) e
+    by (is_some (name_fault session)) (same word (codes "begin")) (same word (codes "commit")) (same word (codes "abort")) (same word (codes "unknown")) e
   where
-    by : (a b c d : Bool)
+    by : (a b c d f : Bool)
         → cond a (Err kind.BadSession)
-        (cond b (Ok (line.Begin session)) (cond c (Ok (line.Finish session true)) (cond d (Ok (line.Finish session false)) (Err kind.UnknownWord)))) ≡ Ok l
+        (cond b (Ok (line.Begin session)) (cond c (Ok (line.Finish session true)) (cond d (Ok (line.Finish session false)) (cond f (Ok (line.Unknown session)) (Err kind.UnknownWord))))) ≡ Ok l
         → seals l ≡ false
-    by true b c d e = cc e
-    by false true c d e = let at : line.Begin session ≡ l = cc e in rw (← at) refl
-    by false false true d e = let at : line.Finish session true ≡ l = cc e in rw (← at) refl
-    by false false false true e = let at : line.Finish session false ≡ l = cc e in rw (← at) refl
-    by false false false false e = cc e
+    by true b c d f e = cc e
+    by false true c d f e = let at : line.Begin session ≡ l = cc e in rw (← at) refl
+    by false false true d f e = let at : line.Finish session true ≡ l = cc e in rw (← at) refl
+    by false false false true f e = let at : line.Finish session false ≡ l = cc e in rw (← at) refl
+    by false false false false true e = let at : line.Unknown session ≡ l = cc e in rw (← at) refl
+    by false false false false false e = cc e
 sealed-by (a ∷ b ∷ c ∷ []) l e = cc e
 sealed-by (session ∷ word ∷ key ∷ value ∷ []) l e =
     by (is_some (name_fault session)) (same word (codes "r")) (same word (codes "w")) e
@@ -584,6 +639,7 @@ unsealed-item : (past : List Line) (l : Line) (ahead : Answers) → seals l ≡ 
 unsealed-item past line.Seal ahead e = cc e
 unsealed-item past (line.Begin session) ahead e = refl
 unsealed-item past (line.Finish session committed) ahead e = refl
+unsealed-item past (line.Unknown session) ahead e = refl
 unsealed-item past (line.Operation session op) ahead e = refl
 
 unsealed-after : (left : List Record) (past : List Line) → records_by_none left ≡ [] → has_seal (answers_after past left).items ≡ false
@@ -602,4 +658,7 @@ unsealed-after (fields ∷ rest) past none = by (judged past fields) refl (unsea
         ∙ next (last ∷ past) first.1
 
 pub unsealed : (text : List ℕ) → records_by_none (records_of text) ≡ [] → has_seal (answers_of text).items ≡ false
-unsealed text none = unsealed-after (records_of text) [] none
+unsealed text none =
+    let given = given_within Small text in
+    none-sealed (answers_of text).items
+    (ap length (seals-settled (is_none given.fault) given.items finite.empty [] ∙ unsealed-none given.items (unsealed-after (records_of text) [] none)))

@@ -35,6 +35,7 @@ abbrev pub does : List ℕ → Line → Bool
 does q line.Seal = false
 does q (line.Begin session) = same session q
 does q (line.Finish session committed) = same session q
+does q (line.Unknown session) = same session q
 does q (line.Operation session op) = same session q
 
 abbrev pub noted : Result Line RowFaultKind → List Line → List Line
@@ -59,17 +60,18 @@ whose q (word ∷ []) l e = by (same word (codes "seal")) e
     by true e = let at : line.Seal ≡ l = cc e in rw (← at) refl
     by false e = cc e
 whose q (session ∷ word ∷ []) l e =
-    by (is_some (name_fault session)) (same word (codes "begin")) (same word (codes "commit")) (same word (codes "abort")) e
+    by (is_some (name_fault session)) (same word (codes "begin")) (same word (codes "commit")) (same word (codes "abort")) (same word (codes "unknown")) e
   where
-    by : (a b c d : Bool)
+    by : (a b c d f : Bool)
         → cond a (Err kind.BadSession)
-        (cond b (Ok (line.Begin session)) (cond c (Ok (line.Finish session true)) (cond d (Ok (line.Finish session false)) (Err kind.UnknownWord)))) ≡ Ok l
+        (cond b (Ok (line.Begin session)) (cond c (Ok (line.Finish session true)) (cond d (Ok (line.Finish session false)) (cond f (Ok (line.Unknown session)) (Err kind.UnknownWord))))) ≡ Ok l
         → does q l ≡ same session q
-    by true b c d e = cc e
-    by false true c d e = let at : line.Begin session ≡ l = cc e in rw (← at) refl
-    by false false true d e = let at : line.Finish session true ≡ l = cc e in rw (← at) refl
-    by false false false true e = let at : line.Finish session false ≡ l = cc e in rw (← at) refl
-    by false false false false e = cc e
+    by true b c d f e = cc e
+    by false true c d f e = let at : line.Begin session ≡ l = cc e in rw (← at) refl
+    by false false true d f e = let at : line.Finish session true ≡ l = cc e in rw (← at) refl
+    by false false false true f e = let at : line.Finish session false ≡ l = cc e in rw (← at) refl
+    by false false false false true e = let at : line.Unknown session ≡ l = cc e in rw (← at) refl
+    by false false false false false e = cc e
 whose q (a ∷ b ∷ c ∷ []) l e = cc e
 whose q (session ∷ word ∷ key ∷ value ∷ []) l e =
     by (is_some (name_fault session)) (same word (codes "r")) (same word (codes "w")) e
@@ -126,6 +128,7 @@ done q [] = None
 done q (line.Seal ∷ past) = done q past
 done q (line.Begin s ∷ past) = done q past
 done q (line.Finish s committed ∷ past) = one_more (same s q) (record { ops = ops_since q past; committed = committed }) (done q past)
+done q (line.Unknown s ∷ past) = done q past
 done q (line.Operation s op ∷ past) = done q past
 
 -- what lines say of a session: whether it has begun a transaction, its operations since its last mark, and what it has finished
@@ -144,12 +147,14 @@ after_line q (line.Finish s committed) x = (
   cond (same s q) [] (x.1 ++ []),
   one_more (same s q) (record { ops = x.1; committed = committed }) x.2,
 )
+after_line q (line.Unknown s) x = (cond (same s q) false x.0, cond (same s q) [] (x.1 ++ []), x.2)
 after_line q (line.Operation s op) x = (x.0, x.1 ++ cond (same s q) (op ∷ []) [], x.2)
 
 said-line : (q : List ℕ) (l : Line) (past : List Line) → said q (l ∷ past) ≡ after_line q l (said q past)
 said-line q line.Seal past = refl
 said-line q (line.Begin s) past = refl
 said-line q (line.Finish s committed) past = refl
+said-line q (line.Unknown s) past = refl
 said-line q (line.Operation s op) past = refl
 
 nothing-more : (x : Said) → (x.0, x.1 ++ [], x.2) ≡ x
@@ -160,6 +165,7 @@ said-other : (q : List ℕ) (l : Line) (x : Said) → does q l ≡ false → aft
 said-other q line.Seal x e = nothing-more x
 said-other q (line.Begin s) x e = rw e (nothing-more x)
 said-other q (line.Finish s committed) x e = rw e (nothing-more x)
+said-other q (line.Unknown s) x e = rw e (nothing-more x)
 said-other q (line.Operation s op) x e = rw e (nothing-more x)
 
 said-kept : (q : List ℕ) (past : List Line) → said q past ≡ said q (filter (does q) past)
@@ -186,6 +192,7 @@ get-done [] q = finite.get-empty _ q
 get-done (line.Seal ∷ past) q = ap (λ s. finite.get s q) (finished_in-push (items_in past) item.Seal) ∙ get-done past q
 get-done (line.Begin s ∷ past) q = get-done past q
 get-done (line.Operation s op ∷ past) q = get-done past q
+get-done (line.Unknown s ∷ past) q = ap (λ m. finite.get m q) (finished_in-push (items_in past) _) ∙ get-done past q
 get-done (line.Finish s committed ∷ past) q =
     let txn : Transaction = record { ops = ops_since s past; committed = committed } in
     let m = finished_by past in
@@ -247,14 +254,3 @@ items-of (fields ∷ rest) past free = by (judged past fields) refl free (items-
         let ahead = answers_after (last ∷ past) rest in
         rw (judged-line Small past fields last e)
         (more (item_of past last) (items_in past) ahead ∙ next (last ∷ past) (sym (same-fault (item_of past last) ahead) ∙ free))
-
--- what is finished by records without a fault
-pub finished-of : (text : List ℕ) → (answers_of text).fault ≡ None → finished_in (answers_of text).items ≡ finished_by (lines_after [] (records_of text))
-finished-of text free = ap finished_in (items-of (records_of text) [] free)
-
-pub interleaved-finished : (text other : List ℕ) → AreInterleaved (records_of text) (records_of other)
-    → (answers_of text).fault ≡ None → (answers_of other).fault ≡ None → finished_in (answers_of text).items ≡ finished_in (answers_of other).items
-interleaved-finished text other interleaved free clean =
-    finished-of text free
-    ∙ finished-same (lines_after [] (records_of text)) (lines_after [] (records_of other)) (same-lines (records_of text) (records_of other) interleaved)
-    ∙ sym (finished-of other clean)

@@ -7,12 +7,18 @@ mod Interleaving
 mod LeastOpen
 mod LimitFacts
 mod LineFacts
+mod Outcomes
 mod PastFacts
+mod PendingFacts
 mod PastLimit
+mod ReadsFacts
 mod RecordSteps
 mod RecordingSteps
 mod SealedAlike
+mod Settled
+mod SettlingLimits
 mod StandingFacts
 mod WorkedTexts
+mod WritesFacts
 pub mod BothLimits
 pub mod FailingFacts

@@ -70,6 +70,12 @@ begun-seen q (line.Finish s committed ∷ past) e = by (same s q) e (begun-seen 
         → list_any (same q) (sessions past) ≡ true
     by true e more = cc e
     by false e more = more e
+begun-seen q (line.Unknown s ∷ past) e = by (same s q) e (begun-seen q past)
+  where
+    by : (b : Bool) → cond b false (is_begun q past) ≡ true → (is_begun q past ≡ true → list_any (same q) (sessions past) ≡ true)
+        → list_any (same q) (sessions past) ≡ true
+    by true e more = cc e
+    by false e more = more e
 begun-seen q (line.Operation s op ∷ past) e = begun-seen q past e
 
 -- what the seats of the sessions say
@@ -101,6 +107,15 @@ seat-begun s q past = by (same s q) refl
 pub seat-finished : (s q : List ℕ) (committed : Bool) (past : List Line) → is_begun s past ≡ true
     → seat_of q (line.Finish s committed ∷ past) ≡ cond (same s q) (Some None) (seat_of q past)
 seat-finished s q committed past begun = by (same s q) refl
+  where
+    by : (b : Bool) → same s q ≡ b
+        → seat (cond b false (is_begun q past)) (cond b [] (ops_since q past ++ [])) (list_any (same q) (sessions past)) ≡ cond b (Some None) (seat_of q past)
+    by true e = rw (sym (list_any_congr nat_list_eq_equiv s q (sessions past) e) ∙ begun-seen s past begun) refl
+    by false e = rw (append-nil (ops_since q past)) refl
+
+pub seat-left : (s q : List ℕ) (past : List Line) → is_begun s past ≡ true
+    → seat_of q (line.Unknown s ∷ past) ≡ cond (same s q) (Some None) (seat_of q past)
+seat-left s q past begun = by (same s q) refl
   where
     by : (b : Bool) → same s q ≡ b
         → seat (cond b false (is_begun q past)) (cond b [] (ops_since q past ++ [])) (list_any (same q) (sessions past)) ≡ cond b (Some None) (seat_of q past)

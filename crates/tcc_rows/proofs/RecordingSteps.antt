@@ -1,21 +1,25 @@
 -- A recording after one more item.
-use Rattle.std.proofs.Common.{◌≡◌, ℕ, ◌+◌, ◌≤◌, false, List, [], ◌∷◌, ◌++◌, length, refl, sym, ap, subst, ◌∙◌}
+use Rattle.std.proofs.Common.{◌≡◌, ℕ, ◌+◌, ◌≤◌, true, false, List, [], ◌∷◌, ◌++◌, length, refl, sym, ap, subst, ◌∙◌}
 use Rattle.std.proofs.Common.{arith, Some, None, Option, Result, Ok, Err, inl, inr, append_assoc, append-nil}
 use Rattle.std.proofs.Common.{length-append}
-use Rattle.std.specs.Prelude.{◌||◌, IfErr, IsErrAnd, MatchResult, IfSome}
+use Rattle.std.specs.Prelude.{◌||◌, IfErr, IsErrAnd, MatchResult, IfSome, is_none, fold}
 use Rattle.std.specs.FinMap as map
 use Rattle.std.proofs.lemmas.List.Folds.{list_any-append}
 use Rattle.std.proofs.lemmas.Option.{none-some}
-use Rattle.tcc_rows.specs.Ahead.{IsAhead, TakesAnswer}
-use Rattle.tcc_rows.specs.Answers.{Answers, after_item, answers_after_within, answers_within, ending, records_within}
-use Rattle.tcc_rows.specs.Failing.{FailsAtWithin, items_before_within}
+use Rattle.tcc_rows.specs.Ahead.{IsAhead, IsAheadIn, TakesAnswer, ended_in, fault_in, has_ended}
+use Rattle.tcc_rows.specs.Answers.{Answers, after_item, answers_after_within, answers_to, answers_within, ending, records_within, settled, settled_behind}
+use Rattle.tcc_rows.specs.Failing.{FailsAtWithin, given_before_within, items_before_within}
 use Rattle.tcc_txn.specs.Finished.{IsWithinLimits, with_transaction}
 use Rattle.tcc_rows.specs.Items.{finished_in, with_item}
 use Rattle.tcc_rows.specs.Lines.{Record}
 use Rattle.tcc_rows.specs.Reached.{IsWithin, StandsBy, row_in, row_reached}
-use Rattle.tcc_rows.specs.Recordings.{FailsBehind, IsRecorded, IsRecording, Passes, TakesMoment, after_items, has_seal, is_seal}
+use Rattle.tcc_rows.specs.Recordings.{FailsBehind, HasSealsBefore, IsAtMoment, IsRecorded, IsRecording, Passes, TakesMoment, after_items, has_seal, is_seal, seals_in}
+use Rattle.tcc_rows.specs.Settling.{seen_among, shown, told, unseen_among, with_shown}
+use Rattle.tcc_rows.specs.private.Waiting.{AddsSome, IsUnderWay, IsUnsettled, PassesItems, given_at}
+use Rattle.tcc_txn.specs.Snapshots.{Sessions}
 use Rattle.tcc_txn.specs.Transactions.{Transaction}
 use Rattle.tcc_txn.specs.declared.limits.Limits.{Limits}
+use Rattle.tcc_rows.specs.declared.recording.Moment.{Moment}
 use Rattle.tcc_rows.specs.declared.recording.Moment.TheVariants as moment
 use Rattle.tcc_rows.specs.declared.recording.RecordingWithin.{RecordingWithin}
 use Rattle.tcc_rows.specs.declared.rows.Item.{Item}
@@ -26,17 +30,44 @@ use Rattle.tcc_rows.specs.declared.fault.RowFault.{RowFault}
 use Rattle.tcc_rows.specs.declared.fault.RowFaultKind.TheVariants as kind
 use Rattle.tcc_rows.specs.declared.rows.records.RecordsStage.{RecordsStage}
 use Rattle.tcc_rows.specs.declared.rows.records.RecordsStage.TheVariants as records_stage
-use Rattle.tcc_rows.proofs.FinishedFacts.{finished_in-push, limits-before}
+use Rattle.tcc_rows.proofs.FailingFacts.{items-before}
+use Rattle.tcc_rows.proofs.FinishedFacts.{finished_in-append, finished_in-push, fold-append, limits-before, within-before}
+use Rattle.tcc_rows.proofs.Settled.{as-taken, seals-append, seals-settled, told-unsealed, unsealed-none}
 use Rattle.tcc_rows.specs.declared.rows.Rows.{Rows}
 
 -- some items were passed since these were taken, and others are still to come
 abbrev pub HasPassed : {R B : Type 0} → Limits → (R → Option (List ℕ)) → RecordingWithin R B → List Item → Answers → Type 0
 HasPassed limits remaining recording taken ahead =
-    (passed : List Item) × (rest : Answers) × Passes ahead passed rest × IsRecording limits remaining recording (taken ++ passed) rest
+    (passed : List Item) × (rest : Answers) × Passes ahead passed rest × IsUnderWay limits remaining recording (taken ++ passed) rest
 
 -- some items of all were taken, and others are still to come
 abbrev pub HasTaken : {R B : Type 0} → Limits → (R → Option (List ℕ)) → RecordingWithin R B → Answers → Type 0
 HasTaken limits remaining recording all = (taken : List Item) × (ahead : Answers) × (all ≡ after_items taken ahead) × IsRecording limits remaining recording taken ahead
+
+pub no-reading : (fault : RowFault) → stage.Stopped fault ≡ stage.Reading → ⊥
+no-reading fault e = cc e
+
+pub not-ok : (fault : RowFault) → ◌≡◌ {A = Result Item RowFault} (Err fault) (Ok item.End) → ⊥
+not-ok fault e = cc e
+
+pub met-stopped : (p : Stage) (fault : RowFault) → fault_in p ≡ Some fault → p ≡ stage.Stopped fault
+met-stopped stage.Reading fault e = cc e
+met-stopped stage.Ended fault e = cc e
+met-stopped (stage.Stopped met) fault e = cc e
+
+-- where no fault and no end was met there may be more records
+pub at-moment : {X : Type 0} (p : Stage) → (p ≡ stage.Reading → X) → fault_in p ≡ None → (ended_in p ≡ true → ⊥) → X
+at-moment stage.Reading is fresh going = is refl
+at-moment stage.Ended is fresh going = absurd (going refl)
+at-moment (stage.Stopped fault) is fresh going = absurd (none-some fault (sym fresh))
+
+pub no-end-stopped : (fault : RowFault) → ended_in (stage.Stopped fault) ≡ true → ⊥
+no-end-stopped fault e = cc e
+
+ended-reading : (p : Stage) → ended_in p ≡ true → p ≡ stage.Reading → ⊥
+ended-reading stage.Reading e is = cc
+ended-reading stage.Ended e is = cc is
+ended-reading (stage.Stopped fault) e is = cc e
 
 module _ (limits : Limits) where
   limits-of : (xs ys : List Item) → xs ≡ ys → IsWithinLimits limits (finished_in xs) → IsWithinLimits limits (finished_in ys)
@@ -44,28 +75,36 @@ module _ (limits : Limits) where
 
   module _ {R : Type 0} (remaining : R → Option (List ℕ)) where
     -- nothing is taken yet
-    pub begins : {B : Type 0} (recording : RecordingWithin R B) (all : Answers) → IsAhead limits remaining recording.rows all → recording.snapshot ≡ map.empty
-        → IsWithinLimits limits (finished_in all.items) → IsRecording limits remaining recording [] all
-    begins recording all ahead none kept = record { answers = ahead; snapshot = none; limits_kept = kept }
-
-    -- one more item is taken
-    takes : {B : Type 0} (old new : RecordingWithin R B) (taken : List Item) (x : Item) (rest rest' : Answers) → IsRecording limits remaining old taken rest
-        → rest ≡ after_item (Some x) rest'
-        → IsAhead limits remaining new.rows rest' → new.snapshot ≡ with_item old.snapshot x → IsRecording limits remaining new (taken ++ x ∷ []) rest'
-    takes old new taken x rest rest' recording is ahead grown = record {
+    pub begins : {B : Type 0} (recording : RecordingWithin R B) (given : Answers) → IsAhead limits remaining recording.rows given → recording.snapshot ≡ map.empty
+        → recording.pending.items ≡ [] → IsWithinLimits limits (finished_in (settled given).items) → IsRecording limits remaining recording [] (settled given)
+    begins recording given ahead none nothing kept = record {
+      given = given;
       answers = ahead;
-      snapshot = grown ∙ ap (λ s. with_item s x) recording.snapshot ∙ sym (finished_in-push taken x);
-      limits_kept = limits-of (taken ++ rest.items) ((taken ++ x ∷ []) ++ rest'.items)
-          (ap (λ (ahead : Answers). taken ++ ahead.items) is ∙ sym (append_assoc taken (x ∷ []) rest'.items)) recording.limits_kept;
+      settles = λ i. settled_behind (sym none i) (sym nothing i) given;
+      snapshot = none;
+      limits_kept = kept;
+      moment = λ reading. inl refl;
+      closed = λ ended. nothing;
     }
 
+    -- at a moment or behind it
+    pub under-way : {B : Type 0} (recording : RecordingWithin R B) (taken : List Item) (ahead : Answers) → IsRecording limits remaining recording taken ahead
+        → IsUnderWay limits remaining recording taken ahead
+    under-way recording taken ahead is =
+        record { given = is.given; answers = is.answers; settles = is.settles; snapshot = is.snapshot; limits_kept = is.limits_kept }
+
     -- nothing more is taken
-    stays : {B : Type 0} (old new : RecordingWithin R B) (taken : List Item) (rest : Answers) (fault : Option RowFault) → IsRecording limits remaining old taken rest
-        → IsAhead limits remaining new.rows (ending fault) → new.snapshot ≡ old.snapshot → IsRecording limits remaining new taken (ending fault)
-    stays old new taken rest fault recording ahead same = record {
+    stays : {B : Type 0} (old new : RecordingWithin R B) (taken : List Item) (rest : Answers) (fault : RowFault) → IsUnderWay limits remaining old taken rest
+        → IsAhead limits remaining new.rows (ending (Some fault)) → new.snapshot ≡ old.snapshot → new.rows.stage ≡ stage.Stopped fault
+        → IsRecording limits remaining new taken (ending (Some fault))
+    stays old new taken rest fault recording ahead same stopped = record {
+      given = ending (Some fault);
       answers = ahead;
+      settles = refl;
       snapshot = same ∙ recording.snapshot;
       limits_kept = limits-of taken (taken ++ []) (sym (append-nil taken)) (limits-before limits taken rest.items recording.limits_kept);
+      moment = λ reading. absurd (no-reading fault (sym stopped ∙ reading));
+      closed = λ ended. absurd (no-end-stopped fault (ap ended_in (sym stopped) ∙ ended));
     }
 
     -- one more item is passed
@@ -85,53 +124,111 @@ module _ (limits : Limits) where
       → IsRecording limits remaining recording taken ahead
       → HasPassed limits remaining recording taken ahead
   not-begun remaining taken ahead recording is =
-      ([], ahead, (refl, refl), subst (λ items. IsRecording limits remaining recording items ahead) (sym (append-nil taken)) is)
+      ([], ahead, (refl, refl), subst (λ items. IsUnderWay limits remaining recording items ahead) (sym (append-nil taken)) (under-way remaining recording taken ahead is))
 
   module _ {R B : Type 0} (remaining : R → Option (List ℕ)) (taken : List Item) (ahead : Answers) (old new : RecordingWithin R B)
       (way : HasPassed limits remaining old taken ahead) where
     -- the session has finished one more transaction
-    pub goes_on : (session : List ℕ) (txn : Transaction) → TakesAnswer limits remaining way.1 (Ok (item.Finished session txn)) new.rows
-        → new.snapshot ≡ with_transaction old.snapshot session txn → HasPassed limits remaining new taken ahead
-    goes_on session txn answer grown = (
-      way.0 ++ item.Finished session txn ∷ [],
-      answer.0,
-      passes remaining ahead way.0 (item.Finished session txn) way.1 answer.0 way.2 refl answer.1,
-      subst (λ items. IsRecording limits remaining new items answer.0) (append_assoc taken way.0 (item.Finished session txn ∷ []))
-          (takes remaining old new (taken ++ way.0) (item.Finished session txn) way.1 answer.0 way.3 answer.1 answer.2 grown),
+    pub goes_on : (session : List ℕ) (txn : Transaction) → TakesAnswer limits remaining way.3.given (Ok (item.Finished session txn)) new.rows
+        → new.snapshot ≡ with_transaction old.snapshot session txn → new.pending.items ≡ old.pending.items → HasPassed limits remaining new taken ahead
+    goes_on session txn answer grown waiting =
+        let next = settled_behind new.snapshot new.pending.items answer.0 in
+        let first : way.1 ≡ after_item (Some (item.Finished session txn)) next =
+        way.3.settles ∙ ap (settled_behind old.snapshot old.pending.items) answer.1
+        ∙ (λ i. after_item (Some (item.Finished session txn)) (settled_behind (sym grown i) (sym waiting i) answer.0)) in (
+          way.0 ++ item.Finished session txn ∷ [],
+          next,
+          passes remaining ahead way.0 (item.Finished session txn) way.1 next way.2 refl first,
+          record {
+            given = answer.0;
+            answers = answer.2;
+            settles = refl;
+            snapshot = grown ∙ ap (λ s. with_transaction s session txn) way.3.snapshot ∙ sym (finished_in-push (taken ++ way.0) (item.Finished session txn))
+                ∙ ap finished_in (append_assoc taken way.0 (item.Finished session txn ∷ []));
+            limits_kept = limits-of ((taken ++ way.0) ++ way.1.items) ((taken ++ (way.0 ++ item.Finished session txn ∷ [])) ++ next.items)
+                (ap (λ (rest : Answers). (taken ++ way.0) ++ rest.items) first ∙ sym (append_assoc (taken ++ way.0) (item.Finished session txn ∷ []) next.items)
+                ∙ ap (λ items. items ++ next.items) (append_assoc taken way.0 (item.Finished session txn ∷ []))) way.3.limits_kept;
+          },
+        )
+
+    -- nobody told how a transaction of the session ended
+    pub waits : (session : List ℕ) (txn : Transaction) → TakesAnswer limits remaining way.3.given (Ok (item.Unknown session txn)) new.rows
+        → new.snapshot ≡ old.snapshot → new.pending.items ≡ old.pending.items ++ (session, txn) ∷ [] → HasPassed limits remaining new taken ahead
+    waits session txn answer same waiting = (
+      way.0,
+      way.1,
+      way.2,
+      record {
+        given = answer.0;
+        answers = answer.2;
+        settles = way.3.settles ∙ ap (settled_behind old.snapshot old.pending.items) answer.1 ∙ (λ i. settled_behind (sym same i) (sym waiting i) answer.0);
+        snapshot = same ∙ way.3.snapshot;
+        limits_kept = way.3.limits_kept;
+      },
     )
 
     -- the snapshot with it keeps the limits
-    pub has-room : (session : List ℕ) (txn : Transaction) (rows : Rows R) → TakesAnswer limits remaining way.1 (Ok (item.Finished session txn)) rows
+    pub has-room : (session : List ℕ) (txn : Transaction) (rows : Rows R) → TakesAnswer limits remaining way.3.given (Ok (item.Finished session txn)) rows
         → IsWithinLimits limits (with_transaction old.snapshot session txn)
     has-room session txn rows answer =
         let last : Item = item.Finished session txn in
-        let kept = limits-of ((taken ++ way.0) ++ way.1.items) (((taken ++ way.0) ++ last ∷ []) ++ answer.0.items)
-        (ap (λ (rest : Answers). (taken ++ way.0) ++ rest.items) answer.1 ∙ sym (append_assoc (taken ++ way.0) (last ∷ []) answer.0.items)) way.3.limits_kept in
+        let next = settled_behind (with_transaction old.snapshot session txn) old.pending.items answer.0 in
+        let first : way.1 ≡ after_item (Some last) next = way.3.settles ∙ ap (settled_behind old.snapshot old.pending.items) answer.1 in
+        let kept = limits-of ((taken ++ way.0) ++ way.1.items) (((taken ++ way.0) ++ last ∷ []) ++ next.items)
+        (ap (λ (rest : Answers). (taken ++ way.0) ++ rest.items) first ∙ sym (append_assoc (taken ++ way.0) (last ∷ []) next.items)) way.3.limits_kept in
         subst (IsWithinLimits limits) (finished_in-push (taken ++ way.0) last ∙ ap (λ s. with_item s last) (sym way.3.snapshot))
-        (limits-before limits ((taken ++ way.0) ++ last ∷ []) answer.0.items kept)
+        (limits-before limits ((taken ++ way.0) ++ last ∷ []) next.items kept)
 
-    pub comes_to_seal : TakesAnswer limits remaining way.1 (Ok item.Seal) new.rows → new.snapshot ≡ old.snapshot → TakesMoment limits remaining taken ahead (Ok moment.Seal) new
-    comes_to_seal answer same = (
-      way.0,
-      answer.0,
-      (way.2.0, way.2.1 ∙ ap (after_items way.0) answer.1),
-      subst (λ items. IsRecording limits remaining new items answer.0) (append_assoc taken way.0 (item.Seal ∷ []))
-          (takes remaining old new (taken ++ way.0) item.Seal way.1 answer.0 way.3 answer.1 answer.2 same),
-    )
+    whole-kept : IsWithinLimits limits (finished_in (taken ++ ahead.items))
+    whole-kept =
+        limits-of ((taken ++ way.0) ++ way.1.items) (taken ++ ahead.items)
+        (append_assoc taken way.0 way.1.items ∙ ap (λ items. taken ++ items) (sym (ap (λ (a : Answers). a.items) way.2.1))) way.3.limits_kept
 
-    pub comes_to_end : TakesAnswer limits remaining way.1 (Ok item.End) new.rows → new.snapshot ≡ old.snapshot → TakesMoment limits remaining taken ahead (Ok moment.End) new
-    comes_to_end answer same =
-        (way.0, (way.2.0, way.2.1 ∙ ap (after_items way.0) answer.0), stays remaining old new (taken ++ way.0) way.1 None way.3 answer.1 same)
+    -- the rows have come to a seal, or to the end
+    pub comes_to_seal : TakesAnswer limits remaining way.3.given (Ok item.Seal) new.rows → new.snapshot ≡ old.snapshot → new.pending.items ≡ old.pending.items
+        → PassesItems limits remaining taken ahead (Ok moment.Seal) new
+    comes_to_seal answer same waiting = record {
+      passed = way.0;
+      given = answer.0;
+      passes = (
+        way.2.0,
+        way.2.1 ∙ ap (after_items way.0) (way.3.settles ∙ ap (settled_behind old.snapshot old.pending.items) answer.1
+            ∙ (λ i. settled_behind (sym same i) (sym waiting i) (after_item (Some item.Seal) answer.0))),
+      );
+      answers = answer.2;
+      last = λ e. cc e;
+      snapshot = same ∙ way.3.snapshot;
+      limits_kept = whole-kept;
+    }
 
-    pub stops : (fault : RowFault) → TakesAnswer limits remaining way.1 (Err fault) new.rows → new.snapshot ≡ old.snapshot
+    pub comes_to_end : TakesAnswer limits remaining way.3.given (Ok item.End) new.rows → new.snapshot ≡ old.snapshot → new.pending.items ≡ old.pending.items
+        → PassesItems limits remaining taken ahead (Ok moment.End) new
+    comes_to_end answer same waiting = record {
+      passed = way.0;
+      given = ending None;
+      passes = (
+        way.2.0,
+        way.2.1 ∙ ap (after_items way.0) (way.3.settles ∙ ap (settled_behind old.snapshot old.pending.items) answer.0
+            ∙ (λ i. settled_behind (sym same i) (sym waiting i) (ending None))),
+      );
+      answers = answer.1;
+      last = λ e. refl;
+      snapshot = same ∙ way.3.snapshot;
+      limits_kept = whole-kept;
+    }
+
+    pub stops : (fault : RowFault) → TakesAnswer limits remaining way.3.given (Err fault) new.rows → new.snapshot ≡ old.snapshot → new.rows.stage ≡ stage.Stopped fault
         → TakesMoment limits remaining taken ahead (Err fault) new
-    stops fault answer same = (
+    stops fault answer same stopped = (
       way.0,
       way.1,
       way.2,
       elim answer.0 [
-        | inl faulty ↦ inl (faulty, stays remaining old new (taken ++ way.0) way.1 (Some fault) way.3 answer.1 same)
-        | inr fails ↦ inr (fails.0, way.0, [], sym (append-nil way.0), stays remaining old new (taken ++ way.0) way.1 (Some fault) way.3 answer.1 same)
+        | inl faulty ↦ inl (
+          way.3.settles ∙ ap (settled_behind old.snapshot old.pending.items) faulty,
+          stays remaining old new (taken ++ way.0) way.1 fault way.3 answer.1 same stopped,
+        )
+        | inr fails ↦ inr (fails.0, way.0, [], sym (append-nil way.0), stays remaining old new (taken ++ way.0) way.1 fault way.3 answer.1 same stopped)
       ],
     )
 
@@ -147,29 +244,209 @@ module _ (limits : Limits) where
         way.0,
         [],
         sym (append-nil way.0),
-        stays remaining old new (taken ++ way.0) way.1 (Some fault) way.3
-            (rw stopped refl) same,
+        stays remaining old new (taken ++ way.0) way.1 fault way.3
+            (rw stopped refl) same stopped,
       ),
     )
 
     -- memory is refused for one more transaction
-    pub loses_one : (session : List ℕ) (txn : Transaction) (rows : Rows R) (fault : RowFault) → TakesAnswer limits remaining way.1 (Ok (item.Finished session txn)) rows
+    pub loses_one : (session : List ℕ) (txn : Transaction) (rows : Rows R) (fault : RowFault) → TakesAnswer limits remaining way.3.given (Ok (item.Finished session txn)) rows
         → fault.kind ≡ kind.NoMemory → new.rows.stage ≡ stage.Stopped fault → new.snapshot ≡ old.snapshot → TakesMoment limits remaining taken ahead (Err fault) new
-    loses_one session txn rows fault answer memory stopped same = (
-      way.0 ++ item.Finished session txn ∷ [],
-      answer.0,
-      passes remaining ahead way.0 (item.Finished session txn) way.1 answer.0 way.2 refl answer.1,
-      inr (inr memory, way.0, item.Finished session txn ∷ [], refl, stays remaining old new (taken ++ way.0) way.1 (Some fault) way.3 (rw stopped refl) same),
-    )
+    loses_one session txn rows fault answer memory stopped same =
+        let next = settled_behind (with_transaction old.snapshot session txn) old.pending.items answer.0 in
+        let first : way.1 ≡ after_item (Some (item.Finished session txn)) next = way.3.settles ∙ ap (settled_behind old.snapshot old.pending.items) answer.1 in (
+          way.0 ++ item.Finished session txn ∷ [],
+          next,
+          passes remaining ahead way.0 (item.Finished session txn) way.1 next way.2 refl first,
+          inr (inr memory, way.0, item.Finished session txn ∷ [], refl, stays remaining old new (taken ++ way.0) way.1 fault way.3 (rw stopped refl) same stopped),
+        )
 
     -- the reading of one more record fails
-    pub fails-behind : (row : ℕ) (all : List Record) → answers_after_within limits [] all ≡ after_items taken ahead
-        → (answers_after_within limits [] all ≡ after_items (taken ++ way.0) way.1 → FailsAtWithin limits row all × (taken ++ way.0 ≡ items_before_within limits row all)) → FailsBehind limits taken row all
-    fails-behind row all answers next =
-        let whole : answers_after_within limits [] all ≡ after_items (taken ++ way.0) way.1
-        = answers ∙ ap (after_items taken) way.2.1 ∙ ap (λ items. record { items = items; fault = way.1.fault }) (sym (append_assoc taken way.0 way.1.items)) in
-        let at = next whole in
-        (at.0, way.0, way.2.0, sym at.1)
+    pub fails-behind : (row : ℕ) (all : List Record) → IsAtMoment taken → answers_to limits all ≡ after_items taken ahead
+        → ((answers_after_within limits [] all).fault ≡ way.3.given.fault → FailsAtWithin limits row all × HasSealsBefore limits row all way.3.given)
+        → FailsBehind limits taken row all
+    fails-behind row all moment answers next =
+        let rest : ahead ≡ after_items way.0 (settled_behind old.snapshot old.pending.items way.3.given) = way.2.1 ∙ ap (after_items way.0) way.3.settles in
+        let fault : (answers_after_within limits [] all).fault ≡ way.3.given.fault = ap (λ (a : Answers). a.fault) (answers ∙ ap (after_items taken) rest) in
+        let at = next fault in
+        let (more, before) = items-before limits row all at.0.1 in
+        let items : taken ++ ahead.items ≡ items_before_within limits row all ++ more = sym (ap (λ (a : Answers). a.items) answers) ∙ before in
+        let ends = is_none (answers_after_within limits [] all).fault in
+        let seals_all : seals_in (taken ++ ahead.items) ≡ seals_in (given_before_within limits row all) ++ seals_in way.3.given.items
+        = ap seals_in (sym (ap (λ (a : Answers). a.items) answers)) ∙ seals-settled ends (answers_after_within limits [] all).items map.empty [] ∙ at.1 in
+        let seals_before : seals_in (items_before_within limits row all) ≡ seals_in (given_before_within limits row all)
+        = seals-settled false (given_before_within limits row all) map.empty [] in
+        let seals_ahead : seals_in ahead.items ≡ seals_in way.3.given.items
+        = ap (λ (a : Answers). seals_in a.items) rest ∙ seals-append way.0 _ ∙ ap (λ items. items ++ seals_in (settled_behind old.snapshot old.pending.items way.3.given).items) (unsealed-none way.0 way.2.0)
+        ∙ seals-settled (is_none way.3.given.fault) way.3.given.items old.snapshot old.pending.items in
+        let many : length (seals_in taken) ≡ length (seals_in (items_before_within limits row all))
+        = omega (
+          arith,
+          ap length seals_all,
+          ap length (seals-append taken ahead.items),
+          length-append (seals_in taken) (seals_in ahead.items),
+          ap length seals_ahead,
+          length-append (seals_in (given_before_within limits row all)) (seals_in way.3.given.items),
+          ap length seals_before,
+        ) in
+        let (passed, unsealed, is) = as-taken taken (items_before_within limits row all) ahead.items more moment items many in
+        (at.0, passed, unsealed, is)
+
+  -- ---- at a moment, where nothing is settled yet
+
+  module _ {R B : Type 0} (remaining : R → Option (List ℕ)) (taken : List Item) (ahead : Answers) (m : Moment) (old new : RecordingWithin R B)
+      (way : IsUnsettled limits remaining taken ahead m old) where
+    abbrev now : List Item
+    now = shown old.snapshot old.pending.items
+
+    -- what comes behind those of which a value was read
+    abbrev behind_now : Moment → Answers
+    behind_now moment.Seal =
+        after_items (item.Seal ∷ []) (settled_behind (with_shown old.snapshot old.pending.items) (unseen_among old.snapshot old.pending.items) way.given)
+    behind_now moment.End = ending None
+
+    split-at : (at : Moment) → settled_behind old.snapshot old.pending.items (given_at at way.given) ≡ after_items now (behind_now at)
+    split-at moment.Seal = refl
+    split-at moment.End = ap (λ items. record { items = items; fault = None }) (sym (append-nil now))
+
+    ahead-now : ahead ≡ after_items (way.passed ++ now) (behind_now m)
+    ahead-now =
+        way.passes.1 ∙ ap (after_items way.passed) (split-at m)
+        ∙ ap (λ items. record { items = items; fault = (behind_now m).fault }) (sym (append_assoc way.passed now (behind_now m).items))
+
+    unsealed-now : has_seal (way.passed ++ now) ≡ false
+    unsealed-now = list_any-append is_seal way.passed now ∙ neither way.passes.0 (told-unsealed (seen_among old.snapshot old.pending.items))
+      where
+        neither : has_seal way.passed ≡ false → has_seal now ≡ false → (has_seal way.passed || has_seal now) ≡ false
+        neither a b = rw (a, b) refl
+
+    -- what is finished with some of them
+    with-some : (kept : List Item) → fold with_item old.snapshot kept ≡ finished_in (taken ++ (way.passed ++ kept))
+    with-some kept =
+        ap (λ s. fold with_item s kept) way.snapshot ∙ sym (finished_in-append (taken ++ way.passed) kept) ∙ ap finished_in (append_assoc taken way.passed kept)
+
+    limits-now : (kept lost : List Item) → now ≡ kept ++ lost → IsWithinLimits limits (finished_in (taken ++ (way.passed ++ kept)))
+    limits-now kept lost is =
+        limits-before limits (taken ++ (way.passed ++ kept)) (lost ++ (behind_now m).items)
+        (limits-of (taken ++ ahead.items) ((taken ++ (way.passed ++ kept)) ++ (lost ++ (behind_now m).items))
+        (ap (λ (a : Answers). taken ++ a.items) ahead-now ∙ ap (λ items. taken ++ ((way.passed ++ items) ++ (behind_now m).items)) is
+        ∙ ap (λ items. taken ++ items) (append_assoc way.passed (kept ++ lost) (behind_now m).items
+        ∙ ap (λ items. way.passed ++ items) (append_assoc kept lost (behind_now m).items) ∙ sym (append_assoc way.passed kept (lost ++ (behind_now m).items)))
+        ∙ sym (append_assoc taken (way.passed ++ kept) (lost ++ (behind_now m).items)))
+        way.limits_kept)
+
+    pub room-now : IsWithinLimits limits (with_shown old.snapshot old.pending.items)
+    room-now = subst (IsWithinLimits limits) (sym (with-some now)) (limits-now now [] (sym (append-nil now)))
+
+    -- memory is refused for one of them
+    pub loses_shown : (fault : RowFault) → fault.kind ≡ kind.NoMemory → new.rows.stage ≡ stage.Stopped fault → AddsSome old.snapshot now new.snapshot
+        → TakesMoment limits remaining taken ahead (Err fault) new
+    loses_shown fault memory stopped (kept, lost, is, grown) = (
+      way.passed ++ now,
+      behind_now m,
+      (unsealed-now, ahead-now),
+      inr (
+        inr memory,
+        way.passed ++ kept,
+        lost,
+        ap (λ items. way.passed ++ items) is ∙ sym (append_assoc way.passed kept lost),
+        record {
+          given = ending (Some fault);
+          answers = rw stopped refl;
+          settles = refl;
+          snapshot = grown ∙ with-some kept;
+          limits_kept = limits-of (taken ++ (way.passed ++ kept)) ((taken ++ (way.passed ++ kept)) ++ []) (sym (append-nil (taken ++ (way.passed ++ kept)))) (limits-now kept lost is);
+          moment = λ reading. absurd (no-reading fault (sym stopped ∙ reading));
+          closed = λ ended. absurd (no-end-stopped fault (ap ended_in (sym stopped) ∙ ended));
+        },
+      ),
+    )
+
+    module _ (grown : new.snapshot ≡ with_shown old.snapshot old.pending.items) (kept : new.rows ≡ old.rows) where
+      ahead-kept : IsAhead limits remaining new.rows way.given
+      ahead-kept = subst (λ rows. IsAhead limits remaining rows way.given) (sym kept) way.answers
+
+      -- at a seal
+      pub settled-seal : m ≡ moment.Seal → new.pending.items ≡ unseen_among old.snapshot old.pending.items → new.rows.stage ≡ stage.Reading
+          → TakesMoment limits remaining taken ahead (Ok moment.Seal) new
+      settled-seal at left reading =
+          let rest = settled_behind new.snapshot new.pending.items way.given in
+          let last : behind_now m ≡ after_items (item.Seal ∷ []) rest
+          = ap behind_now at ∙ (λ i. after_items (item.Seal ∷ []) (settled_behind (sym grown i) (sym left i) way.given)) in
+          let whole : ahead ≡ after_items (way.passed ++ now) (after_items (item.Seal ∷ []) rest) = ahead-now ∙ ap (after_items (way.passed ++ now)) last in
+          let all = taken ++ ((way.passed ++ now) ++ item.Seal ∷ []) in
+          let pushed : (taken ++ (way.passed ++ now)) ++ item.Seal ∷ [] ≡ all = append_assoc taken (way.passed ++ now) (item.Seal ∷ []) in (
+            way.passed ++ now,
+            rest,
+            (unsealed-now, whole),
+            record {
+              given = way.given;
+              answers = ahead-kept;
+              settles = refl;
+              snapshot = grown ∙ with-some now ∙ sym (finished_in-push (taken ++ (way.passed ++ now)) item.Seal) ∙ ap finished_in pushed;
+              limits_kept = limits-of (taken ++ ahead.items) (all ++ rest.items)
+                  (ap (λ (a : Answers). taken ++ a.items) whole ∙ ap (λ items. taken ++ items) (sym (append_assoc (way.passed ++ now) (item.Seal ∷ []) rest.items))
+                  ∙ sym (append_assoc taken ((way.passed ++ now) ++ item.Seal ∷ []) rest.items)) way.limits_kept;
+              moment = λ _. inr (taken ++ (way.passed ++ now), sym pushed);
+              closed = λ ended. absurd (ended-reading new.rows.stage ended reading);
+            },
+          )
+
+      -- at the end
+      pub settled-end : m ≡ moment.End → new.pending.items ≡ [] → has_ended new.rows ≡ true → TakesMoment limits remaining taken ahead (Ok moment.End) new
+      settled-end at none ended = (
+        way.passed ++ now,
+        (unsealed-now, ahead-now ∙ ap (λ n. after_items (way.passed ++ now) (behind_now n)) at),
+        record {
+          given = ending None;
+          answers = subst (IsAhead limits remaining new.rows) (way.last at) ahead-kept;
+          settles = λ i. settled_behind new.snapshot (sym none i) (ending None);
+          snapshot = grown ∙ with-some now;
+          limits_kept = limits-of (taken ++ (way.passed ++ now)) ((taken ++ (way.passed ++ now)) ++ []) (sym (append-nil (taken ++ (way.passed ++ now))))
+              (limits-now now [] (sym (append-nil now)));
+          moment = λ reading. absurd (ended-reading new.rows.stage ended reading);
+          closed = λ _. none;
+        },
+      )
+
+  -- after the end there is the end
+  pub ended-before : {R B : Type 0} (remaining : R → Option (List ℕ)) (taken : List Item) (ahead : Answers) (recording : RecordingWithin R B)
+      → IsRecording limits remaining recording taken ahead → has_ended recording.rows ≡ true → TakesMoment limits remaining taken ahead (Ok moment.End) recording
+  ended-before remaining taken ahead recording is ended =
+      let none : is.given ≡ ending None = by recording.rows.stage ended is.answers in
+      let last : ahead ≡ ending None = is.settles ∙ (λ i. settled_behind recording.snapshot (is.closed ended i) (none i)) in (
+        [],
+        (refl, last),
+        record {
+          given = is.given;
+          answers = is.answers;
+          settles = sym last ∙ is.settles;
+          snapshot = is.snapshot ∙ ap finished_in (sym (append-nil taken));
+          limits_kept = limits-of (taken ++ ahead.items) ((taken ++ []) ++ [])
+              (ap (λ (a : Answers). taken ++ a.items) last ∙ ap (λ items. items ++ []) (sym (append-nil taken))) is.limits_kept;
+          moment = λ reading. absurd (ended-reading recording.rows.stage ended reading);
+          closed = is.closed;
+        },
+      )
+    where
+      by : (p : Stage) → ended_in p ≡ true → IsAheadIn limits p remaining recording.rows is.given → is.given ≡ ending None
+      by stage.Reading e at = cc e
+      by stage.Ended e at = at
+      by (stage.Stopped fault) e at = cc e
+
+  -- one of several is added, as the first of those that are left
+  pub adds-one : (s : Sessions) (all rest more kept : List Item) (x : List ℕ × Transaction) → all ≡ kept ++ rest → rest ≡ told x ∷ more
+      → (all ≡ (kept ++ told x ∷ []) ++ more) × (with_transaction (fold with_item s kept) x.0 x.1 ≡ fold with_item s (kept ++ told x ∷ []))
+  adds-one s all rest more kept x whole first =
+      (whole ∙ ap (λ items. kept ++ items) first ∙ sym (append_assoc kept (told x ∷ []) more), sym (fold-append with_item s kept (told x ∷ [])))
+
+  pub room-one : (s : Sessions) (all rest more kept : List Item) (x : List ℕ × Transaction) → all ≡ kept ++ rest → rest ≡ told x ∷ more
+      → IsWithinLimits limits (fold with_item s all) → IsWithinLimits limits (with_transaction (fold with_item s kept) x.0 x.1)
+  room-one s all rest more kept x whole first kept_limits =
+      let (is, one) = adds-one s all rest more kept x whole first in
+      subst (IsWithinLimits limits) (sym one)
+      (within-before limits (fold with_item s (kept ++ told x ∷ [])) more
+      (subst (IsWithinLimits limits) (ap (fold with_item s) is ∙ fold-append with_item s (kept ++ told x ∷ []) more) kept_limits))
 
   -- what holds of a fault that is passed on
   pub if-err-of : {A : Type 0} (P : RowFault → Type 0) (r : Result A RowFault) (fault : RowFault) → IsErrAnd r (λ why. why ≡ fault) → P fault → IfErr r P
@@ -220,6 +497,16 @@ module _ (limits : Limits) where
   pub not-end : (given : Item) (session : List ℕ) (txn : Transaction) → ◌≡◌ {A = Result Item RowFault} (Ok given) (Ok item.End)
       → given ≡ item.Finished session txn → ⊥
   not-end given session txn end is = apart (ok-of end)
+    where
+      ok-of : ◌≡◌ {A = Result Item RowFault} (Ok given) (Ok item.End) → given ≡ item.End
+      ok-of e = cc
+
+      apart : given ≡ item.End → ⊥
+      apart e = cc
+
+  pub not-end-unknown : (given : Item) (session : List ℕ) (txn : Transaction) → ◌≡◌ {A = Result Item RowFault} (Ok given) (Ok item.End)
+      → given ≡ item.Unknown session txn → ⊥
+  not-end-unknown given session txn end is = apart (ok-of end)
     where
       ok-of : ◌≡◌ {A = Result Item RowFault} (Ok given) (Ok item.End) → given ≡ item.End
       ok-of e = cc

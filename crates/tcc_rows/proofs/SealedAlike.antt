@@ -1,7 +1,12 @@
 -- What records finish before each seal depends on the records of each session before it alone.
-use Rattle.std.proofs.Common.{◌≡◌, ℕ, zero, suc, ◌+◌, ◌≤◌, Bool, true, false, List, [], ◌∷◌, ◌++◌, filter, length, refl, sym, ap, ◌∙◌, arith}
+use Rattle.std.proofs.Common.{◌≡◌, ℕ, zero, suc, ◌+◌, ◌≤◌, Bool, true, false, List, [], ◌∷◌, ◌++◌, filter, length, refl, sym, ap, subst, ◌∙◌, arith}
 use Rattle.std.proofs.Common.{Option, None, Some, Result, Ok, Err, append_assoc, append-nil}
-use Rattle.tcc_rows.specs.Answers.{Answers, after_item, answers_of, go_on, records_of}
+use Rattle.tcc_rows.specs.Answers.{Answers, after_item, answers_of, given_within, go_on, records_of}
+use Rattle.std.specs.FinMap as finite
+use Rattle.std.specs.Prelude.{is_none, map}
+use Rattle.tcc_txn.specs.Finished.{with_transaction}
+use Rattle.tcc_txn.specs.Snapshots.{Sessions}
+use Rattle.tcc_rows.specs.Settling.{Pending, seen_among, settled_after, shown, told, unseen_among, with_shown}
 use Rattle.tcc_rows.specs.private.Words.{answers_after, judged}
 use Rattle.tcc_rows.specs.Items.{finished_in}
 use Rattle.tcc_rows.specs.Interleaved.{AreInterleaved, AreSealedAlike, is_by, is_by_none, records_by_none, records_until}
@@ -14,9 +19,11 @@ use Rattle.tcc_rows.specs.declared.rows.Item.TheVariants as item
 use Rattle.tcc_rows.specs.declared.fault.RowFaultKind.{RowFaultKind}
 use Rattle.tcc_rows.specs.Line.{Line}
 use Rattle.tcc_rows.specs.Line as line
-use Rattle.tcc_rows.proofs.FinishedFacts.{items_in, pushed}
-use Rattle.tcc_rows.proofs.Interleaving.{finished-same, judged-line, lines_after, noted, same-lines}
-use Rattle.tcc_rows.proofs.InterleavedFaults.{interleaved-lawful, sealed-by}
+use Rattle.tcc_rows.proofs.FinishedFacts.{AreLawful, items_in, pushed}
+use Rattle.tcc_rows.proofs.Interleaving.{items-of, judged-line, lines_after, noted, same-lines}
+use Rattle.tcc_rows.proofs.InterleavedFaults.{clean-after, interleaved-lawful, lawful-before, sealed-by}
+use Rattle.tcc_rows.proofs.Outcomes.{settled-same, settled_by}
+use Rattle.tcc_rows.proofs.Settled.{seals-settled}
 
 -- ---- one record more
 
@@ -38,12 +45,15 @@ item-other base past line.Seal ahead k e = cc e
 item-other base past (line.Begin session) ahead k e = refl
 item-other base past (line.Operation session op) ahead k e = refl
 item-other base past (line.Finish session committed) ahead zero e = sym (append_assoc base _ (items_until ahead.items zero))
+item-other base past (line.Unknown session) ahead zero e = sym (append_assoc base _ (items_until ahead.items zero))
 item-other base past (line.Finish session committed) ahead (suc k) e = sym (append_assoc base _ (items_until ahead.items (suc k)))
+item-other base past (line.Unknown session) ahead (suc k) e = sym (append_assoc base _ (items_until ahead.items (suc k)))
 
 item-first : (past : List Line) (l : Line) (ahead : Answers) → seals l ≡ true → items_until (after_item (item_of past l) ahead).items zero ≡ []
 item-first past line.Seal ahead e = refl
 item-first past (line.Begin session) ahead e = cc e
 item-first past (line.Finish session committed) ahead e = cc e
+item-first past (line.Unknown session) ahead e = cc e
 item-first past (line.Operation session op) ahead e = cc e
 
 item-later : (base : List Item) (past : List Line) (l : Line) (ahead : Answers) (k : ℕ) → seals l ≡ true
@@ -51,12 +61,14 @@ item-later : (base : List Item) (past : List Line) (l : Line) (ahead : Answers) 
 item-later base past line.Seal ahead k e = sym (append_assoc base (item.Seal ∷ []) (items_until ahead.items k))
 item-later base past (line.Begin session) ahead k e = cc e
 item-later base past (line.Finish session committed) ahead k e = cc e
+item-later base past (line.Unknown session) ahead k e = cc e
 item-later base past (line.Operation session op) ahead k e = cc e
 
 seal-other : (past : List Line) (l : Line) (ahead : Answers) → seals l ≡ false → seals_in (after_item (item_of past l) ahead).items ≡ seals_in ahead.items
 seal-other past line.Seal ahead e = cc e
 seal-other past (line.Begin session) ahead e = refl
 seal-other past (line.Finish session committed) ahead e = refl
+seal-other past (line.Unknown session) ahead e = refl
 seal-other past (line.Operation session op) ahead e = refl
 
 seal-first : (past : List Line) (l : Line) (ahead : Answers) → seals l ≡ true
@@ -64,6 +76,7 @@ seal-first : (past : List Line) (l : Line) (ahead : Answers) → seals l ≡ tru
 seal-first past line.Seal ahead e = refl
 seal-first past (line.Begin session) ahead e = cc e
 seal-first past (line.Finish session committed) ahead e = cc e
+seal-first past (line.Unknown session) ahead e = cc e
 seal-first past (line.Operation session op) ahead e = cc e
 
 same-fault : (o : Option Item) (ahead : Answers) → (after_item o ahead).fault ≡ ahead.fault
@@ -167,12 +180,92 @@ sealed-lawful text other alike free = interleaved-lawful text other (alike-inter
 pub sealed-seals : (text other : List ℕ) → AreSealedAlike (records_of text) (records_of other) → (answers_of text).fault ≡ None
     → seals_in (answers_of text).items ≡ seals_in (answers_of other).items
 sealed-seals text other alike free =
-    seals-of (records_of text) [] free ∙ ap sealed alike.seals ∙ sym (seals-of (records_of other) [] (sealed-lawful text other alike free))
+    seals-settled _ (given_within Small text).items finite.empty [] ∙ seals-of (records_of text) [] free ∙ ap sealed alike.seals
+    ∙ sym (seals-settled _ (given_within Small other).items finite.empty [] ∙ seals-of (records_of other) [] (sealed-lawful text other alike free))
+
+-- the records before a seal are the first of all
+until-first-of : (records : List Record) (k : ℕ) → (rest : List Record) × (records ≡ records_until records k ++ rest)
+until-first-of [] k = ([], refl)
+until-first-of (fields ∷ rest) zero = by (is_by_none fields) refl (until-first-of rest zero)
+  where
+    by : (b : Bool) → is_by_none fields ≡ b → (more : List Record) × (rest ≡ records_until rest zero ++ more)
+        → (more : List Record) × (fields ∷ rest ≡ records_until (fields ∷ rest) zero ++ more)
+    by true e (more, is) = (fields ∷ rest, ap (λ records. records ++ fields ∷ rest) (sym (until-first fields rest e)))
+    by false e (more, is) = (more, ap (λ records. fields ∷ records) is ∙ ap (λ records. records ++ more) (sym (until-other fields rest zero e)))
+until-first-of (fields ∷ rest) (suc k) = by (is_by_none fields) refl (until-first-of rest k) (until-first-of rest (suc k))
+  where
+    by : (b : Bool) → is_by_none fields ≡ b → (more : List Record) × (rest ≡ records_until rest k ++ more)
+        → (more : List Record) × (rest ≡ records_until rest (suc k) ++ more)
+        → (more : List Record) × (fields ∷ rest ≡ records_until (fields ∷ rest) (suc k) ++ more)
+    by true e (more, is) other = (more, ap (λ records. fields ∷ records) is ∙ ap (λ records. records ++ more) (sym (until-later fields rest k e)))
+    by false e one (more, is) = (more, ap (λ records. fields ∷ records) is ∙ ap (λ records. records ++ more) (sym (until-other fields rest (suc k) e)))
+
+lines-append : (xs ys : List Record) (past : List Line) → lines_after past (xs ++ ys) ≡ lines_after (lines_after past xs) ys
+lines-append [] ys past = refl
+lines-append (fields ∷ xs) ys past = lines-append xs ys (noted (line_of fields) past)
+
+lawful-until : (text : List ℕ) (k : ℕ) → (answers_of text).fault ≡ None → AreLawful Small (lines_after [] (records_until (records_of text) k))
+lawful-until text k free =
+    let (rest, is) = until-first-of (records_of text) k in
+    lawful-before rest (lines_after [] (records_until (records_of text) k))
+    (subst (AreLawful Small) (ap (lines_after []) is ∙ lines-append (records_until (records_of text) k) rest []) (clean-after (records_of text) [] tt free).lawful)
+
+-- settled items before a seal are those of the items before it
+until-told : (xs : Pending) (items : List Item) (k : ℕ) → items_until (map told xs ++ items) k ≡ map told xs ++ items_until items k
+until-told [] items k = refl
+until-told (x ∷ xs) items zero = ap (λ rest. told x ∷ rest) (until-told xs items zero)
+until-told (x ∷ xs) items (suc k) = ap (λ rest. told x ∷ rest) (until-told xs items (suc k))
+
+until-settled : (items : List Item) (k : ℕ) (s : Sessions) (pending : Pending)
+    → items_until (settled_after true s pending items) k ≡ settled_after true s pending (items_until items k)
+until-settled [] k s pending =
+    ap (λ items. items_until items k) (sym (append-nil (shown s pending))) ∙ until-told (seen_among s pending) [] k ∙ append-nil (shown s pending)
+until-settled (item.Finished session txn ∷ items) zero s pending =
+    ap (λ rest. item.Finished session txn ∷ rest) (until-settled items zero (with_transaction s session txn) pending)
+until-settled (item.Finished session txn ∷ items) (suc k) s pending =
+    ap (λ rest. item.Finished session txn ∷ rest) (until-settled items (suc k) (with_transaction s session txn) pending)
+until-settled (item.Unknown session txn ∷ items) zero s pending = until-settled items zero s (pending ++ (session, txn) ∷ [])
+until-settled (item.Unknown session txn ∷ items) (suc k) s pending = until-settled items (suc k) s (pending ++ (session, txn) ∷ [])
+until-settled (item.Seal ∷ items) zero s pending = until-told (seen_among s pending) _ zero ∙ append-nil (shown s pending)
+until-settled (item.Seal ∷ items) (suc k) s pending =
+    until-told (seen_among s pending) _ (suc k)
+    ∙ ap (λ rest. shown s pending ++ item.Seal ∷ rest) (until-settled items k (with_shown s pending) (unseen_among s pending))
+until-settled (item.End ∷ items) zero s pending = ap (λ rest. item.End ∷ rest) (until-settled items zero s pending)
+until-settled (item.End ∷ items) (suc k) s pending = ap (λ rest. item.End ∷ rest) (until-settled items (suc k) s pending)
+
+-- of records without a fault
+whole-items : (text : List ℕ) → (answers_of text).fault ≡ None
+    → (answers_of text).items ≡ settled_after true finite.empty [] (given_within Small text).items
+whole-items text free = ap (λ o. settled_after (is_none o) finite.empty [] (given_within Small text).items) free
+
+finished-until : (text : List ℕ) → (answers_of text).fault ≡ None → (k : ℕ)
+    → finished_in (items_until (answers_of text).items k) ≡ settled_by (lines_after [] (records_until (records_of text) k))
+finished-until text free k =
+    ap (λ items. finished_in (items_until items k)) (whole-items text free)
+    ∙ ap finished_in (until-settled (given_within Small text).items k finite.empty [])
+    ∙ ap (λ items. finished_in (settled_after true finite.empty [] items)) (items-until (records_of text) k [] free)
 
 pub sealed-finished : (text other : List ℕ) → AreSealedAlike (records_of text) (records_of other) → (answers_of text).fault ≡ None → (k : ℕ)
     → finished_in (items_until (answers_of text).items k) ≡ finished_in (items_until (answers_of other).items k)
 sealed-finished text other alike free k =
-    ap finished_in (items-until (records_of text) k [] free)
-    ∙ finished-same (lines_after [] (records_until (records_of text) k)) (lines_after [] (records_until (records_of other) k))
+    let clean = sealed-lawful text other alike free in
+    finished-until text free k
+    ∙ settled-same Small (lines_after [] (records_until (records_of text) k)) (lines_after [] (records_until (records_of other) k))
+    (lawful-until text k free) (lawful-until other k clean)
     (same-lines (records_until (records_of text) k) (records_until (records_of other) k) (alike.each k))
-    ∙ sym (ap finished_in (items-until (records_of other) k [] (sealed-lawful text other alike free)))
+    ∙ sym (finished-until other clean k)
+
+-- ---- wherever they seal
+
+finished-of : (text : List ℕ) → (answers_of text).fault ≡ None → finished_in (answers_of text).items ≡ settled_by (lines_after [] (records_of text))
+finished-of text free =
+    ap finished_in (whole-items text free)
+    ∙ ap (λ items. finished_in (settled_after true finite.empty [] items)) (items-of (records_of text) [] free)
+
+pub interleaved-finished : (text other : List ℕ) → AreInterleaved (records_of text) (records_of other)
+    → (answers_of text).fault ≡ None → (answers_of other).fault ≡ None → finished_in (answers_of text).items ≡ finished_in (answers_of other).items
+interleaved-finished text other interleaved free clean =
+    finished-of text free
+    ∙ settled-same Small (lines_after [] (records_of text)) (lines_after [] (records_of other)) (clean-after (records_of text) [] tt free).lawful
+    (clean-after (records_of other) [] tt clean).lawful (same-lines (records_of text) (records_of other) interleaved)
+    ∙ sym (finished-of other clean)

@@ -1,19 +1,20 @@
 -- What is kept of the lines, after one more of them.
-use Rattle.std.proofs.Common.{◌≡◌, ℕ, ◌+◌, ◌<◌, ◌≤◌, ◌⊎◌, Bool, true, false, List, [], ◌∷◌, ◌++◌, length, Option, None}
+use Rattle.std.proofs.Common.{◌≡◌, ℕ, ◌+◌, ◌<◌, ◌≤◌, ◌⊎◌, Bool, true, false, ◌||◌, List, [], ◌∷◌, ◌++◌, length, Option, None}
 use Rattle.std.proofs.Common.{Some, Ok, Err, Result, length-append, refl, sym, ap, ◌∙◌, rules, arith, cond, nat_lt}
 use Rattle.std.proofs.Common.{inl, inr}
 use Rattle.std.specs.Prelude.{IsSome, is_some}
 use Rattle.std.specs.List.{list_any}
 use Rattle.std.specs.BTreeMap.{get, btree_map_len, Updates}
-use Rattle.std.specs.BTreeSet as set
-use Rattle.std.specs.BTreeSet.{contains, btree_set_len}
-use Rattle.std.specs.Ordering.{nat_cmp}
+use Rattle.std.specs.BTreeSet.{BTreeSet, contains}
+use Rattle.std.specs.Ordering.{is_eq, nat_cmp}
 use Rattle.std.specs.Cmp.Lexicographic.{slice_cmp, texts_ties}
 use Rattle.std.proofs.lemmas.Bool.Decides.{nat_tests}
 use Rattle.tcc_txn.specs.Limits.{most_keys, most_sessions, most_transactions}
 use Rattle.tcc_txn.specs.Bytes.{same}
-use Rattle.tcc_rows.specs.Past.{begin_count, fault_within, is_begun, keys, ops_since, sessions, with_name}
-use Rattle.tcc_rows.specs.Standing.{NameSet, Seats, HoldsNames, HoldsSeats, IsAfter, seat}
+use Rattle.tcc_txn.specs.Symbols.{is_symbol, with_symbol}
+use Rattle.tcc_txn.proofs.NumberedNames.{symbol-more}
+use Rattle.tcc_rows.specs.Past.{begin_count, fault_within, is_begun, is_ended, keys, ops_since, sessions, with_name}
+use Rattle.tcc_rows.specs.Standing.{Seats, HoldsEnded, HoldsNames, HoldsSeats, IsAfter, seat}
 use Rattle.tcc_rows.specs.private.Passing.{NotesName, PassesLine}
 use Rattle.tcc_txn.specs.Transactions.{op_key}
 use Rattle.tcc_txn.specs.declared.limits.Limits.{Limits}
@@ -24,7 +25,7 @@ use Rattle.tcc_rows.specs.declared.fault.RowFaultKind.TheVariants as kind
 use Rattle.tcc_rows.specs.Line.{Line}
 use Rattle.tcc_rows.specs.Line as line
 use Rattle.tcc_rows.specs.declared.rows.progress.Progress.{Progress}
-use Rattle.tcc_rows.proofs.PastFacts.{seat-begun, seat-finished, seat-free, seat-none, seat-taken}
+use Rattle.tcc_rows.proofs.PastFacts.{seat-begun, seat-finished, seat-free, seat-left, seat-none, seat-taken}
 use Rattle.tcc_rows.proofs.PastFacts.{same-itself, seat-operated, seen-noted, seen-other}
 use Rattle.tcc_rows.proofs.PastFacts.{with_name-new, with_name-seen}
 use Rattle.tcc_txn.specs.declared.limits.TheConstants.{MAX_OPERATIONS}
@@ -41,8 +42,23 @@ put : (old new : Seats) (s : List ℕ) (w : Option (Option (List Op))) → Updat
     → get (slice_cmp nat_cmp) new q ≡ cond (same s q) w (get (slice_cmp nat_cmp) old q)
 put old new s w updates q = updates.0 q ∙ ap (λ b. cond b w (get (slice_cmp nat_cmp) old q)) (sym (texts_ties s q))
 
+cond-or : (b c : Bool) → (b || c) ≡ cond b true c
+cond-or true c = refl
+cond-or false c = refl
+
 within : (m n : ℕ) → m ≤ n → nat_lt n m ≡ false
 within m n h = grind (arith, nat_tests)
+
+-- one more session has ended
+pub ended-more : (past : List Line) (s : List ℕ) (old new : BTreeSet (List ℕ)) → HoldsEnded past old
+    → ((q : List ℕ) → contains (slice_cmp nat_cmp) new q ≡ cond (is_eq (slice_cmp nat_cmp s q)) true (contains (slice_cmp nat_cmp) old q))
+    → HoldsEnded (line.Unknown s ∷ past) new
+ended-more past s old new holds more q =
+    more q ∙ ap (λ b. cond b true (contains (slice_cmp nat_cmp) old q)) (sym (texts_ties s q)) ∙ by (same s q) (contains (slice_cmp nat_cmp) old q) (holds q)
+  where
+    by : (a b : Bool) → b ≡ is_ended q past → cond a true b ≡ (a || is_ended q past)
+    by true b e = refl
+    by false b e = e
 
 module _ (limits : Limits) where
   -- a name among others that are held
@@ -53,24 +69,27 @@ module _ (limits : Limits) where
       by true e = sym (seen-noted key q names e)
       by false e = sym (seen-other key q names e)
 
-  -- a name that is new, and now held
-  pub names-noted : (names : List (List ℕ)) (key : List ℕ) (old new : NameSet) → HoldsNames limits names old
-      → contains (slice_cmp nat_cmp) old key ≡ false → btree_set_len old < most_keys limits
-      → set.Updates (slice_cmp nat_cmp) old new key true → btree_set_len new ≡ btree_set_len old + 1
-      → HoldsNames limits (with_name key names) new
-  names-noted names key old new holds absent room updates more =
-      let fresh : list_any (same key) names ≡ false = sym (holds.each key) ∙ absent in
-      let longer : with_name key names ≡ key ∷ names = with_name-new key names fresh in
-      record {
-        each = λ q. updates.0 q ∙ ap (λ b. cond b true (contains (slice_cmp nat_cmp) old q)) (sym (texts_ties key q)) ∙ rw (holds.each q) (noted key q names);
-        count = rw longer (omega (arith, more, holds.count));
-        few = rw longer (omega (arith, room, holds.count));
-      }
-
   -- a name that was held before
-  pub names-kept : (names : List (List ℕ)) (key : List ℕ) (set : NameSet) → HoldsNames limits names set
-      → contains (slice_cmp nat_cmp) set key ≡ true → HoldsNames limits (with_name key names) set
-  names-kept names key set holds there = rw (with_name-seen key names (sym (holds.each key) ∙ there)) holds
+  pub names-kept : (names : List (List ℕ)) (key : List ℕ) (table : List (List ℕ)) → HoldsNames limits names table
+      → is_symbol key table ≡ true → HoldsNames limits (with_name key names) table
+  names-kept names key table holds there = rw (with_name-seen key names (sym (holds.each key) ∙ there)) holds
+
+  -- a name that is held now, where there was room
+  pub names-noted : (names : List (List ℕ)) (key : List ℕ) (table : List (List ℕ)) → HoldsNames limits names table
+      → length table < most_keys limits → HoldsNames limits (with_name key names) (with_symbol key table)
+  names-noted names key table holds room = go (is_symbol key table) refl
+    where
+      go : (b : Bool) → is_symbol key table ≡ b → HoldsNames limits (with_name key names) (cond b table (table ++ key ∷ []))
+      go true there = names-kept names key table holds there
+      go false absent =
+          let longer : with_name key names ≡ key ∷ names = with_name-new key names (sym (holds.each key) ∙ absent) in
+          let put : with_symbol key table ≡ table ++ key ∷ [] = ap (λ b. cond b table (table ++ key ∷ [])) absent in
+          record {
+            each = λ q. ap (is_symbol q) (sym put) ∙ symbol-more table key q ∙ ap (λ b. same key q || b) (holds.each q)
+                ∙ cond-or (same key q) (list_any (same q) names) ∙ noted key q names;
+            count = rw longer (omega (arith, length-append table (key ∷ []), holds.count));
+            few = rw longer (omega (arith, room, holds.count));
+          }
 
   -- what a look at the seat of a session says of a begin
   pub begins-again : (past : List Line) (s : List ℕ) (seats : Seats) → HoldsSeats limits past seats
@@ -108,17 +127,17 @@ module _ (limits : Limits) where
 
   -- a transaction begins
   pub after-begin : (past : List Line) (s : List ℕ) (old new : Progress) → IsAfter limits past old
-      → is_begun s past ≡ false → length (with_name s (sessions past)) ≤ most_sessions limits
+      → is_ended s past ≡ false → is_begun s past ≡ false → length (with_name s (sessions past)) ≤ most_sessions limits
       → old.begun < most_transactions limits
       → Updates (slice_cmp nat_cmp) old.sessions new.sessions s (Some (Some []))
       → btree_map_len new.sessions ≡ btree_map_len old.sessions + cond (is_some (get (slice_cmp nat_cmp) old.sessions s)) 0 1
-      → new.keys ≡ old.keys → new.begun ≡ old.begun + 1 → new.seals ≡ old.seals → new.limits ≡ old.limits
+      → new.ended ≡ old.ended → new.keys ≡ old.keys → new.begun ≡ old.begun + 1 → new.seals ≡ old.seals → new.limits ≡ old.limits
       → (fault_within limits past (line.Begin s) ≡ None) × IsAfter limits (line.Begin s ∷ past) new
-  after-begin past s old new is free few room updates more keys_kept one_more seals_kept limits_kept =
+  after-begin past s old new is late free few room updates more ended_kept keys_kept one_more seals_kept limits_kept =
       let few_begun : begin_count past + 1 ≤ most_transactions limits = omega (arith, is.begun, room) in
       let sessions_fit : nat_lt (most_sessions limits) (length (with_name s (sessions past))) ≡ false = within _ _ few in
       let begins_fit : nat_lt (most_transactions limits) (begin_count past + 1) ≡ false = within _ _ few_begun in (
-        rw (free, sessions_fit, begins_fit) refl,
+        rw (late, free, sessions_fit, begins_fit) refl,
         record {
           kept = limits_kept ∙ is.kept;
           seats = record {
@@ -126,6 +145,7 @@ module _ (limits : Limits) where
             count = more ∙ one-more-session past s old.sessions is.seats free;
             few = few;
           };
+          ended = rw ended_kept is.ended;
           names = rw keys_kept is.names;
           begun = one_more ∙ ap (λ n. n + 1) is.begun;
           few_begun = few_begun;
@@ -136,14 +156,14 @@ module _ (limits : Limits) where
 
   -- a transaction is finished
   pub after-finish : (past : List Line) (s : List ℕ) (committed : Bool) (ops : List Op) (old new : Progress) → IsAfter limits past old
-      → get (slice_cmp nat_cmp) old.sessions s ≡ Some (Some ops)
+      → is_ended s past ≡ false → get (slice_cmp nat_cmp) old.sessions s ≡ Some (Some ops)
       → Updates (slice_cmp nat_cmp) old.sessions new.sessions s (Some None)
       → btree_map_len new.sessions ≡ btree_map_len old.sessions
-      → new.keys ≡ old.keys → new.begun ≡ old.begun → new.seals ≡ old.seals → new.limits ≡ old.limits
+      → new.ended ≡ old.ended → new.keys ≡ old.keys → new.begun ≡ old.begun → new.seals ≡ old.seals → new.limits ≡ old.limits
       → (fault_within limits past (line.Finish s committed) ≡ None) × IsAfter limits (line.Finish s committed ∷ past) new
-  after-finish past s committed ops old new is sits updates same_number keys_kept begun_kept seals_kept limits_kept =
+  after-finish past s committed ops old new is late sits updates same_number ended_kept keys_kept begun_kept seals_kept limits_kept =
       let taken = seat-taken _ _ _ _ (sym (is.seats.each s) ∙ sits) in (
-        rw taken.0 refl,
+        rw (late, taken.0) refl,
         record {
           kept = limits_kept ∙ is.kept;
           seats = record {
@@ -151,6 +171,33 @@ module _ (limits : Limits) where
             count = same_number ∙ is.seats.count;
             few = is.seats.few;
           };
+          ended = rw ended_kept is.ended;
+          names = rw keys_kept is.names;
+          begun = begun_kept ∙ is.begun;
+          few_begun = is.few_begun;
+          sealed = seals_kept ∙ is.sealed;
+          few_sealed = is.few_sealed;
+        },
+      )
+
+  -- a transaction ends, and nobody told how
+  pub after-leave : (past : List Line) (s : List ℕ) (ops : List Op) (old new : Progress) → IsAfter limits past old
+      → is_ended s past ≡ false → get (slice_cmp nat_cmp) old.sessions s ≡ Some (Some ops)
+      → Updates (slice_cmp nat_cmp) old.sessions new.sessions s (Some None)
+      → btree_map_len new.sessions ≡ btree_map_len old.sessions
+      → HoldsEnded (line.Unknown s ∷ past) new.ended → new.keys ≡ old.keys → new.begun ≡ old.begun → new.seals ≡ old.seals → new.limits ≡ old.limits
+      → (fault_within limits past (line.Unknown s) ≡ None) × IsAfter limits (line.Unknown s ∷ past) new
+  after-leave past s ops old new is late sits updates same_number one_more keys_kept begun_kept seals_kept limits_kept =
+      let taken = seat-taken _ _ _ _ (sym (is.seats.each s) ∙ sits) in (
+        rw (late, taken.0) refl,
+        record {
+          kept = limits_kept ∙ is.kept;
+          seats = record {
+            each = λ q. put old.sessions new.sessions s (Some None) updates q ∙ rw (is.seats.each q) (sym (seat-left s q past taken.0));
+            count = same_number ∙ is.seats.count;
+            few = is.seats.few;
+          };
+          ended = one_more;
           names = rw keys_kept is.names;
           begun = begun_kept ∙ is.begun;
           few_begun = is.few_begun;
@@ -168,31 +215,31 @@ module _ (limits : Limits) where
 
   -- an operation that is refused
   pub operation-refused : (past : List Line) (s : List ℕ) (op : Op) (k : RowFaultKind) (begun : Option (List Op)) (seats : Seats) (new : Option (List Op))
-      → HoldsSeats limits past seats → get (slice_cmp nat_cmp) seats s ≡ Some begun → AddsOp {U = Unit {0}} op begun (Err k) new
+      → is_ended s past ≡ false → HoldsSeats limits past seats → get (slice_cmp nat_cmp) seats s ≡ Some begun → AddsOp {U = Unit {0}} op begun (Err k) new
       → (fault_within limits past (line.Operation s op) ≡ Some k) ⊎ (k ≡ kind.NoMemory)
-  operation-refused past s op k None seats new holds sits refused =
+  operation-refused past s op k None seats new late holds sits refused =
       let free = seat-free _ _ _ (sym (holds.each s) ∙ sits) in
-      inl (rw (free.0, refused) refl)
-  operation-refused past s op k (Some ops) seats new holds sits (inl full) =
+      inl (rw (late, free.0, refused) refl)
+  operation-refused past s op k (Some ops) seats new late holds sits (inl full) =
       let there = begun-there past s seats ops holds sits in
       let many : nat_lt MAX_OPERATIONS (length (ops_since s (line.Operation s op ∷ past))) ≡ true =
       above _ _ (omega (arith, more-ops past s op, ap length there.1, full.1)) in
-      inl (rw (there.0, many, full.0) refl)
-  operation-refused past s op k (Some ops) seats new holds sits (inr want) = inr want
+      inl (rw (late, there.0, many, full.0) refl)
+  operation-refused past s op k (Some ops) seats new late holds sits (inr want) = inr want
 
-  fault-of-key : (past : List Line) (s : List ℕ) (op : Op) → is_begun s past ≡ true → length (ops_since s past) < MAX_OPERATIONS
+  fault-of-key : (past : List Line) (s : List ℕ) (op : Op) → is_ended s past ≡ false → is_begun s past ≡ true → length (ops_since s past) < MAX_OPERATIONS
       → fault_within limits past (line.Operation s op) ≡ cond (nat_lt (most_keys limits) (length (with_name (op_key op) (keys past)))) (Some kind.TooManyKeys) None
-  fault-of-key past s op begun room =
+  fault-of-key past s op late begun room =
       let few : nat_lt MAX_OPERATIONS (length (ops_since s (line.Operation s op ∷ past))) ≡ false = within _ _ (omega (arith, more-ops past s op)) in
-      rw (begun, few) refl
+      rw (late, begun, few) refl
 
   -- what comes of an operation that has its seat, by whether its key can be noted
-  pub after-operation : {U : Type 0} (past : List Line) (s : List ℕ) (op : Op) (old : Progress) (seats : Seats) (names : NameSet) (result : Result U RowFaultKind)
-      → IsAfter limits past old → Seated past s op old seats → NotesName limits (keys past) (op_key op) result names
-      → PassesLine limits past (line.Operation s op) result (record { limits = old.limits; sessions = seats; keys = names; begun = old.begun; seals = old.seals })
-  after-operation past s op old seats names (Ok done) is seated noted =
+  pub after-operation : {U : Type 0} (past : List Line) (s : List ℕ) (op : Op) (old : Progress) (seats : Seats) (names : List (List ℕ)) (result : Result U RowFaultKind)
+      → is_ended s past ≡ false → IsAfter limits past old → Seated past s op old seats → NotesName limits (keys past) (op_key op) result names
+      → PassesLine limits past (line.Operation s op) result (record { limits = old.limits; sessions = seats; ended = old.ended; keys = names; begun = old.begun; seals = old.seals })
+  after-operation past s op old seats names (Ok done) late is seated noted =
       let few : nat_lt (most_keys limits) (length (with_name (op_key op) (keys past))) ≡ false = within _ _ noted.few in (
-        fault-of-key past s op seated.begun seated.room ∙ rw few refl,
+        fault-of-key past s op late seated.begun seated.room ∙ rw few refl,
         record {
           kept = is.kept;
           seats = record {
@@ -200,6 +247,7 @@ module _ (limits : Limits) where
             count = seated.count ∙ is.seats.count;
             few = is.seats.few;
           };
+          ended = is.ended;
           names = noted;
           begun = is.begun;
           few_begun = is.few_begun;
@@ -207,10 +255,10 @@ module _ (limits : Limits) where
           few_sealed = is.few_sealed;
         },
       )
-  after-operation past s op old seats names (Err k) is seated (inl many) =
+  after-operation past s op old seats names (Err k) late is seated (inl many) =
       let over : nat_lt (most_keys limits) (length (with_name (op_key op) (keys past))) ≡ true = above _ _ many.1 in
-      inl (fault-of-key past s op seated.begun seated.room ∙ rw (over, many.0) refl)
-  after-operation past s op old seats names (Err k) is seated (inr want) = inr want
+      inl (fault-of-key past s op late seated.begun seated.room ∙ rw (over, many.0) refl)
+  after-operation past s op old seats names (Err k) late is seated (inr want) = inr want
 
   -- an operation that was added has its seat
   pub seated-added : {U : Type 0} (past : List Line) (s : List ℕ) (op : Op) (old : Progress) (seats : Seats) (begun new : Option (List Op)) (done : U)

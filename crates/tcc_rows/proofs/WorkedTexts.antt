@@ -1,11 +1,17 @@
 -- Texts and their answers, worked out by the definitions alone.
-use Rattle.std.proofs.Common.{◌≡◌, ℕ, zero, suc, List, [], ◌∷◌, true, false, None, Some, refl}
+use Rattle.std.proofs.Common.{◌≡◌, ◌∙◌, ◌||◌, ℕ, zero, suc, Bool, cond, List, [], ◌∷◌, map, true, false, None, Some, refl, ap}
 use Rattle.std.specs.Prelude.{codes, replicate}
 use Rattle.csv.specs.Machine.{next_record}
 use Rattle.csv.specs.Reading.{default_config, records, records_from, strip_bom}
-use Rattle.tcc_rows.specs.Answers.{Answers, answers_of}
+use Rattle.tcc_rows.specs.Answers.{Answers, answers_of, given_within}
+use Rattle.tcc_txn.specs.declared.limits.Limits.TheVariants.{Small}
 use Rattle.tcc_rows.specs.private.Words.{answers_after}
+use Rattle.std.specs.FinMap as finite
+use Rattle.tcc_txn.specs.Finished.{with_transaction}
+use Rattle.tcc_txn.specs.Transactions.{Transaction}
 use Rattle.tcc_rows.specs.ByteLimit.{marked}
+use Rattle.tcc_rows.specs.Settling.{is_read_by, is_seen, told}
+use Rattle.tcc_rows.proofs.ReadsFacts.{read-empty, read-with}
 use Rattle.tcc_rows.specs.Past.{fault_of}
 use Rattle.tcc_txn.specs.declared.op.Op.TheVariants.{Get, Put}
 use Rattle.tcc_rows.specs.declared.rows.Item.{Item}
@@ -54,6 +60,57 @@ interleaved : answers_of (codes "a,begin\nb,begin\na,r,x,0\nb,w,x,1\nb,abort\na,
     ∷ item.Finished (codes "a") (record { ops = Get (codes "x") 0 ∷ Get (codes "y") 18446744073709551615 ∷ []; committed = true }) ∷ []) 8 kind.UnknownWord
 unfolding next_record records_from strip_bom marked faulty
 interleaved = refl
+
+-- a session whose transaction ended, and nobody told how, has ended, whatever comes of it then; another one goes on
+ended :
+    (answers_of (codes "a,begin\na,unknown\na,begin\n") ≡ faulty [] 3 kind.SessionEnded)
+    × (answers_of (codes "a,begin\na,unknown\na,r,x,0\n") ≡ faulty [] 3 kind.SessionEnded)
+    × (answers_of (codes "a,begin\na,unknown\nb,begin\na,unknown\n") ≡ faulty [] 4 kind.SessionEnded)
+    × (answers_of (codes "a,unknown\n") ≡ faulty [] 1 kind.NotBegun)
+unfolding next_record records_from strip_bom marked faulty
+ended = (refl, refl, refl, refl)
+
+-- what such a transaction wrote is given; a seal and the end settle whether it counts
+given_unknown : given_within Small (codes "a,begin\na,r,y,1\na,w,x,7\na,unknown\nseal\n")
+    ≡ whole (item.Unknown (codes "a") (record { ops = Put (codes "x") 7 ∷ []; committed = true }) ∷ item.Seal ∷ [])
+unfolding next_record records_from strip_bom marked whole
+given_unknown = refl
+
+-- the reader of x, and the writer of unknown outcome
+abbrev reads_x : Bool → Transaction
+reads_x committed = record { ops = Get (codes "x") 7 ∷ []; committed = committed }
+
+abbrev writes_x : Transaction
+writes_x = record { ops = Put (codes "x") 7 ∷ []; committed = true }
+
+-- the writer, if it counts
+abbrev counts : Bool → List Item
+counts b = map told (cond b ((codes "a", writes_x) ∷ []) [])
+
+none-seen : is_seen finite.empty writes_x ≡ false
+none-seen = ap (λ b. b || false) (read-empty (codes "x", 7))
+
+seen-after : (committed : Bool) → is_seen (with_transaction finite.empty (codes "b") (reads_x committed)) writes_x
+    ≡ ((false || is_read_by (codes "x", 7) (reads_x committed)) || false)
+seen-after committed =
+    ap (λ b. b || false) (read-with (codes "x", 7) finite.empty (codes "b") (reads_x committed)
+    ∙ ap (λ b. b || is_read_by (codes "x", 7) (reads_x committed)) (read-empty (codes "x", 7)))
+
+-- nobody read a value of it
+unread : answers_of (codes "a,begin\na,w,x,7\na,unknown\n") ≡ whole []
+unfolding next_record records_from strip_bom marked whole
+unread = ap (λ b. whole (counts b)) none-seen
+
+-- a committed transaction did
+read : answers_of (codes "a,begin\na,w,x,7\na,unknown\nb,begin\nb,r,x,7\nb,commit\n")
+    ≡ whole (item.Finished (codes "b") (reads_x true) ∷ item.Finished (codes "a") writes_x ∷ [])
+unfolding next_record records_from strip_bom marked whole
+read = ap (λ b. whole (item.Finished (codes "b") (reads_x true) ∷ counts b)) (seen-after true)
+
+-- an aborted one did
+read_aborted : answers_of (codes "a,begin\na,w,x,7\na,unknown\nb,begin\nb,r,x,7\nb,abort\n") ≡ whole (item.Finished (codes "b") (reads_x false) ∷ [])
+unfolding next_record records_from strip_bom marked whole
+read_aborted = ap (λ b. whole (item.Finished (codes "b") (reads_x false) ∷ counts b)) (seen-after false)
 
 -- quotes, blank lines, carriage returns and a byte order mark are the records' business
 quoted : answers_of (239 ∷ 187 ∷ 191 ∷ codes "\"a\",begin\r\n\r\n\na,\"commit\"")

@@ -19,6 +19,7 @@ abbrev pub stage_after : Item → Stage
 stage_after item.End = stage.Ended
 stage_after item.Seal = stage.Reading
 stage_after (item.Finished name txn) = stage.Reading
+stage_after (item.Unknown name txn) = stage.Reading
 
 abbrev pub IsAheadIn : {R : Type 0} → Limits → Stage → (R → Option (List ℕ)) → Rows R → Answers → Type 0
 IsAheadIn limits stage.Reading remaining rows ahead = IsMidway limits remaining rows ahead
@@ -66,4 +67,6 @@ TakesAnswer limits remaining ahead (Ok item.End) new = (ahead ≡ ending None) �
 TakesAnswer limits remaining ahead (Ok item.Seal) new = (rest : Answers) × (ahead ≡ after_item (Some item.Seal) rest) × IsAhead limits remaining new rest
 TakesAnswer limits remaining ahead (Ok (item.Finished name txn)) new =
     (rest : Answers) × (ahead ≡ after_item (Some (item.Finished name txn)) rest) × IsAhead limits remaining new rest
+TakesAnswer limits remaining ahead (Ok (item.Unknown name txn)) new =
+    (rest : Answers) × (ahead ≡ after_item (Some (item.Unknown name txn)) rest) × IsAhead limits remaining new rest
 TakesAnswer limits remaining ahead (Err fault) new = FaultsIn limits ahead fault × IsAhead limits remaining new (ending (Some fault))

@@ -1,11 +1,14 @@
--- The answers to a list of records: the items in the order of their last records, and then the end or the first fault.
-use Rattle.std.specs.Prelude.{ℕ, ◌+◌, if◌then◌else◌, List, [], ◌∷◌, length, Option, None, Some, Result, Ok, Err, option_map}
+-- The answers to a list of records: what the records finish, in order, and the seals, and then the end or the first fault.
+use Rattle.std.specs.Prelude.{ℕ, ◌+◌, if◌then◌else◌, List, [], ◌∷◌, length, Option, None, Some, Result, Ok, Err, is_none, option_map}
+use Rattle.std.specs.FinMap.{empty}
 use Rattle.std.specs.Option.{option_map_or}
 use Rattle.csv.specs.Reading.{default_config, records, strip_bom}
 use Rattle.tcc_rows.specs.ByteLimit.{marked}
 use Rattle.tcc_txn.specs.Limits.{most_bytes}
 use Rattle.tcc_rows.specs.Lines.{Record, is_cut, line_of}
 use Rattle.tcc_rows.specs.Past.{fault_within, item_of, least, open_sessions}
+use Rattle.tcc_rows.specs.Settling.{Pending, settled_after}
+use Rattle.tcc_txn.specs.Snapshots.{Sessions}
 use Rattle.tcc_txn.specs.declared.limits.Limits.{Limits}
 use Rattle.tcc_txn.specs.declared.limits.Limits.TheVariants.{Small}
 use Rattle.tcc_rows.specs.declared.rows.Item.{Item}
@@ -44,7 +47,7 @@ abbrev pub go_on : List Line → (List Line → Answers) → Result Line RowFaul
 go_on past more (Ok last) = after_item (item_of past last) (more (last ∷ past))
 go_on past more (Err k) = ending (Some (record { row = length past + 1; kind = k }))
 
--- the answers to the records that follow lawful lines, which stand newest first
+-- what the records that follow lawful lines give one by one, in the order of their last records; the lines stand newest first
 abbrev pub answers_after_within : Limits → List Line → List Record → Answers
 answers_after_within limits past [] = ending (fault_at_end past)
 answers_after_within limits past (fields ∷ rest) = go_on past (λ lines. answers_after_within limits lines rest) (judged_within limits past fields)
@@ -53,9 +56,24 @@ answers_after_within limits past (fields ∷ rest) = go_on past (λ lines. answe
 abbrev pub records_within : Limits → List ℕ → List Record
 records_within limits text = records default_config (strip_bom (marked (most_bytes limits) text))
 
+-- what the records of a text give one by one
+abbrev pub given_within : Limits → List ℕ → Answers
+given_within limits text = answers_after_within limits [] (records_within limits text)
+
+-- answers in which those of unknown outcome are settled, where this is finished before and these are pending
+abbrev pub settled_behind : Sessions → Pending → Answers → Answers
+settled_behind s pending given = record { items = settled_after (is_none given.fault) s pending given.items; fault = given.fault }
+
+abbrev pub settled : Answers → Answers
+settled given = settled_behind empty [] given
+
+-- the answers to some records
+abbrev pub answers_to : Limits → List Record → Answers
+answers_to limits all = settled (answers_after_within limits [] all)
+
 -- the answers to a text
 abbrev pub answers_within : Limits → List ℕ → Answers
-answers_within limits text = answers_after_within limits [] (records_within limits text)
+answers_within limits text = answers_to limits (records_within limits text)
 
 -- ---- answers within the small limits
 

@@ -1,6 +1,8 @@
 -- Where the reading of a text's records fails: which of them were judged before, and what came of these.
-use Rattle.std.specs.Prelude.{ℕ, ◌+◌, ◌-◌, ◌≡◌, ◌≤◌, List, [], ◌∷◌, length, take, Ok}
+use Rattle.std.specs.Prelude.{ℕ, ◌+◌, ◌-◌, ◌≡◌, ◌≤◌, false, List, [], ◌∷◌, length, take, Ok}
+use Rattle.std.specs.FinMap.{empty}
 use Rattle.tcc_rows.specs.Answers.{answers_after_within, judged_within}
+use Rattle.tcc_rows.specs.Settling.{settled_after}
 use Rattle.tcc_rows.specs.Lines.{Record}
 use Rattle.tcc_txn.specs.declared.limits.Limits.{Limits}
 use Rattle.tcc_txn.specs.declared.limits.Limits.TheVariants.{Small}
@@ -17,9 +19,13 @@ AreLawfulWithin limits past (fields ∷ rest) =
 abbrev pub records_before : ℕ → List Record → List Record
 records_before row all = take (row - 1) all
 
+-- what the records before a row give one by one
+abbrev pub given_before_within : Limits → ℕ → List Record → List Item
+given_before_within limits row all = (answers_after_within limits [] (records_before row all)).items
+
 -- the items of the records before a row
 abbrev pub items_before_within : Limits → ℕ → List Record → List Item
-items_before_within limits row all = (answers_after_within limits [] (records_before row all)).items
+items_before_within limits row all = settled_after false empty [] (given_before_within limits row all)
 
 -- all records before the row were judged, and are lawful: the row is that of one more, whose reading fails
 abbrev pub FailsAtWithin : Limits → ℕ → List Record → Type 0

@@ -9,6 +9,7 @@ use Rattle.tcc_rows.specs.declared.rows.Item.TheVariants as item
 -- what is finished after one more item
 abbrev pub with_item : Sessions → Item → Sessions
 with_item s (item.Finished session txn) = with_transaction s session txn
+with_item s (item.Unknown session txn) = s
 with_item s item.Seal = s
 with_item s item.End = s
 

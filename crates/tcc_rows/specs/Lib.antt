@@ -10,6 +10,7 @@ pub mod Lines
 pub mod Past
 pub mod Reached
 pub mod Recordings
+pub mod Settling
 pub mod Midway
 pub mod RecordsLeft
 pub mod Standing

@@ -54,6 +54,7 @@ line_of (session ∷ word ∷ []) =
     if same word (codes "begin") then Ok (line.Begin session)
     else if same word (codes "commit") then Ok (line.Finish session true)
     else if same word (codes "abort") then Ok (line.Finish session false)
+    else if same word (codes "unknown") then Ok (line.Unknown session)
     else Err kind.UnknownWord
     )
 line_of (session ∷ word ∷ key ∷ value ∷ []) =

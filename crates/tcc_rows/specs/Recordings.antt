@@ -1,9 +1,9 @@
 -- How a recording stands to the items that it has taken and to the answers that are still to come.
 use Rattle.std.specs.Prelude.{ℕ, zero, suc, ◌+◌, ◌≡◌, ◌≤◌, ◌⊎◌, Bool, true, false, if◌then◌else◌, List, [], ◌∷◌, ◌++◌, length, filter, Option, None, Some, Result, Ok, Err}
 use Rattle.std.specs.List.{list_any}
-use Rattle.tcc_rows.specs.Ahead.{IsAhead, IsFailure}
-use Rattle.tcc_rows.specs.Answers.{Answers, answers_within, ending, records_within}
-use Rattle.tcc_rows.specs.Failing.{FailsAtWithin, items_before_within}
+use Rattle.tcc_rows.specs.Ahead.{IsAhead, IsFailure, has_ended}
+use Rattle.tcc_rows.specs.Answers.{Answers, answers_after_within, answers_within, ending, records_within, settled_behind}
+use Rattle.tcc_rows.specs.Failing.{FailsAtWithin, given_before_within, items_before_within}
 use Rattle.tcc_txn.specs.Finished.{IsWithinLimits}
 use Rattle.tcc_rows.specs.Items.{finished_in}
 use Rattle.tcc_rows.specs.Lines.{Record}
@@ -12,6 +12,7 @@ use Rattle.tcc_txn.specs.declared.limits.Limits.{Limits}
 use Rattle.tcc_rows.specs.declared.recording.Moment.{Moment}
 use Rattle.tcc_rows.specs.declared.recording.Moment.TheVariants as moment
 use Rattle.tcc_rows.specs.declared.recording.RecordingWithin.{RecordingWithin}
+use Rattle.tcc_rows.specs.declared.rows.Stage.TheVariants as stage
 use Rattle.tcc_rows.specs.declared.rows.Item.{Item}
 use Rattle.tcc_rows.specs.declared.rows.Item.TheVariants as item
 use Rattle.tcc_rows.specs.declared.fault.RowFault.{RowFault}
@@ -19,6 +20,7 @@ use Rattle.tcc_rows.specs.declared.fault.RowFaultKind.TheVariants as kind
 
 abbrev pub is_seal : Item → Bool
 is_seal (item.Finished session txn) = false
+is_seal (item.Unknown session txn) = false
 is_seal item.Seal = true
 is_seal item.End = false
 
@@ -39,12 +41,21 @@ items_until (first ∷ rest) (suc k) = first ∷ (if is_seal first then items_un
 abbrev pub after_items : List Item → Answers → Answers
 after_items items rest = record { items = items ++ rest.items; fault = rest.fault }
 
--- these items were taken, the snapshot is that of what they finish, and these answers are still to come, all within the limits
+-- nothing was taken yet, or a seal was taken last
+abbrev pub IsAtMoment : List Item → Type 0
+IsAtMoment taken = (taken ≡ []) ⊎ ((front : List Item) × (taken ≡ front ++ item.Seal ∷ []))
+
+-- these items were taken, the snapshot is that of what they finish, and these answers are still to come, all within the limits; while there may
+-- be more records, the recording is at a seal, or where it began, and behind the end nothing is pending
 pub record IsRecording (limits : Limits) {R B : Type 0} (remaining : R → Option (List ℕ)) (recording : RecordingWithin R B) (taken : List Item)
     (ahead : Answers) : Type 0 where
-  pub answers : IsAhead limits remaining recording.rows ahead
+  pub given : Answers
+  pub answers : IsAhead limits remaining recording.rows given
+  pub settles : ahead ≡ settled_behind recording.snapshot recording.pending.items given
   pub snapshot : recording.snapshot ≡ finished_in taken
   pub limits_kept : IsWithinLimits limits (finished_in (taken ++ ahead.items))
+  pub moment : recording.rows.stage ≡ stage.Reading → IsAtMoment taken
+  pub closed : has_ended recording.rows ≡ true → recording.pending.items ≡ []
 
 -- the first of the answers to come are these items without a seal, and then others
 abbrev pub Passes : Answers → List Item → Answers → Type 0
@@ -70,6 +81,11 @@ TakesMoment limits remaining taken ahead (Err fault) new = (passed : List Item) 
 abbrev pub FailsBehind : Limits → List Item → ℕ → List Record → Type 0
 FailsBehind limits taken row all =
     FailsAtWithin limits row all × (passed : List Item) × (has_seal passed ≡ false) × (items_before_within limits row all ≡ taken ++ passed)
+
+-- the seals of all records are those before a row, and then those among the answers to come
+abbrev pub HasSealsBefore : Limits → ℕ → List Record → Answers → Type 0
+HasSealsBefore limits row all ahead =
+    seals_in (answers_after_within limits [] all).items ≡ seals_in (given_before_within limits row all) ++ seals_in ahead.items
 
 -- what comes of a text: the snapshot of all that its records finish where they have no fault, else
 -- the fault; or its reading failed behind lawful records, or memory was refused at some record

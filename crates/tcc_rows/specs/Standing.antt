@@ -2,12 +2,13 @@
 use Rattle.std.specs.Prelude.{ℕ, ◌≡◌, ◌≤◌, Bool, if◌then◌else◌, List, length, Option, None, Some}
 use Rattle.std.specs.List.{list_any}
 use Rattle.std.specs.BTreeMap.{BTreeMap, btree_map_len, get}
-use Rattle.std.specs.BTreeSet.{BTreeSet, btree_set_len, contains}
+use Rattle.std.specs.BTreeSet.{BTreeSet, contains}
 use Rattle.std.specs.Ordering.{nat_cmp}
 use Rattle.std.specs.Cmp.Lexicographic.{slice_cmp}
 use Rattle.tcc_txn.specs.Limits.{most_keys, most_sessions, most_transactions}
 use Rattle.tcc_txn.specs.Bytes.{same}
-use Rattle.tcc_rows.specs.Past.{begin_count, is_begun, keys, ops_since, seal_count, sessions}
+use Rattle.tcc_txn.specs.Symbols.{is_symbol}
+use Rattle.tcc_rows.specs.Past.{begin_count, is_begun, is_ended, keys, ops_since, seal_count, sessions}
 use Rattle.tcc_txn.specs.declared.limits.Limits.{Limits}
 use Rattle.tcc_txn.specs.declared.limits.TheConstants.{MAX_SEALS}
 use Rattle.tcc_txn.specs.declared.op.Op.{Op}
@@ -31,20 +32,21 @@ pub record HoldsSeats (limits : Limits) (past : List Line) (seats : Seats) : Typ
   pub count : btree_map_len seats ≡ length (sessions past)
   pub few : length (sessions past) ≤ most_sessions limits
 
--- a set of names
-abbrev pub NameSet : Type 0
-NameSet = BTreeSet (List ℕ)
+-- the set has the sessions that have ended
+abbrev pub HoldsEnded : List Line → BTreeSet (List ℕ) → Type 0
+HoldsEnded past set = (name : List ℕ) → contains (slice_cmp nat_cmp) set name ≡ is_ended name past
 
--- the set has these names, each of which stands once in the list, and there are not too many
-pub record HoldsNames (limits : Limits) (names : List (List ℕ)) (set : NameSet) : Type 0 where
-  pub each : (name : List ℕ) → contains (slice_cmp nat_cmp) set name ≡ list_any (same name) names
-  pub count : btree_set_len set ≡ length names
+-- the table has these names, each of which stands once in the list, and there are not too many
+pub record HoldsNames (limits : Limits) (names : List (List ℕ)) (table : List (List ℕ)) : Type 0 where
+  pub each : (name : List ℕ) → is_symbol name table ≡ list_any (same name) names
+  pub count : length table ≡ length names
   pub few : length names ≤ most_keys limits
 
 -- the progress is that of these lines within the limits
 pub record IsAfter (limits : Limits) (past : List Line) (p : Progress) : Type 0 where
   pub kept : p.limits ≡ limits
   pub seats : HoldsSeats limits past p.sessions
+  pub ended : HoldsEnded past p.ended
   pub names : HoldsNames limits (keys past) p.keys
   pub begun : p.begun ≡ begin_count past
   pub few_begun : begin_count past ≤ most_transactions limits

@@ -7,3 +7,5 @@ pub mod Limited
 pub mod Passing
 pub mod Words
 pub mod Turns
+pub mod Unread
+pub mod Waiting

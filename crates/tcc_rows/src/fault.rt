@@ -14,8 +14,8 @@ pub enum RowFaultKind {
     /// Of 2 or 4 fields the first is a name.
     #[error("the session is no name")]
     BadSession,
-    /// The one field is `seal`; of two the second is `begin`, `commit` or `abort`; of four the
-    /// second is `r` or `w`.
+    /// The one field is `seal`; of two the second is `begin`, `commit`, `abort` or `unknown`; of
+    /// four the second is `r` or `w`.
     #[error("the word is unknown")]
     UnknownWord,
     /// The key is a name.
@@ -28,6 +28,9 @@ pub enum RowFaultKind {
     /// The value 0 is never written.
     #[error("0 is written")]
     WriteOfZero,
+    /// The session has ended by a transaction of unknown outcome.
+    #[error("the session has ended")]
+    SessionEnded,
     /// No transaction of the session is begun.
     #[error("no transaction of the session is begun")]
     NotBegun,

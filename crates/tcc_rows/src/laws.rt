@@ -1,12 +1,12 @@
 //! The laws of records: what they finish keeps the limits of a snapshot, and depends on the records of each session alone;
 //! where the bytes are too many, the last record is the fault; and what the small limits take, the large ones answer alike.
-ghost use Rattle.std.specs.Prelude.{◌≡◌, ◌≢◌, ◌<◌, ◌++◌, ℕ, List, [], None, Some, false, length, take};
+ghost use Rattle.std.specs.Prelude.{◌≡◌, ◌≢◌, ◌<◌, ◌++◌, ℕ, List, [], None, Some, false, fold, length, map, take};
 ghost use Rattle.std.specs.FinMap as sessions;
-ghost use Rattle.tcc_rows.specs.{BothLimits.KeepsSmall, Failing.AreLawful, Failing.records_before, Items.finished_in, declared.rows.Item.Item, declared.fault.RowFaultKind.TheVariants.Read};
+ghost use Rattle.tcc_rows.specs.{BothLimits.KeepsSmall, Failing.AreLawful, Failing.records_before, Items.finished_in, Items.with_item, Settling.Pending, Settling.told, Settling.with_shown, declared.rows.Item.Item, declared.fault.RowFaultKind.TheVariants.Read};
 ghost use Rattle.tcc_rows.specs.Answers.{answers_of, answers_within, records_of};
 ghost use Rattle.tcc_rows.specs.Interleaved.{AreInterleaved, AreSealedAlike, records_by_none};
 ghost use Rattle.tcc_rows.specs.Recordings.{has_seal, items_until, seals_in};
-ghost use Rattle.tcc_txn.specs.{Finished.KeepsLimits, Nested.IsNested, Snapshots.snapshot_fault, declared.limits.Limits.TheVariants.Large, declared.limits.TheConstants.MAX_INPUT_BYTES};
+ghost use Rattle.tcc_txn.specs.{Finished.KeepsLimits, Nested.IsNested, Snapshots.Sessions, Snapshots.snapshot_fault, declared.limits.Limits.TheVariants.Large, declared.limits.TheConstants.MAX_INPUT_BYTES};
 
 /// What the first items of a text finish, however many, is a snapshot: there are not too many sessions and transactions.
 pub fn finished_is_snapshot()
@@ -59,4 +59,10 @@ pub fn within_large()
 /// What some items finish is continued by what they finish together with more.
 pub fn finished_continues()
     ensures { (items more : List Item) → IsNested (finished_in items) (finished_in (items ++ more)) }
+{}
+
+/// Whichever more of the pending transactions committed in truth: what is finished where those count of which a value was read is
+/// continued by what is finished with the others too. So by the law `tcc_explain::laws::grown` no anomaly comes of leaving them out.
+pub fn settling_continues()
+    ensures { (s : Sessions) (pending others : Pending) → IsNested (with_shown s pending) (fold with_item (with_shown s pending) (map told others)) }
 {}

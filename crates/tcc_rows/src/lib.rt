@@ -3,6 +3,7 @@
 
 mod fault;
 pub mod laws;
+mod pending;
 mod recording;
 mod rows;
 

@@ -1,16 +1,20 @@
 //! What records have finished so far, as a snapshot that grows.
-ghost use Rattle.std.specs.Prelude.{◌≡◌, ◌≢◌, ℕ, List, [], true, IfErr, IfOk, IfSome, OnErr, OnOk, None, Some, Ok, MatchResult, option_map};
+ghost use Rattle.std.specs.Prelude.{◌≡◌, ◌≢◌, ◌++◌, ◌∷◌, ℕ, List, [], fold, map, true, IfErr, IfOk, IfSome, OnErr, OnOk, None, Some, Ok, MatchResult, option_map};
 ghost use Rattle.csv.specs.Records.{field_at};
-ghost use Rattle.tcc_rows.specs.{Ahead.fault_met, Ahead.has_ended, Items.finished_in, Lines.Record, declared.rows.Item.Item};
-ghost use Rattle.tcc_rows.specs.Answers.{Answers, answers_after_within, answers_within, records_within};
+ghost use Rattle.tcc_rows.specs.{Ahead.fault_met, Ahead.has_ended, Items.finished_in, Items.with_item, Lines.Record, declared.rows.Item.Item};
+ghost use Rattle.tcc_rows.specs.Answers.{Answers, answers_to, answers_within, records_within};
+ghost use Rattle.tcc_rows.specs.Settling.{shown, told, unseen_among, with_shown};
+ghost use Rattle.tcc_rows.specs.private.Waiting.{AddsSome, PassesItems};
 ghost use Rattle.tcc_rows.specs.Reached.{IsWithin, ReaderFailed, last_record, row_reached};
 ghost use Rattle.tcc_rows.specs.Recordings.{FailsBehind, IsRecorded, IsRecording, TakesMoment, after_items};
 ghost use Rattle.tcc_txn.specs.{Finished.IsWithinLimits, Finished.with_transaction, Nested.IsNested, declared.limits.Limits.TheVariants.Small, declared.limits.Limits.TheVariants.Large};
 ghost use Rattle.tcc_rows.specs.declared.rows.Stage.TheVariants as stage;
 
+use crate::pending::settle;
 use crate::{Item, RowFault, RowFaultKind, Rows};
 use std::alloc::Global;
 use std::io::Read;
+use std::mem;
 use tcc_txn::{
     Bounds, LargeLimits, LargeSnapshot, Name, NoMemory, SmallLimits, Snapshot, SnapshotWithin, Txn,
 };
@@ -24,11 +28,13 @@ pub enum Moment {
     End,
 }
 
-/// The snapshot of what a reader's records have finished so far, within the limits that `B` stands for.
+/// The snapshot of what a reader's records have finished so far, within the limits that `B` stands for, and the transactions of
+/// unknown outcome of which nobody has read a value.
 #[derive(Drop)]
 pub struct RecordingWithin<R, B: Bounds> {
     rows: Rows<R>,
     snapshot: SnapshotWithin<B>,
+    pending: Vec<(Name, Txn)>,
 }
 
 /// A recording within the small limits.
@@ -47,6 +53,7 @@ impl<R: Read + Drop, B: Bounds> RecordingWithin<R, B> {
         Ok(RecordingWithin {
             rows: Rows::within(alloc, reader, B::limits())?,
             snapshot: SnapshotWithin::empty(alloc),
+            pending: Vec::new(alloc),
         })
     }
 
@@ -67,7 +74,7 @@ impl<R: Read + Drop, B: Bounds> RecordingWithin<R, B> {
         // Where a record can't be read, all before it are lawful, and the items so far are theirs: those that were taken, and
         // then some without a seal.
         ensures failed { IfErr result (λ fault. fault_met self.old.rows ≡ None → fault.kind ≡ RowFaultKind.Read
-            → (all : List Record) (taken : List Item) (ahead : Answers) → answers_after_within B.limits [] all ≡ after_items taken ahead
+            → (all : List Record) (taken : List Item) (ahead : Answers) → answers_to B.limits all ≡ after_items taken ahead
             → IsWithin R.remaining self.old.rows all → IsRecording B.limits R.remaining self.old taken ahead → FailsBehind B.limits taken fault.row all) }
 
         // A fault stays, and so does the end.
@@ -77,9 +84,40 @@ impl<R: Read + Drop, B: Bounds> RecordingWithin<R, B> {
         ensures ends { result ≡ Ok Moment.End → has_ended self.new.rows ≡ true }
         ensures stays_ended { has_ended self.old.rows ≡ true → result ≡ Ok Moment.End }
     {
+        if self.rows.has_ended() {
+            return Ok(Moment::End);
+        }
+        let moment = self.pass_items(alloc)?;
+        self.settle(alloc)?;
+        match moment {
+            Moment::Seal => {}
+            // Nobody will read more.
+            Moment::End => self.pending.clear(),
+        }
+        Ok(moment)
+    }
+
+    /// Reads on to the next seal or to the end, where nothing is settled yet.
+    fn pass_items(&mut self, alloc: Global) -> Result<Moment, RowFault>
+        ensures passed { (taken : List Item) (ahead : Answers) → IsRecording B.limits R.remaining self.old taken ahead
+            → PassesItems B.limits R.remaining taken ahead result self.new }
+        ensures within { (all : List Record) → IsWithin R.remaining self.old.rows all → IsWithin R.remaining self.new.rows all }
+        ensures continues { IsNested self.old.snapshot self.new.snapshot }
+        ensures row { IfErr result (λ fault. fault_met self.old.rows ≡ None → fault.row ≡ row_reached self.new.rows) }
+        ensures read { IfErr result (λ fault. fault_met self.old.rows ≡ None → fault.kind ≡ RowFaultKind.Read → ReaderFailed self.new.rows) }
+        ensures failed { IfErr result (λ fault. fault_met self.old.rows ≡ None → fault.kind ≡ RowFaultKind.Read
+            → (all : List Record) (taken : List Item) (ahead : Answers) → answers_to B.limits all ≡ after_items taken ahead
+            → IsWithin R.remaining self.old.rows all → IsRecording B.limits R.remaining self.old taken ahead → FailsBehind B.limits taken fault.row all) }
+        ensures stops { IfErr result (λ fault. fault_met self.new.rows ≡ Some fault) }
+        ensures stays_stopped { IfSome (fault_met self.old.rows) (λ fault. result ≡ Err fault) }
+        ensures goes_on { OnOk result (fault_met self.new.rows ≡ None) }
+        ensures ends { result ≡ Ok Moment.End → has_ended self.new.rows ≡ true }
+        ensures sealed { result ≡ Ok Moment.Seal → self.new.rows.stage ≡ stage.Reading }
+    {
         'items: for _turn in 0..u64::MAX {
             match self.rows.next(alloc)? {
                 Item::Finished(session, txn) => self.take(alloc, session, txn)?,
+                Item::Unknown(session, txn) => self.wait(session, txn)?,
                 Item::Seal => return Ok(Moment::Seal),
                 Item::End => return Ok(Moment::End),
             }
@@ -88,9 +126,64 @@ impl<R: Read + Drop, B: Bounds> RecordingWithin<R, B> {
         Err(self.rows.give_up(RowFaultKind::NoMemory))
     }
 
+    /// Nobody told how a transaction of the session ended.
+    fn wait(&mut self, session: Name, txn: Txn) -> Result<(), RowFault>
+        ensures kept { self.new.snapshot ≡ self.old.snapshot }
+        ensures waits { OnOk result ((self.new.pending.items ≡ self.old.pending.items ++ (session, txn) ∷ []) × (self.new.rows ≡ self.old.rows)) }
+        ensures stopped { IfErr result (λ fault. (self.new.rows ≡ record self.old.rows { stage = stage.Stopped fault })
+            × (fault ≡ record { row = row_reached self.old.rows; kind = RowFaultKind.NoMemory })) }
+    {
+        if self.pending.push((session, txn)).is_err() {
+            return Err(self.rows.give_up(RowFaultKind::NoMemory));
+        }
+        Ok(())
+    }
+
+    /// The pending transactions of which a value was read are finished.
+    fn settle(&mut self, alloc: Global) -> Result<(), RowFault>
+        ensures settled { OnOk result ((self.new.snapshot ≡ with_shown self.old.snapshot self.old.pending.items)
+            × (self.new.pending.items ≡ unseen_among self.old.snapshot self.old.pending.items) × (self.new.rows ≡ self.old.rows)) }
+        ensures part { OnErr result (AddsSome self.old.snapshot (shown self.old.snapshot self.old.pending.items) self.new.snapshot) }
+        ensures stopped { IfErr result (λ fault. (self.new.rows ≡ record self.old.rows { stage = stage.Stopped fault })
+            × (fault.row ≡ row_reached self.old.rows)) }
+        ensures known { IfErr result (λ fault. fault.kind ≢ RowFaultKind.Read) }
+        ensures memory { IsWithinLimits B.limits (with_shown self.old.snapshot self.old.pending.items) → IfErr result (λ fault. fault.kind ≡ RowFaultKind.NoMemory) }
+        ensures continues { IsNested self.old.snapshot self.new.snapshot }
+    {
+        if self.pending.is_empty() {
+            return Ok(());
+        }
+        let pending = mem::replace(&mut self.pending, Vec::new(alloc));
+        match settle(alloc, &self.snapshot, pending) {
+            Ok(settled) => {
+                self.pending = settled.unseen;
+                self.take_all(alloc, settled.seen)
+            }
+            Err(NoMemory) => Err(self.rows.give_up(RowFaultKind::NoMemory)),
+        }
+    }
+
+    /// These sessions have each finished one more transaction.
+    fn take_all(&mut self, alloc: Global, seen: Vec<(Name, Txn)>) -> Result<(), RowFault>
+        ensures taken { OnOk result ((self.new.snapshot ≡ fold with_item self.old.snapshot (map told seen.items)) × (self.new.rows ≡ self.old.rows)) }
+        ensures pending { self.new.pending ≡ self.old.pending }
+        ensures part { OnErr result (AddsSome self.old.snapshot (map told seen.items) self.new.snapshot) }
+        ensures stopped { IfErr result (λ fault. (self.new.rows ≡ record self.old.rows { stage = stage.Stopped fault })
+            × (fault.row ≡ row_reached self.old.rows)) }
+        ensures known { IfErr result (λ fault. fault.kind ≢ RowFaultKind.Read) }
+        ensures memory { IsWithinLimits B.limits (fold with_item self.old.snapshot (map told seen.items)) → IfErr result (λ fault. fault.kind ≡ RowFaultKind.NoMemory) }
+        ensures continues { IsNested self.old.snapshot self.new.snapshot }
+    {
+        for one in seen {
+            self.take(alloc, one.0, one.1)?;
+        }
+        Ok(())
+    }
+
     /// The session has finished one more transaction.
     fn take(&mut self, alloc: Global, session: Name, txn: Txn) -> Result<(), RowFault>
         ensures taken { OnOk result ((self.new.snapshot ≡ with_transaction self.old.snapshot session txn) × (self.new.rows ≡ self.old.rows)) }
+        ensures pending { self.new.pending ≡ self.old.pending }
         ensures kept { OnErr result (self.new.snapshot ≡ self.old.snapshot) }
         ensures stopped { IfErr result (λ fault. (self.new.rows ≡ record self.old.rows { stage = stage.Stopped fault })
             × (fault.row ≡ row_reached self.old.rows)) }

@@ -3,7 +3,7 @@ ghost use Rattle.std.specs.Prelude.{◌≡◌, ◌≢◌, ◌+◌, ◌^◌, ◌<
 ghost use Rattle.std.specs.Prelude.{None, Some, false, Ok, Err, option_map};
 ghost use Rattle.csv.specs.Records.{field_at};
 ghost use Rattle.tcc_rows.specs.{Standing.IsAfter, private.Turns.line_by, Line.Line};
-ghost use Rattle.tcc_rows.specs.Answers.{Answers, answers_after_within, answers_of, answers_within, fault_at_end, records_of, records_within};
+ghost use Rattle.tcc_rows.specs.Answers.{Answers, answers_after_within, fault_at_end, given_within, records_of, records_within};
 ghost use Rattle.tcc_txn.specs.{declared.limits.Limits.Limits, declared.limits.Limits.TheVariants.Small};
 
 mod draft;
@@ -25,6 +25,8 @@ use tcc_txn::{Limits, Name, NoMemory, Txn};
 pub enum Item {
     /// A transaction of the session was finished.
     Finished(Name, Txn),
+    /// A transaction of the session ended, and nobody told how: what it wrote, as it is where it counts as committed.
+    Unknown(Name, Txn),
     /// An answer is wanted for what was finished so far.
     Seal,
     /// There are no more records.
@@ -50,7 +52,7 @@ enum Stage {
 /// for _ in 0..u64::MAX {
 ///     match rows.next(alloc)? {
 ///         Item::Finished(session, txn) => finished.push((session, txn))?,
-///         Item::Seal => {}
+///         Item::Unknown(..) | Item::Seal => {}
 ///         Item::End => break,
 ///     }
 /// }
@@ -66,7 +68,7 @@ pub struct Rows<R> {
 }
 
 impl<R: Read + Drop> Rows<R> {
-    ghost use Rattle.tcc_rows.specs.{Failing.FailsAtWithin, Failing.items_before_within, private.Failing.FailsIn, Midway.IsMidway, private.StagesAfter.stage_after_line, Recordings.after_items, declared.rows.Item.Item};
+    ghost use Rattle.tcc_rows.specs.{Failing.FailsAtWithin, Failing.given_before_within, private.Failing.FailsIn, Midway.IsMidway, private.StagesAfter.stage_after_line, Recordings.HasSealsBefore, Recordings.after_items, declared.rows.Item.Item};
     ghost use Rattle.tcc_rows.specs.Ahead.{FaultsIn, IsAhead, TakesAnswer, fault_met, has_ended, stage_after};
     ghost use Rattle.tcc_rows.specs.Lines.{Record, is_cut, line_of};
     ghost use Rattle.tcc_rows.specs.Reached.{HasGivenUp, IsWithin, ReaderFailed, StandsBy, StandsIn, last_record, row_reached};
@@ -75,7 +77,7 @@ impl<R: Read + Drop> Rows<R> {
 
     /// The rows of what the reader gives; it is gone where memory is refused.
     pub fn new(alloc: Global, reader: R) -> Result<Rows<R>, NoMemory>
-        ensures ahead { IfOk result (λ rows. IfSome (R.remaining reader) (λ text. IsAhead Small R.remaining rows (answers_of text))) }
+        ensures ahead { IfOk result (λ rows. IfSome (R.remaining reader) (λ text. IsAhead Small R.remaining rows (given_within Small text))) }
         ensures within { IfOk result (λ rows. IfSome (R.remaining reader) (λ text. IsWithin R.remaining rows (records_of text))) }
         ensures fresh { IfOk result (λ rows. fault_met rows ≡ None) }
     {
@@ -84,7 +86,7 @@ impl<R: Read + Drop> Rows<R> {
 
     /// The rows of what the reader gives, within the limits given; it is gone where memory is refused.
     pub fn within(alloc: Global, reader: R, limits: Limits) -> Result<Rows<R>, NoMemory>
-        ensures ahead { IfOk result (λ rows. IfSome (R.remaining reader) (λ text. IsAhead limits R.remaining rows (answers_within limits text))) }
+        ensures ahead { IfOk result (λ rows. IfSome (R.remaining reader) (λ text. IsAhead limits R.remaining rows (given_within limits text))) }
         ensures within { IfOk result (λ rows. IfSome (R.remaining reader) (λ text. IsWithin R.remaining rows (records_within limits text))) }
         ensures fresh { IfOk result (λ rows. fault_met rows ≡ None) }
     {
@@ -113,7 +115,13 @@ impl<R: Read + Drop> Rows<R> {
         ensures failed { IfErr result (λ fault. fault_met self.old ≡ None → fault.kind ≡ RowFaultKind.Read
             → (limits : Limits) (all : List Record) (taken : List Item) (ahead : Answers) → answers_after_within limits [] all ≡ after_items taken ahead
             → IsWithin R.remaining self.old all → IsAhead limits R.remaining self.old ahead
-            → FailsAtWithin limits fault.row all × (taken ≡ items_before_within limits fault.row all)) }
+            → FailsAtWithin limits fault.row all × (taken ≡ given_before_within limits fault.row all)) }
+
+        // Then there are as many seals before it as among the items so far, whatever these are.
+        ensures failed_sealed { IfErr result (λ fault. fault_met self.old ≡ None → fault.kind ≡ RowFaultKind.Read
+            → (limits : Limits) (all : List Record) (ahead : Answers) → (answers_after_within limits [] all).fault ≡ ahead.fault
+            → IsWithin R.remaining self.old all → IsAhead limits R.remaining self.old ahead
+            → FailsAtWithin limits fault.row all × HasSealsBefore limits fault.row all ahead) }
 
         // A fault stays, and so does the end, whatever is known of the bytes.
         ensures stops { IfErr result (λ fault. fault_met self.new ≡ Some fault) }
@@ -135,6 +143,13 @@ impl<R: Read + Drop> Rows<R> {
                 Err(fault)
             }
         }
+    }
+
+    /// Whether the end was met.
+    pub(crate) fn has_ended(&self) -> bool
+        ensures { result ≡ has_ended self.now }
+    {
+        matches!(self.stage, Stage::Ended)
     }
 
     /// The field at an index, counted from 0, of the record that was read last.

@@ -24,6 +24,11 @@ until-finished : (session : List ℕ) (txn : Transaction) (items : List Item) (k
 until-finished session txn items zero = refl
 until-finished session txn items (suc k) = refl
 
+until-unknown : (session : List ℕ) (txn : Transaction) (items : List Item) (k : ℕ)
+    → items_until (item.Unknown session txn ∷ items) k ≡ item.Unknown session txn ∷ items_until items k
+until-unknown session txn items zero = refl
+until-unknown session txn items (suc k) = refl
+
 until-end : (items : List Item) (k : ℕ) → items_until (item.End ∷ items) k ≡ item.End ∷ items_until items k
 until-end items zero = refl
 until-end items (suc k) = refl
@@ -33,12 +38,15 @@ until-all : (items : List Item) → items_until items (length (seals_in items)) 
 until-all [] = refl
 until-all (item.Finished session txn ∷ items) =
     until-finished session txn items (length (seals_in items)) ∙ ap (λ rest. item.Finished session txn ∷ rest) (until-all items)
+until-all (item.Unknown session txn ∷ items) =
+    until-unknown session txn items (length (seals_in items)) ∙ ap (λ rest. item.Unknown session txn ∷ rest) (until-all items)
 until-all (item.Seal ∷ items) = ap (λ rest. item.Seal ∷ rest) (until-all items)
 until-all (item.End ∷ items) = until-end items (length (seals_in items)) ∙ ap (λ rest. item.End ∷ rest) (until-all items)
 
 unsealed : (items : List Item) → seals_in items ≡ [] → has_seal items ≡ false
 unsealed [] none = refl
 unsealed (item.Finished session txn ∷ items) none = unsealed items none
+unsealed (item.Unknown session txn ∷ items) none = unsealed items none
 unsealed (item.Seal ∷ items) none = cc
 unsealed (item.End ∷ items) none = unsealed items none
 
@@ -63,6 +71,12 @@ sealed-until before (item.Finished session txn ∷ items) =
     (λ k. finished_in (before ++ items_until (item.Finished session txn ∷ items) k)) (seals_in items)
     (λ k. ap finished_in (append_assoc before (item.Finished session txn ∷ []) (items_until items k)
     ∙ ap (λ rest. before ++ rest) (sym (until-finished session txn items k))))
+sealed-until before (item.Unknown session txn ∷ items) =
+    sealed-until (before ++ item.Unknown session txn ∷ []) items
+    ∙ at_seals-same (λ k. finished_in ((before ++ item.Unknown session txn ∷ []) ++ items_until items k))
+    (λ k. finished_in (before ++ items_until (item.Unknown session txn ∷ items) k)) (seals_in items)
+    (λ k. ap finished_in (append_assoc before (item.Unknown session txn ∷ []) (items_until items k)
+    ∙ ap (λ rest. before ++ rest) (sym (until-unknown session txn items k))))
 sealed-until before (item.Seal ∷ items) =
     ap (λ rest. finished_in before ∷ rest)
     (sealed-until (before ++ item.Seal ∷ []) items
@@ -87,6 +101,9 @@ due-since due s (item.Finished session txn ∷ items) first seals is =
 due-since due s (item.End ∷ items) first seals is =
     subst (λ until. Passed false (is_due_after due items) (fold with_item s until) (fold with_item s items)) (sym (until-end items (length seals)))
     (due-since due s items first seals is)
+due-since due s (item.Unknown session txn ∷ items) first seals is =
+    subst (λ until. Passed false (is_due_after due items) (fold with_item s until) (fold with_item s items))
+    (sym (until-unknown session txn items (length seals))) (due-since due s items first seals is)
 due-since due s (item.Seal ∷ items) first seals is = by (seals_in items) refl (due-since false s items)
   where
     behind : seals ≡ seals_in items

@@ -26,6 +26,7 @@ sealed-front before [] zero = ([], refl)
 sealed-front before [] (suc n) = ([], refl)
 sealed-front before (i ∷ items) zero = (sealed_after before (i ∷ items), refl)
 sealed-front before (item.Finished session txn ∷ items) (suc n) = sealed-front (before ++ item.Finished session txn ∷ []) items n
+sealed-front before (item.Unknown session txn ∷ items) (suc n) = sealed-front (before ++ item.Unknown session txn ∷ []) items n
 sealed-front before (item.Seal ∷ items) (suc n) =
     let behind = sealed-front (before ++ item.Seal ∷ []) items n in
     (behind.0, ap (λ sealed. finished_in before ∷ sealed) behind.1)

@@ -5,18 +5,22 @@ use Rattle.std.specs.List.{Contains, cons_option}
 use Rattle.std.specs.Option.{option_or}
 use Rattle.std.specs.Str.{bytes_eq}
 use Rattle.std.proofs.lemmas.Bool.{cases_Bool, false≢true}
+use Rattle.std.proofs.lemmas.List.Elements.{Contains-push_cases}
 use Rattle.tcc_txn.specs.declared.op.Op.{Op}
 use Rattle.tcc_txn.specs.declared.op.Op.TheVariants.{Get, Put}
 use Rattle.tcc_reads.specs.Sites.{Stand, Site, sites_from}
 use Rattle.tcc_reads.specs.Sources.{external_part, external_read, value_put, visible_write}
 use Rattle.tcc_reads.proofs.Ties.{itself, same_name}
-use Rattle.tcc_slices.specs.private.Cutting.{kept_behind}
-use Rattle.tcc_slices.proofs.Keeping.{visible_push}
+use Rattle.tcc_slices.specs.private.Cutting.{kept_behind, same_op}
+use Rattle.tcc_slices.proofs.Keeping.{itself_op, same_is, visible_push}
 
 -- ---- no more is visible
 -- what isn't written in the one isn't in the other
 abbrev pub IsUnder : List Op → List Op → Type 0
 IsUnder before other = (x : List ℕ) → visible_write x before ≡ None → visible_write x other ≡ None
+
+some_none : (v : ℕ) → Some v ≡ None → ⊥
+some_none v e = cc
 
 or_none : (a b : Option ℕ) → option_or a b ≡ None → (a ≡ None) × (b ≡ None)
 or_none None b e = (refl, e)
@@ -73,29 +77,56 @@ module _ (keep : List Op → Op → Bool) where
       go true is (suc k, l, e) one more = later (one (k, omega (arith, l), e))
       go false is c one more = later (more c)
 
-  -- what passes, whatever stands before it, is kept
-  pub kept_in : (before ops : List Op) (op : Op) → ((b : List Op) → keep b op ≡ true) → Contains ops op → Contains (kept_behind keep before ops) op
-  kept_in before [] op passes (k, l, e) = absurd (omega (arith, l))
-  kept_in before (first ∷ ops) op passes there = go (keep before first) refl there (λ c. kept_in (before ++ first ∷ []) ops op passes c)
+  -- what passes where it doesn't stand before is kept
+  pub kept_in : (before ops : List Op) (op : Op) → ((b : List Op) → (Contains b op → ⊥) → keep b op ≡ true) → (Contains before op → ⊥) → Contains ops op
+      → Contains (kept_behind keep before ops) op
+  kept_in before [] op passes new (k, l, e) = absurd (omega (arith, l))
+  kept_in before (first ∷ ops) op passes new there =
+      by (cases_Bool (same_op first op)) (λ other c. kept_in (before ++ first ∷ []) ops op passes (next other) c)
     where
       rest : List Op
       rest = kept_behind keep (before ++ first ∷ []) ops
 
-      go : (b : Bool) → keep before first ≡ b → Contains (first ∷ ops) op → (Contains ops op → Contains rest op) → Contains (cond b (first ∷ rest) rest) op
-      go true is (zero, l, e) more = (0, omega arith, e)
-      go true is (suc k, l, e) more = let w = more (k, omega (arith, l), e) in (suc w.0, omega (arith, w.1), w.2)
-      go false is (zero, l, e) more = absurd (false≢true (sym is ∙ ap (keep before) e ∙ passes before))
-      go false is (suc k, l, e) more = more (k, omega (arith, l), e)
+      -- it doesn't stand before the next one either
+      next : (first ≡ op → ⊥) → Contains (before ++ first ∷ []) op → ⊥
+      next other more = go (Contains-push_cases before first op more)
+        where
+          go : Contains before op ⊎ (first ≡ op) → ⊥
+          go (inl c) = new c
+          go (inr same) = other same
 
-  -- an external read that passes where it is external is one of what is kept
-  pub kept_read : (whole stand : Stand) (before other ops : List Op) (x : List ℕ) (v : ℕ) → IsUnder before other → ((b : List Op) → visible_write x b ≡ None → keep b (Get x v) ≡ true)
+      behind : (first ≡ op → ⊥) → Contains (first ∷ ops) op → Contains ops op
+      behind other (zero, l, e) = absurd (other e)
+      behind other (suc k, l, e) = (k, omega (arith, l), e)
+
+      later : Contains rest op → Contains (cond (keep before first) (first ∷ rest) rest) op
+      later c = go (keep before first)
+        where
+          go : (b : Bool) → Contains (cond b (first ∷ rest) rest) op
+          go true = (suc c.0, omega (arith, c.1), c.2)
+          go false = c
+
+      by : (same_op first op ≡ true) ⊎ (same_op first op ≡ false) → ((first ≡ op → ⊥) → Contains ops op → Contains rest op)
+          → Contains (cond (keep before first) (first ∷ rest) rest) op
+      by (inl same) more =
+          let is : first ≡ op = same_is first op same in
+          subst (λ (b : Bool). Contains (cond b (first ∷ rest) rest) op) (sym (ap (keep before) is ∙ passes before new)) (0, omega arith, is)
+      by (inr other) more =
+          let apart : first ≡ op → ⊥ = λ e. false≢true (sym other ∙ (ap (λ (z : Op). same_op z op) e ∙ itself_op op)) in
+          later (more apart (behind apart there))
+
+  -- an external read that passes where it is external, for the first time, is one of what is kept
+  pub kept_read : (whole stand : Stand) (before other ops : List Op) (x : List ℕ) (v : ℕ) → IsUnder before other
+      → ((b : List Op) → visible_write x b ≡ None → (Contains b (Get x v) → ⊥) → keep b (Get x v) ≡ true)
+      → (visible_write x before ≡ None → Contains before (Get x v) → ⊥)
       → Contains (filter_map external_read (sites_from whole before ops)) (x, v)
       → Contains (filter_map external_read (sites_from stand other (kept_behind keep before ops))) (x, v)
-  kept_read whole stand before other [] x v under passes (k, l, e) = absurd (omega (arith, l))
-  kept_read whole stand before other (op ∷ ops) x v under passes there =
-      by (external_read (record { stand = whole; before = before; op = op; after = ops })) refl there
-      (λ c. kept_read whole stand (before ++ op ∷ []) (other ++ op ∷ []) ops x v (under_both before other op under) passes c)
-      (λ c. kept_read whole stand (before ++ op ∷ []) other ops x v (under_one before other op under) passes c)
+  kept_read whole stand before other [] x v under passes new (k, l, e) = absurd (omega (arith, l))
+  kept_read whole stand before other (op ∷ ops) x v under passes new there =
+      start (cases_Bool (same_op op (Get x v))) (visible_write x before) refl
+      (λ old. by (external_read (record { stand = whole; before = before; op = op; after = ops })) refl there
+      (λ c. kept_read whole stand (before ++ op ∷ []) (other ++ op ∷ []) ops x v (under_both before other op under) passes (next old) c)
+      (λ c. kept_read whole stand (before ++ op ∷ []) other ops x v (under_one before other op under) passes (next old) c))
     where
       rest : List Op
       rest = kept_behind keep (before ++ op ∷ []) ops
@@ -105,6 +136,20 @@ module _ (keep : List Op → Op → Bool) where
 
       Whole : Type 0
       Whole = Contains (filter_map external_read (sites_from whole (before ++ op ∷ []) ops)) (x, v)
+
+      Kept : Type 0
+      Kept = Reads (sites_from stand other (cond (keep before op) (op ∷ rest) rest))
+
+      -- where this one isn't the read, it doesn't stand before the next one either
+      next : (op ≡ Get x v → visible_write x before ≡ None → ⊥) → visible_write x (before ++ op ∷ []) ≡ None → Contains (before ++ op ∷ []) (Get x v) → ⊥
+      next old none more = go (Contains-push_cases before op (Get x v) more)
+        where
+          free : visible_write x before ≡ None
+          free = (or_none (value_put x op) (visible_write x before) (sym (visible_push x before op) ∙ none)).1
+
+          go : Contains before (Get x v) ⊎ (op ≡ Get x v) → ⊥
+          go (inl c) = new free c
+          go (inr same) = old same free
 
       later : (o : Option (List ℕ × ℕ)) (reads : List (List ℕ × ℕ)) → Contains reads (x, v) → Contains (cons_option o reads) (x, v)
       later None reads c = c
@@ -121,7 +166,24 @@ module _ (keep : List Op → Op → Bool) where
               (filter_map external_read (sites_from stand (other ++ op ∷ []) rest)) (both c)
           go false = one c
 
-      -- the operation that is kept is the read
+      -- the operation is the read, for the first time, and so it is kept
+      found : op ≡ Get x v → visible_write x before ≡ None → Kept
+      found read free =
+          let is : keep before op ≡ true = ap (keep before) read ∙ passes before free (new free) in
+          let external : external_read (record { stand = stand; before = other; op = op; after = rest }) ≡ Some (x, v)
+          = ap (λ (z : Op). external_part z (λ y. visible_write y other)) read
+          ∙ ap (λ (own : Option ℕ). cond {A = Option (List ℕ × ℕ)} (is_none own) (Some (x, v)) None) (under x free) in
+          subst (λ (b : Bool). Reads (sites_from stand other (cond b (op ∷ rest) rest))) (sym is)
+          (subst (λ (o : Option (List ℕ × ℕ)). Contains (cons_option o (filter_map external_read (sites_from stand (other ++ op ∷ []) rest))) (x, v)) (sym external)
+          (0, omega arith, refl))
+
+      -- it is the read, with nothing written before it, or it isn't
+      start : (same_op op (Get x v) ≡ true) ⊎ (same_op op (Get x v) ≡ false) → (o : Option ℕ) → visible_write x before ≡ o
+          → ((op ≡ Get x v → visible_write x before ≡ None → ⊥) → Kept) → Kept
+      start (inl same) None free more = found (same_is op (Get x v) same) free
+      start (inl same) (Some w) is more = more (λ read free. some_none w (sym is ∙ free))
+      start (inr other) o is more = more (λ read free. false≢true (sym other ∙ (ap (λ (z : Op). same_op z (Get x v)) read ∙ itself_op (Get x v))))
+
       here : (o : Op) → op ≡ o → external_part o (λ y. visible_write y before) ≡ Some (x, v) → Reads (sites_from stand other (cond (keep before op) (op ∷ rest) rest))
       here (Put y w) same e = absurd cc
       here (Get y w) same e = split (visible_write y before) refl e
@@ -133,13 +195,7 @@ module _ (keep : List Op → Op → Bool) where
               let pair : ◌≡◌ {A = List ℕ × ℕ} (y, w) (x, v) = cc in
               let read : op ≡ Get x v = same ∙ (λ i. Get (pair i).0 (pair i).1) in
               let free : visible_write x before ≡ None = ap (λ (z : List ℕ). visible_write z before) (sym (ap (λ (z : List ℕ × ℕ). z.0) pair)) ∙ own in
-              let is : keep before op ≡ true = ap (keep before) read ∙ passes before free in
-              let external : external_read (record { stand = stand; before = other; op = op; after = rest }) ≡ Some (x, v)
-              = ap (λ (z : Op). external_part z (λ y. visible_write y other)) read
-              ∙ ap (λ (own : Option ℕ). cond {A = Option (List ℕ × ℕ)} (is_none own) (Some (x, v)) None) (under x free) in
-              subst (λ (b : Bool). Reads (sites_from stand other (cond b (op ∷ rest) rest))) (sym is)
-              (subst (λ (o : Option (List ℕ × ℕ)). Contains (cons_option o (filter_map external_read (sites_from stand (other ++ op ∷ []) rest))) (x, v)) (sym external)
-              (0, omega arith, refl))
+              found read free
 
       by : (o : Option (List ℕ × ℕ)) → external_read (record { stand = whole; before = before; op = op; after = ops }) ≡ o
           → Contains (cons_option o (filter_map external_read (sites_from whole (before ++ op ∷ []) ops))) (x, v)

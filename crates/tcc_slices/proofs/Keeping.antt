@@ -1,16 +1,18 @@
 -- What is kept of operations: wanted ones of them, and no others; one more.
-use Rattle.std.proofs.Common.{ℕ, zero, suc, ◌≡◌, ◌<◌, ◌+◌, ◌++◌, ◌==◌, ◌⊎◌, inl, inr, Bool, true, false, cond, List, [], ◌∷◌, length, get_or, take, append_assoc, append-nil, refl, sym, ap, subst, ◌∙◌, arith}
+use Rattle.std.proofs.Common.{ℕ, zero, suc, ◌≡◌, ◌<◌, ◌+◌, ◌++◌, ◌==◌, ◌&&◌, ◌||◌, ◌⊎◌, inl, inr, Bool, not, true, false, cond, List, [], ◌∷◌, length, get_or, take, append_assoc, append-nil, refl, sym, ap, subst, ◌∙◌, arith}
 use Rattle.std.specs.Prelude.{Option, Some, None, unwrap_or}
 use Rattle.std.specs.List.{Contains, list_any}
 use Rattle.std.specs.Option.{option_or}
 use Rattle.std.specs.Str.{bytes_eq}
-use Rattle.std.proofs.lemmas.Bool.{and_parts, eqb-true, false≢true, or_cases}
+use Rattle.std.proofs.lemmas.Bool.{and_from, and_parts, cases_Bool, eq-eqb, eqb-true, false≢true, or_cases, or_left, or_right}
 use Rattle.std.proofs.lemmas.List.{take_more}
+use Rattle.std.proofs.lemmas.List.Elements.{Contains-append_left, Contains-push}
 use Rattle.tcc_txn.specs.declared.op.Op.{Op}
 use Rattle.tcc_txn.specs.declared.op.Op.TheVariants.{Get, Put}
 use Rattle.tcc_reads.specs.Sources.{value_put, visible_write}
-use Rattle.tcc_reads.proofs.Ties.{same_name}
-use Rattle.tcc_slices.specs.private.Cutting.{kept_behind, same_op, value_shown}
+use Rattle.tcc_reads.proofs.Ties.{itself, same_name}
+use Rattle.tcc_slices.specs.Needs.{AreOnce}
+use Rattle.tcc_slices.specs.private.Cutting.{is_among, is_free, is_wanted, kept_behind, same_op, value_shown}
 
 -- ---- wanted operations
 pub same_is : (a b : Op) → same_op a b ≡ true → a ≡ b
@@ -27,6 +29,15 @@ same_is (Put x v) (Put y w) same =
     let value = eqb-true v w parts.1 in
     λ i. Put (key i) (value i)
 
+pub itself_op : (op : Op) → same_op op op ≡ true
+itself_op (Get x v) = and_from (bytes_eq x x) (v == v) (itself x) (eq-eqb v v refl)
+itself_op (Put x v) = and_from (bytes_eq x x) (v == v) (itself x) (eq-eqb v v refl)
+
+pub any_there : (wanted : List Op) (op : Op) → Contains wanted op → is_among wanted op ≡ true
+any_there [] op (k, l, e) = absurd (omega (arith, l))
+any_there (one ∷ wanted) op (zero, l, e) = ap (λ (z : Op). same_op z op || list_any (λ y. same_op y op) wanted) e ∙ or_left (same_op op op) (list_any (λ y. same_op y op) wanted) (itself_op op)
+any_there (one ∷ wanted) op (suc k, l, e) = or_right (same_op one op) (list_any (λ y. same_op y op) wanted) (any_there wanted op (k, omega (arith, l), e))
+
 pub wanted_there : (wanted : List Op) (op : Op) → list_any (λ one. same_op one op) wanted ≡ true → Contains wanted op
 wanted_there [] op any = absurd (false≢true any)
 wanted_there (one ∷ wanted) op any = go (or_cases (same_op one op) (list_any (λ z. same_op z op) wanted) any) (λ there. wanted_there wanted op there)
@@ -35,6 +46,49 @@ wanted_there (one ∷ wanted) op any = go (or_cases (same_op one op) (list_any (
         → Contains (one ∷ wanted) op
     go (inl same) more = (0, omega arith, same_is one op same)
     go (inr there) more = let w = more there in (suc w.0, omega (arith, w.1), w.2)
+
+-- an operation that isn't there
+pub not_among : (ops : List Op) (op : Op) → (Contains ops op → ⊥) → not (is_among ops op) ≡ true
+not_among ops op new = go (cases_Bool (is_among ops op))
+  where
+    go : (is_among ops op ≡ true) ⊎ (is_among ops op ≡ false) → not (is_among ops op) ≡ true
+    go (inl any) = absurd (new (wanted_there ops op any))
+    go (inr none) = ap not none
+
+-- ---- each once
+module _ (keep : List Op → Op → Bool) (new : (before : List Op) (op : Op) → keep before op ≡ true → Contains before op → ⊥) where
+  apart : (before ops : List Op) (op : Op) → Contains before op → Contains (kept_behind keep before ops) op → ⊥
+  apart before [] op there (k, l, e) = omega (arith, l)
+  apart before (first ∷ ops) op there kept =
+      go (keep before first) refl kept (λ c. apart (before ++ first ∷ []) ops op (Contains-append_left before (first ∷ []) op there) c)
+    where
+      rest : List Op
+      rest = kept_behind keep (before ++ first ∷ []) ops
+
+      go : (b : Bool) → keep before first ≡ b → Contains (cond b (first ∷ rest) rest) op → (Contains rest op → ⊥) → ⊥
+      go true is (zero, l, e) more = new before op (subst (λ (z : Op). keep before z ≡ true) e is) there
+      go true is (suc k, l, e) more = more (k, omega (arith, l), e)
+      go false is c more = more c
+
+  -- what is kept only where it doesn't stand before is kept once
+  pub once_each : (before ops : List Op) → AreOnce (kept_behind keep before ops)
+  once_each before [] = tt
+  once_each before (first ∷ ops) = go (keep before first) (once_each (before ++ first ∷ []) ops)
+    where
+      rest : List Op
+      rest = kept_behind keep (before ++ first ∷ []) ops
+
+      go : (b : Bool) → AreOnce rest → AreOnce (cond b (first ∷ rest) rest)
+      go true once = (apart (before ++ first ∷ []) ops first (Contains-push before first), once)
+      go false once = once
+
+pub wanted_once : (wanted ops : List Op) → AreOnce (kept_behind (is_wanted wanted) [] ops)
+wanted_once wanted ops = once_each (is_wanted wanted) new [] ops
+  where
+    new : (before : List Op) (op : Op) → is_wanted wanted before op ≡ true → Contains before op → ⊥
+    new before op is there =
+        let none : not (is_among before op) ≡ true = (and_parts (is_among wanted op && is_free before op) (not (is_among before op)) is).1 in
+        false≢true (sym (ap not (any_there before op there)) ∙ none)
 
 -- ---- kept ones
 module _ (keep : List Op → Op → Bool) where

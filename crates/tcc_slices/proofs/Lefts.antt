@@ -18,9 +18,10 @@ use Rattle.tcc_txn.proofs.SessionEntries.{Named, sorted_names}
 use Rattle.tcc_txn.proofs.SortedParts.{name_cmp}
 use Rattle.tcc_reads.specs.History.{History, IsBySession, count, owner, place}
 use Rattle.tcc_reads.specs.Sites.{Stand, stands, stands_from, stands_in}
-use Rattle.tcc_slices.specs.Cuts.{AreSomeOf, AreSomeOps, IsCutOf, IsLeftOf, IsPartlyIn, IsSomeOf}
+use Rattle.tcc_graph.specs.Numbers.{at}
+use Rattle.tcc_slices.specs.Cuts.{AreSomeOf, AreSomeOps, IsCutOf, IsLeftAt, IsLeftOf, IsPartlyIn, IsSomeOf}
 use Rattle.tcc_slices.specs.private.Carrying.{IsRising}
-use Rattle.tcc_slices.specs.private.Cutting.{IsCut, IsNamed, IsPartAt, is_wanted, kept_behind, own_needs, wanted_by}
+use Rattle.tcc_slices.specs.private.Cutting.{IsCut, IsNamed, IsPartAt, is_wanted, kept_behind, own_needs, recorded_of, wanted_by}
 use Rattle.tcc_slices.specs.declared.needs.Need.{Need}
 use Rattle.tcc_slices.proofs.Named.{at_parts, none_some}
 
@@ -163,6 +164,56 @@ block_of session (first ∷ es) named (suc i, l, e) =
             let sum : length own + base + k ≡ length own + (base + k) = omega arith in
             ap (λ (z : ℕ). slice_index_or (stands_from session (first ∷ es)) z d) sum ∙ get_or-append-add own (stands_from (session + 1) es) (base + k) d
 
+-- ---- the transaction of a number
+module _ (s : Sessions) (h : History) (n : ℕ) (whole : Transaction) (j p : ℕ) (at_is : at h n ≡ Some (j, p)) (there : recorded_of s h n ≡ Some whole) where
+  found : cond {A = Option Transaction} (p == 0) None (slice_get (finished_at s j) (p - 1)) ≡ Some whole
+  found =
+      sym (ap (λ (o : Option (ℕ × ℕ)). option_map_or (λ q. cond {A = Option Transaction} (q.1 == 0) None (slice_get (finished_at s q.0) (q.1 - 1))) o None) at_is)
+      ∙ there
+
+  placed_at : (0 < p) × (slice_get (finished_at s j) (p - 1) ≡ Some whole)
+  placed_at = by (cases_eq p 0)
+    where
+      by : (p ≡ 0) ⊎ (p ≡ 0 → ⊥) → (0 < p) × (slice_get (finished_at s j) (p - 1) ≡ Some whole)
+      by (inl none) =
+          absurd (none_some (sym (ap (λ (b : Bool). cond {A = Option Transaction} b None (slice_get (finished_at s j) (p - 1))) (eq-eqb p 0 none)) ∙ found))
+      by (inr some) =
+          (omega (arith, some), sym (ap (λ (b : Bool). cond {A = Option Transaction} b None (slice_get (finished_at s j) (p - 1))) (ne_eqb p 0 some)) ∙ found)
+
+-- a part is left of the transaction of its number
+pub left_of : (s : Sessions) (h : History) (needs : List (ℕ × Need)) (n : ℕ) (t : Stand) → IsPartAt s h needs n t → IsLeftAt s h n t
+left_of s h needs n t part = go part.named
+  where
+    whole : Transaction
+    whole = part.part.whole
+
+    go : IsNamed s h n t.name → IsLeftAt s h n t
+    go (j, p, at_is, in_j, y_j) = record {
+      session = j;
+      index = p - 1;
+      number = at_is ∙ ap (λ (z : ℕ). Some (j, z)) before;
+      all = (slice_index_or (entries s) j (t.name, [])).1;
+      named = entry ∙ (λ k. Some (y_j k, (slice_index_or (entries s) j (t.name, [])).1));
+      origin = whole;
+      there = ap (λ (z : List Transaction). slice_get z (p - 1)) (sym listed) ∙ placed.1;
+      some_of = (
+        part.part.ended ∙ sym part.part.was,
+        subst (λ (z : List Op). AreSomeOps z whole.ops) (sym part.part.kept) (kept_left (is_wanted (wanted_by s h (own_needs needs n) n)) [] whole.ops),
+      );
+    }
+      where
+        placed : (0 < p) × (slice_get (finished_at s j) (p - 1) ≡ Some whole)
+        placed = placed_at s h n whole j p at_is part.part.there
+
+        before : p ≡ p - 1 + 1
+        before = omega (arith, placed.0)
+
+        entry : slice_get (entries s) j ≡ Some (slice_index_or (entries s) j (t.name, []))
+        entry = slice_get-get_or (entries s) j (t.name, []) in_j
+
+        listed : finished_at s j ≡ (slice_index_or (entries s) j (t.name, [])).1
+        listed = ap (λ (o : Option Named). option_map_or (λ e. e.1) o []) entry
+
 -- ---- the cut
 module _ (s slice : Sessions) (h : History) (needs : List (ℕ × Need)) (numbers : List ℕ) (numbered : IsBySession h.entries) (rising : IsRising numbers)
     (cut : IsCut s h needs numbers (length numbers) slice) where
@@ -231,19 +282,8 @@ module _ (s slice : Sessions) (h : History) (needs : List (ℕ × Need)) (number
               ap (λ (o : Option Named). option_map_or (λ e. e.1) o []) (slice_get-get_or (entries s) j (x, []) in_j)
               ∙ ap (λ (z : ℕ). (slice_index_or (entries s) z (x, [])).1) (sym same)
 
-          found : cond {A = Option Transaction} (p == 0) None (slice_get (finished_at s j) (p - 1)) ≡ Some whole
-          found =
-              sym (ap (λ (o : Option (ℕ × ℕ)). option_map_or (λ q. cond {A = Option Transaction} (q.1 == 0) None (slice_get (finished_at s q.0) (q.1 - 1))) o None) at_is)
-              ∙ part.part.there
-
           placed : (0 < p) × (slice_get (finished_at s j) (p - 1) ≡ Some whole)
-          placed = by (cases_eq p 0)
-            where
-              by : (p ≡ 0) ⊎ (p ≡ 0 → ⊥) → (0 < p) × (slice_get (finished_at s j) (p - 1) ≡ Some whole)
-              by (inl none) =
-                  absurd (none_some (sym (ap (λ (b : Bool). cond {A = Option Transaction} b None (slice_get (finished_at s j) (p - 1))) (eq-eqb p 0 none)) ∙ found))
-              by (inr some) =
-                  (omega (arith, some), sym (ap (λ (b : Bool). cond {A = Option Transaction} b None (slice_get (finished_at s j) (p - 1))) (ne_eqb p 0 some)) ∙ found)
+          placed = placed_at s h n whole j p at_is part.part.there
 
           there : slice_get (slice_index_or (entries s) i (x, [])).1 (p - 1) ≡ Some whole
           there = ap (λ (z : List Transaction). slice_get z (p - 1)) (sym listed) ∙ placed.1

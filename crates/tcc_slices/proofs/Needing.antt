@@ -1,20 +1,16 @@
 -- What links need: all that is listed of them is needed by them, and all that they need is listed.
-use Rattle.std.proofs.Common.{◌≡◌, ◌<◌, ◌+◌, ◌++◌, ◌==◌, ◌⊎◌, ℕ, zero, suc, Bool, true, false, cond, List, [], ◌∷◌, length, take, get_or, refl, ap, sym, subst, ◌∙◌, inl, inr, arith, append_assoc, append-nil}
+use Rattle.std.proofs.Common.{◌≡◌, ◌<◌, ◌++◌, ◌==◌, ◌⊎◌, ℕ, zero, suc, Bool, true, false, cond, List, [], ◌∷◌, get_or, refl, sym, subst, inl, inr, arith}
 use Rattle.std.specs.Prelude.{All, Contains, flat_map}
-use Rattle.std.specs.Global.{Vec}
 use Rattle.std.proofs.lemmas.Bool.{ne_eqb}
-use Rattle.std.proofs.lemmas.List.{take_more, length-take-le}
 use Rattle.std.proofs.lemmas.List.Elements.{All-append, All-cons, All-contains_itself, All-head, All-nil, All-tail, Contains-append_cases, Contains-append_left, Contains-append_right, Contains-get_or, Contains-push}
 use Rattle.tcc_txn.proofs.Lists.{in_flat_map}
-use Rattle.tcc_txn.specs.Snapshots.{parts_of}
-use Rattle.tcc_txn.specs.Transactions.{Transaction}
 use Rattle.tcc_graph.specs.Links.{unfolding_of}
 use Rattle.tcc_graph.specs.Walks.{step_from, step_to}
 use Rattle.tcc_graph.specs.declared.step.Step.{Step}
 use Rattle.tcc_graph.specs.declared.step.Step.TheVariants as step
 use Rattle.tcc_graph.specs.declared.link.Link.{Link}
 use Rattle.tcc_graph.specs.declared.link.Link.TheVariants as link
-use Rattle.tcc_slices.specs.Needs.{AreNeeded, HasStep, IsMet, IsNeededWhole, IsWritten}
+use Rattle.tcc_slices.specs.Needs.{HasStep, IsMet, IsWritten}
 use Rattle.tcc_slices.specs.private.Needing.{AreNeeds, IsNeedOf, need_at, needs_of_link, needs_of_step}
 use Rattle.tcc_slices.specs.declared.needs.Need.{Need}
 use Rattle.tcc_slices.specs.declared.needs.Need.TheVariants as need
@@ -156,31 +152,3 @@ module _ (links : List Link) where
   met_listed n some (inl (s, has, inl from)) = subst IsListed from (from_listed s (omega (arith, from, some)) has)
   met_listed n some (inl (s, has, inr to)) = subst IsListed to (to_listed s (omega (arith, to, some)) has)
   met_listed n some (inr (x, a, c, walk, has)) = (need.Write x, of_derived n a c x walk some has)
-
--- ---- what is needed as a whole
-pub needed_append : (links : List Link) (n m : ℕ) (xs ys : List Transaction) → m ≡ n + length xs → AreNeeded links n xs → AreNeeded links m ys
-    → AreNeeded links n (xs ++ ys)
-needed_append links n m [] ys e some more = subst (λ (z : ℕ). AreNeeded links z ys) (omega (arith, e)) more
-needed_append links n m (x ∷ xs) ys e (here, some) more = (here, needed_append links (n + 1) m xs ys (omega (arith, e)) some more)
-
-pub needed_more : (links : List Link) (n m i : ℕ) (xs : List Transaction) (x : Transaction) → i < length xs → x ≡ get_or xs i x → m ≡ n + i
-    → AreNeeded links n (take i xs) → IsNeededWhole links m x → AreNeeded links n (take (i + 1) xs)
-needed_more links n m i xs x inside here e some whole =
-    let counted : m ≡ n + length (take i xs) = e ∙ ap (λ z. n + z) (sym (length-take-le i xs (omega (arith, inside)))) in
-    subst (λ (z : List Transaction). AreNeeded links n z) (sym (take_more xs i x inside ∙ ap (λ z. take i xs ++ z ∷ []) (sym here)))
-    (needed_append links n m (take i xs) (x ∷ []) counted some (whole, tt))
-
--- the transactions of some sessions
-abbrev pub transactions_of : List (List ℕ × Vec Transaction) → List Transaction
-transactions_of parts = flat_map (λ part. part.1) (parts_of parts)
-
-pub of_append : (parts : List (List ℕ × Vec Transaction)) (part : List ℕ × Vec Transaction)
-    → transactions_of (parts ++ part ∷ []) ≡ transactions_of parts ++ part.1.items
-of_append [] part = append-nil part.1.items
-of_append (other ∷ parts) part =
-    ap (λ t. other.1.items ++ t) (of_append parts part) ∙ sym (append_assoc other.1.items (transactions_of parts) part.1.items)
-
-pub of_more : (parts : List (List ℕ × Vec Transaction)) (i : ℕ) (part : List ℕ × Vec Transaction) → i < length parts → part ≡ get_or parts i part
-    → transactions_of (take (i + 1) parts) ≡ transactions_of (take i parts) ++ part.1.items
-of_more parts i part inside here =
-    ap transactions_of (take_more parts i part inside ∙ ap (λ z. take i parts ++ z ∷ []) (sym here)) ∙ of_append (take i parts) part

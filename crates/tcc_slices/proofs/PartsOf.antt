@@ -1,11 +1,10 @@
 -- Of each part of a cut of a resolved snapshot the transaction that it is a part of, and what it has of that.
-use Rattle.std.proofs.Common.{ℕ, zero, suc, ◌≡◌, ◌<◌, ◌-◌, ◌==◌, ◌&&◌, ◌||◌, Bool, true, false, cond, List, [], ◌∷◌, filter_map, get_or, map, refl, sym, ap, subst, ◌∙◌, arith}
+use Rattle.std.proofs.Common.{ℕ, zero, suc, ◌≡◌, ◌<◌, ◌-◌, ◌==◌, ◌&&◌, Bool, not, true, false, cond, List, [], ◌∷◌, filter_map, get_or, map, refl, sym, ap, subst, ◌∙◌, arith}
 use Rattle.std.specs.Prelude.{Option, Some, None, is_none, nat_lt, slice_get, unwrap_or}
-use Rattle.std.specs.List.{Contains, cons_option, list_any}
+use Rattle.std.specs.List.{Contains, cons_option}
 use Rattle.std.specs.FinMap.{entries}
 use Rattle.std.specs.Option.{option_map_or}
-use Rattle.std.specs.Str.{bytes_eq}
-use Rattle.std.proofs.lemmas.Bool.{and_from, and_parts, eq-eqb, eqb-true, lt-ltb, ne_eqb, or_left, or_right}
+use Rattle.std.proofs.lemmas.Bool.{and_from, and_parts, eq-eqb, eqb-true, lt-ltb, ne_eqb}
 use Rattle.std.proofs.lemmas.List.{get_or-map}
 use Rattle.std.proofs.lemmas.Option.{slice_get-get_or}
 use Rattle.tcc_txn.specs.Snapshots.{Sessions, finished_at}
@@ -18,15 +17,14 @@ use Rattle.tcc_reads.specs.History.{History, count, owner, place}
 use Rattle.tcc_reads.specs.OneSource.{IsNumber}
 use Rattle.tcc_reads.specs.Sites.{Stand, Site, sites_from, sites_of}
 use Rattle.tcc_reads.specs.Sources.{external_part, external_read, external_reads, history, visible_write}
-use Rattle.tcc_reads.proofs.Ties.{itself}
 use Rattle.tcc_graph.specs.Numbers.{at}
 use Rattle.tcc_operations.specs.Operations.{ops_in, ops_of, source_value}
 use Rattle.tcc_slices.specs.Parts.{IsPart}
-use Rattle.tcc_slices.specs.private.Cutting.{IsNamed, IsPartAt, is_wanted, kept_behind, own_needs, recorded_of, same_op, value_shown, wanted_by, wanted_of}
+use Rattle.tcc_slices.specs.private.Cutting.{IsNamed, IsPartAt, is_among, is_wanted, kept_behind, own_needs, recorded_of, value_shown, wanted_by, wanted_of}
 use Rattle.tcc_slices.specs.declared.needs.Need.{Need}
 use Rattle.tcc_slices.specs.declared.needs.Need.TheVariants as need
 use Rattle.tcc_slices.proofs.Freed.{IsFrom, kept_in, kept_read, kept_site, put_visible, visible_put}
-use Rattle.tcc_slices.proofs.Keeping.{wanted_there}
+use Rattle.tcc_slices.proofs.Keeping.{any_there, not_among, wanted_there}
 use Rattle.tcc_slices.proofs.Named.{at_parts, some_is}
 use Rattle.tcc_slices.proofs.Numbered.{number_below, number_some, number_stands, of_number, owner_is, place_is}
 use Rattle.tcc_slices.proofs.Once.{op_site, site_op}
@@ -71,15 +69,6 @@ read_op site read is = go site.op is
     go : (op : Op) → external_part op (λ x. visible_write x site.before) ≡ Some read → op ≡ Get read.0 read.1
     go (Get x v) e = by x v (visible_write x site.before) e
     go (Put x v) e = absurd cc
-
-pub itself_op : (op : Op) → same_op op op ≡ true
-itself_op (Get x v) = and_from (bytes_eq x x) (v == v) (itself x) (eq-eqb v v refl)
-itself_op (Put x v) = and_from (bytes_eq x x) (v == v) (itself x) (eq-eqb v v refl)
-
-any_there : (wanted : List Op) (op : Op) → Contains wanted op → list_any (λ one. same_op one op) wanted ≡ true
-any_there [] op (k, l, e) = absurd (omega (arith, l))
-any_there (one ∷ wanted) op (zero, l, e) = ap (λ (z : Op). same_op z op || list_any (λ y. same_op y op) wanted) e ∙ or_left (same_op op op) (list_any (λ y. same_op y op) wanted) (itself_op op)
-any_there (one ∷ wanted) op (suc k, l, e) = or_right (same_op one op) (list_any (λ y. same_op y op) wanted) (any_there wanted op (k, omega (arith, l), e))
 
 -- ---- the operations of a number
 module _ (s : Sessions) where
@@ -212,7 +201,7 @@ module _ (s : Sessions) where
     put_value x v there =
         let w = op_site t [] t.txn.ops (Put x v) there in
         let o = origin w.0 w.1 in
-        let passes = and_parts _ _ (subst (λ (z : Op). is_wanted (wanted_at needs n) o.origin.before z ≡ true) (o.op ∙ w.2) o.passes) in
+        let passes = and_parts _ _ (and_parts _ _ (subst (λ (z : Op). is_wanted (wanted_at needs n) o.origin.before z ≡ true) (o.op ∙ w.2) o.passes)).0 in
         let value = wanted_put x v (wanted_there (wanted_at needs n) (Put x v) passes.0) in
         let inside = subst (Contains u.txn.ops) (o.op ∙ w.2) (site_op u [] u.txn.ops o.origin o.there) in
         let shown = put_visible x u.txn.ops v inside in
@@ -224,8 +213,9 @@ module _ (s : Sessions) where
         let there = in_wanted (need.Write x) (Put x v) has (subst (λ (z : ℕ). Contains (wanted_of s (history s) n (need.Write x)) (Put x z)) value (0, omega arith, refl)) in
         subst (λ (z : List Op). Contains z (Put x v)) (sym of.kept)
         (kept_in (is_wanted (wanted_at needs n)) [] u.txn.ops (Put x v)
-        (λ b. and_from (list_any (λ one. same_op one (Put x v)) (wanted_at needs n)) true (any_there (wanted_at needs n) (Put x v) there) refl)
-        (visible_put x u.txn.ops v shown))
+        (λ b new. and_from (is_among (wanted_at needs n) (Put x v) && true) (not (is_among b (Put x v)))
+        (and_from (is_among (wanted_at needs n) (Put x v)) true (any_there (wanted_at needs n) (Put x v) there) refl) (not_among b (Put x v) new))
+        (λ none. absurd (omega (arith, none.1))) (visible_put x u.txn.ops v shown))
 
     pub read_kept : (x : List ℕ) (v a : ℕ) → Contains needs (n, need.Read x a) → v ≡ source_value s (history s) a x → Contains (external_reads u) (x, v)
         → Contains (external_reads t) (x, v)
@@ -234,8 +224,9 @@ module _ (s : Sessions) where
         (subst (λ (z : ℕ). Contains (wanted_of s (history s) n (need.Read x a)) (Get x z)) (sym value) (0, omega arith, refl)) in
         subst (λ (z : List Op). Contains (filter_map external_read (sites_from t [] z)) (x, v)) (sym of.kept)
         (kept_read (is_wanted (wanted_at needs n)) u t [] [] u.txn.ops x v (λ y none. none)
-        (λ b free. and_from (list_any (λ one. same_op one (Get x v)) (wanted_at needs n)) (is_none (visible_write x b))
-        (any_there (wanted_at needs n) (Get x v) there) (ap is_none free)) reads)
+        (λ b free new. and_from (is_among (wanted_at needs n) (Get x v) && is_none (visible_write x b)) (not (is_among b (Get x v)))
+        (and_from (is_among (wanted_at needs n) (Get x v)) (is_none (visible_write x b)) (any_there (wanted_at needs n) (Get x v) there) (ap is_none free))
+        (not_among b (Get x v) new)) (λ free none. absurd (omega (arith, none.1))) reads)
 
     -- each read of the part is an external one, in it and in the whole one
     pub record IsRead (site : Site) (x : List ℕ) (v : ℕ) : Type 0 where
@@ -246,7 +237,7 @@ module _ (s : Sessions) where
     pub read_site : (site : Site) (x : List ℕ) (v : ℕ) → Contains (sites_of t) site → site.op ≡ Get x v → IsRead site x v
     read_site site x v there op =
         let o = origin site there in
-        let passes = and_parts _ _ (subst (λ (z : Op). is_wanted (wanted_at needs n) o.origin.before z ≡ true) (o.op ∙ op) o.passes) in
+        let passes = and_parts _ _ (and_parts _ _ (subst (λ (z : Op). is_wanted (wanted_at needs n) o.origin.before z ≡ true) (o.op ∙ op) o.passes)).0 in
         let free : visible_write x o.origin.before ≡ None = none_is (visible_write x o.origin.before) passes.1 in
         let external : external_read o.origin ≡ Some (x, v)
         = ap (λ (z : Op). external_part z (λ y. visible_write y o.origin.before)) (o.op ∙ op)

@@ -22,32 +22,35 @@ IsMet links n =
     ((s : Step) × HasStep links s × ((step_from s ≡ n) ⊎ (step_to s ≡ n)))
     ⊎ ((x : List ℕ) × (a : ℕ) × (c : ℕ) × (walk : List Step) × Contains links (link.Derived n a x c walk))
 
--- the transaction of a number reads the key in one of the steps
-abbrev pub IsReader : List Link → ℕ → List ℕ → Type 0
-IsReader links n x = (a : ℕ) × HasStep links (step.Reads a n x)
-
 -- the key is read from it in one of the steps, or a link is derived from that it writes the key
 abbrev pub IsWritten : List Link → ℕ → List ℕ → Type 0
 IsWritten links n x =
     ((c : ℕ) × HasStep links (step.Reads n c x))
     ⊎ ((a : ℕ) × (c : ℕ) × (walk : List Step) × Contains links (link.Derived n a x c walk))
 
--- the links need an operation of the transaction of this number: its read of a key, or its write of a key
-abbrev pub IsNeeded : List Link → ℕ → Op → Type 0
-IsNeeded links n (Get key value) = IsReader links n key
-IsNeeded links n (Put key value) = IsWritten links n key
+-- the links need an operation of the transaction of this number, where `shown` is the value that others read at a key of a transaction: its
+-- read of a key, of the value that the source shows; or its write of a key, of the value that it shows itself
+abbrev pub IsNeeded : (ℕ → List ℕ → ℕ) → List Link → ℕ → Op → Type 0
+IsNeeded shown links n (Get key value) = (a : ℕ) × HasStep links (step.Reads a n key) × (value ≡ shown a key)
+IsNeeded shown links n (Put key value) = IsWritten links n key × (value ≡ shown n key)
 
--- the transaction of a number is committed, and the links need it and each of its operations
-pub record IsNeededWhole (links : List Link) (n : ℕ) (t : Transaction) : Type 0 where
+-- none of the operations is there twice
+abbrev pub AreOnce : List Op → Type 0
+AreOnce [] = Unit {0}
+AreOnce (op ∷ later) = (Contains later op → ⊥) × AreOnce later
+
+-- the transaction of a number is committed, and the links need it and each of its operations, once
+pub record IsNeededWhole (shown : ℕ → List ℕ → ℕ) (links : List Link) (n : ℕ) (t : Transaction) : Type 0 where
   pub committed : t.committed ≡ true
   pub met : IsMet links n
-  pub operations : All (IsNeeded links n) t.ops
+  pub operations : All (IsNeeded shown links n) t.ops
+  pub once : AreOnce t.ops
 
 -- the links need each of some transactions, which have the numbers from n on
-abbrev pub AreNeeded : List Link → ℕ → List Transaction → Type 0
-AreNeeded links n [] = Unit {0}
-AreNeeded links n (t ∷ later) = IsNeededWhole links n t × AreNeeded links (n + 1) later
+abbrev pub AreNeeded : (ℕ → List ℕ → ℕ) → List Link → ℕ → List Transaction → Type 0
+AreNeeded shown links n [] = Unit {0}
+AreNeeded shown links n (t ∷ later) = IsNeededWhole shown links n t × AreNeeded shown links (n + 1) later
 
 -- the links need each transaction of a snapshot
-abbrev pub IsNothingSpare : List Link → Sessions → Type 0
-IsNothingSpare links s = AreNeeded links 1 (flat_map (λ part. part.1) (entries s))
+abbrev pub IsNothingSpare : (ℕ → List ℕ → ℕ) → List Link → Sessions → Type 0
+IsNothingSpare shown links s = AreNeeded shown links 1 (flat_map (λ part. part.1) (entries s))

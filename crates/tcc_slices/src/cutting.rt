@@ -1,11 +1,10 @@
 //! The cut of a snapshot by needs: of each transaction that has a need the operations that are needed, in their order.
 ghost use Rattle.std.specs.Prelude.{◌≡◌, ◌<◌, ◌++◌, ◌∷◌, [], if◌then◌else◌, List, None, Some, true, IfOk, IfSome, MatchOption, OnOk, length};
-ghost use Rattle.std.specs.List.{list_any};
 ghost use Rattle.tcc_reads.specs.Sources.{visible_write, history};
 ghost use Rattle.tcc_txn.specs.Transactions.{Transaction};
 ghost use Rattle.tcc_graph.specs.declared.link.Link.{Link};
 ghost use Rattle.tcc_slices.specs.{Cuts.IsCutOf, Limits.NeedTooMuch, private.Carrying.IsRising, private.Needing.AreByNumber};
-ghost use Rattle.tcc_slices.specs.private.Cutting.{AreMetBy, IsCut, IsNamed, IsNameless, IsPartOf, is_free, is_wanted, kept_behind, own_needs, recorded_of, same_op, wanted_by, wanted_of};
+ghost use Rattle.tcc_slices.specs.private.Cutting.{AreMetBy, IsCut, IsNamed, IsNameless, IsPartOf, is_among, is_free, is_wanted, kept_behind, own_needs, recorded_of, same_op, wanted_by, wanted_of};
 
 use crate::needs::Need;
 use std::alloc::Global;
@@ -56,18 +55,18 @@ fn is_free(before: &[Op], op: &Op) -> bool
     }
 }
 
-/// Whether an operation is among the wanted ones.
-fn is_among(wanted: &[Op], op: &Op) -> bool
-    ensures { result ≡ list_any (λ one. same_op one op.now) wanted.now }
+/// Whether an operation is among others.
+fn is_among(ops: &[Op], op: &Op) -> bool
+    ensures { result ≡ is_among ops.now op.now }
 {
-    wanted.iter().any(|one| is_same(one, op))
+    ops.iter().any(|one| is_same(one, op))
 }
 
-/// Whether an operation behind some others is a wanted one.
+/// Whether an operation after some others is a wanted one, for the first time.
 fn is_wanted(wanted: &[Op], before: &[Op], op: &Op) -> bool
     ensures { result ≡ is_wanted wanted.now before.now op.now }
 {
-    is_among(wanted, op) && is_free(before, op)
+    is_among(wanted, op) && is_free(before, op) && !is_among(before, op)
 }
 
 /// Keeps an operation, where that is so.

@@ -52,7 +52,7 @@ fn is_slice(
     Ok(is_cycle(&graph, level, &own) && is_carried(&graph, whole, numbers))
 }
 
-/// The slice of a snapshot by the links of a cycle: of their transactions the operations that the links need, and no others, in
+/// The slice of a snapshot by the links of a cycle: of their transactions the operations that the links need, each once, and no others, in
 /// the order of the whole. Its reads are resolved, and by a map of numbers each of its links is one of the whole, so each of its
 /// anomalies is one too, of the same cost; by this map these links are a cycle of it at the level. Each session's transactions are
 /// some of its transactions in the whole, each with some of its operations, in their order. Where the graph is the
@@ -65,7 +65,7 @@ pub fn slice(
     level: Level,
     links: &[Link],
 ) -> Result<Option<Snapshot>, NoMemory>
-    ensures links { IfOk result (λ found. IfSome found (λ slice. IsSliceOf level graph.now links.now slice)) }
+    ensures links { IfOk result (λ found. IfSome found (λ slice. IsSliceOf level snapshot.now graph.now links.now slice)) }
     ensures records { IfOk result (λ found. IfSome found (λ slice. IsCutOf slice snapshot.now)) }
     ensures none { IfOk result (λ found. found ≡ None → graph.now ≡ history snapshot.now → read_faults snapshot.now ≡ []
         → AreCycle (judged graph.now level) links.now → NeedTooMuch graph.now links.now) }

@@ -1,21 +1,26 @@
 -- The usual names of contradicted reads.
-use Rattle.std.proofs.Common.{◌≡◌, ◌≢◌, ◌<◌, ◌≤◌, ◌+◌, ◌-◌, ◌⊎◌, ◌↔◌, inl, inr, ℕ, true, List, length, map, get_or, sym, ap, ◌∙◌, subst, arith}
-use Rattle.std.specs.List.{All, Contains}
-use Rattle.std.proofs.lemmas.Bool.{cases_lt, cases_eq}
+use Rattle.std.proofs.Common.{◌≡◌, ◌≢◌, ◌<◌, ◌≤◌, ◌+◌, ◌⊎◌, ◌↔◌, inl, inr, ℕ, true, List, length, slice_index, min, refl, sym, ◌∙◌, subst, arith}
+use Rattle.std.specs.List.{All, Contains, zip}
+use Rattle.std.proofs.lemmas.Bool.{cases_eq}
+use Rattle.std.proofs.lemmas.List.Elements.{All-filter, All-contains, All-weaker, All-contains_itself, filter_passes}
 use Rattle.std.proofs.lemmas.List.{get_or_default}
-use Rattle.std.proofs.lemmas.List.Elements.{All-filter, All-contains, filter_passes}
-use Rattle.tcc_txn.proofs.Lists.{from_map, in_filter, in_map}
-use Rattle.tcc_reads.specs.History.{History, IsBySession, count, entry_at, owner}
+use Rattle.std.proofs.lemmas.Slice.Zip.{length-zip}
+use Rattle.tcc_txn.proofs.Lists.{in_filter}
+use Rattle.tcc_reads.specs.History.{History, count, owner}
 use Rattle.tcc_graph.specs.Relations.{causal_pair, IsSessionPair, IsReadsPair, reads_from}
 use Rattle.tcc_graph.specs.Keys.{has_name, key_at, readers, numbers}
+use Rattle.tcc_graph.specs.Readings.{AreReadingsByIndex}
 use Rattle.tcc_graph.proofs.NameLemmas.{has_name-contains, contains-has_name}
 use Rattle.tcc_graph.proofs.Pairs.{PairParts, pair_kinds, pair_from_reads, pair_parts}
 use Rattle.tcc_graph.proofs.WriterLemmas.{numbers_below, number_in}
-use Rattle.tcc_clocks.proofs.Reaching.{reads_source, same_session}
+use Rattle.tcc_clocks.specs.Clocks.{IsOneOf}
+use Rattle.tcc_clocks.proofs.Reaching.{same_session, session_rises}
+use Rattle.tcc_survey.specs.declared.session_guarantees.Knowledge.{Knowledge}
 use Rattle.tcc_survey.specs.declared.usual_name.UsualName.TheVariants as name
-use Rattle.tcc_survey.specs.Names.{ReadsFrom, IsUpTo, Fits}
-use Rattle.tcc_survey.specs.private.Spells.{IsAfterAny, IsStart, NoneBefore}
-use Rattle.tcc_survey.proofs.ListLemmas.{listed_pair}
+use Rattle.tcc_survey.specs.Names.{ReadsFrom, Fits, rank}
+use Rattle.tcc_survey.specs.private.Seen.{IsSeen, latest_mark}
+use Rattle.tcc_survey.specs.private.Spells.{IsAfterAny, IsKnowledge, IsSeenAfter, NoneBefore}
+use Rattle.tcc_survey.proofs.SeenLemmas.{reader_some}
 
 -- ---- who reads a key
 pub readers_below : (h : History) (a : ℕ) (x : List ℕ) → All (λ c. c < count h) (readers h a x)
@@ -32,82 +37,6 @@ reader_reads h a x c from there = (
 reads_reader : (h : History) (a : ℕ) (x : List ℕ) (c : ℕ) → IsReadsPair h a c x → Contains (readers h a x) c
 reads_reader h a x c (from, to, there) =
     in_filter (λ d. has_name (reads_from h a d) x) (numbers h) c (number_in h c to) (contains-has_name (reads_from h a c) x there)
-
--- ---- whom a transaction reads from, by the indices of the keys
-module _ (h : History) (c : ℕ) (below : c < count h) (P : ℕ → Type 0) (items : List (ℕ × ℕ))
-    (value : map (λ read. (key_at h read.0, read.1)) items ≡ (entry_at h c).reads) where
-  abbrev named : ℕ × ℕ → List ℕ × ℕ
-  named read = (key_at h read.0, read.1)
-
-  pub found_item : (k : ℕ) → k < length items → (get_or items k (0, 0)).1 < count h → P (get_or items k (0, 0)).1 → (d : ℕ) × ReadsFrom h d c × P d
-  found_item k l from holds =
-      let r : ℕ × ℕ = get_or items k (0, 0) in
-      let there : Contains items r = (k, l, get_or_default items k r (0, 0) l) in
-      let read : List ℕ × ℕ = named r in
-      (r.1, (key_at h r.0, listed_pair h r.1 c (key_at h r.0) from below (subst (λ (xs : List (List ℕ × ℕ)). Contains xs read) value (in_map named items r there))), holds)
-
-  pub no_item : (n : ℕ) → length items ≤ n → ((k : ℕ) → k < n → P (get_or items k (0, 0)).1 → ⊥) → (d : ℕ) × ReadsFrom h d c × P d → ⊥
-  no_item n past never (d, (y, pair), is) =
-      let w = from_map (λ (read : List ℕ × ℕ). read.1) (entry_at h c).reads d (reads_source h d c y pair.2) in
-      let v = from_map named items w.0 (subst (λ (xs : List (List ℕ × ℕ)). Contains xs w.0) (sym value) w.1) in
-      go v.0 v.1 (ap (λ (p : List ℕ × ℕ). p.1) v.2 ∙ w.2)
-    where
-      go : (r : ℕ × ℕ) → Contains items r → r.1 ≡ d → ⊥
-      go r (k, l, e) same =
-          let here : ◌≡◌ {A = ℕ × ℕ} (get_or items k (0, 0)) r = get_or_default items k (0, 0) r l ∙ e in
-          never k (omega (arith, l, past)) (subst P (sym (ap (λ (p : ℕ × ℕ). p.1) here ∙ same)) is)
-
-  pub item_more : (n : ℕ) → ((k : ℕ) → k < n → P (get_or items k (0, 0)).1 → ⊥) → (P (get_or items n (0, 0)).1 → ⊥)
-      → (k : ℕ) → k < n + 1 → P (get_or items k (0, 0)).1 → ⊥
-  item_more n before never k l holds = go (cases_eq k n)
-    where
-      go : (k ≡ n) ⊎ (k ≢ n) → ⊥
-      go (inl same) = never (subst (λ (z : ℕ). P (get_or items z (0, 0)).1) same holds)
-      go (inr other) = before k (omega (arith, l, other)) holds
-
--- ---- the session of a reader
-pub start_of : (h : History) → IsBySession h.entries → (c start : ℕ) → 0 < start → start ≤ c → c < count h
-    → ((e : ℕ) → start ≤ e → e ≤ c → IsUpTo h e c) → ((start ≡ 1) ⊎ (IsSessionPair h (start - 1) c → ⊥)) → IsStart h c start
-start_of h numbered c start some upto below inside outside e = (λ w. there w, λ w. inside e w.0 w.1)
-  where
-    high : IsUpTo h e c → e ≤ c
-    high (more, inl same) = omega (arith, same)
-    high (more, inr pair) = go (cases_lt c e)
-      where
-        parts : PairParts h e c
-        parts = pair_parts h e c pair
-
-        go : (c < e) ⊎ (e ≤ c) → e ≤ c
-        go (inl less) = absurd (omega (arith, parts.lower more, (numbered c e less parts.from).1 (sym (parts.same more))))
-        go (inr low) = low
-
-    low : IsUpTo h e c → (e < start) ⊎ (start ≤ e) → start ≤ e
-    low w (inr more) = more
-    low w (inl less) = absurd (by outside (w.1))
-      where
-        by : (start ≡ 1) ⊎ (IsSessionPair h (start - 1) c → ⊥) → (e ≡ c) ⊎ IsSessionPair h e c → ⊥
-        by (inl one) kind = omega (arith, less, one, w.0)
-        by (inr never) (inl same) = omega (arith, less, upto, same)
-        by (inr never) (inr pair) = never (same_session h numbered (start - 1) c (omega (arith, less, w.0)) (omega (arith, less, upto)) below same)
-          where
-            parts : PairParts h e c
-            parts = pair_parts h e c pair
-
-            rises : (e ≡ start - 1) ⊎ (e ≢ start - 1) → owner h e ≤ owner h (start - 1)
-            rises (inl at) = subst (λ (z : ℕ). owner h e ≤ owner h z) at (omega arith)
-            rises (inr other) = (numbered e (start - 1) (omega (arith, less, other)) (omega (arith, less, upto, below))).0
-
-            same : owner h (start - 1) ≡ owner h c
-            same =
-                omega (
-                  arith,
-                  rises (cases_eq e (start - 1)),
-                  (numbered (start - 1) c (omega (arith, less, upto)) below).0,
-                  parts.same w.0,
-                )
-
-    there : IsUpTo h e c → (start ≤ e) × (e ≤ c)
-    there w = (low w (cases_lt e start), high w)
 
 -- ---- the names
 module _ (h : History) (c : ℕ) (x : List ℕ) (b : ℕ) where
@@ -129,13 +58,119 @@ module _ (h : History) (c : ℕ) (x : List ℕ) (b : ℕ) where
         go e there (inr p) = (e, reader_reads h b x e below there, p)
 
     pub fits_follow : (among : List ℕ) → among ≡ readers h b x
-        → ((e : ℕ) × IsUpTo h e c × ((d : ℕ) × ReadsFrom h d e × IsAfterAny h among d)) ↔ Fits h c x b name.WritesFollowReads
+        → ((f : ℕ) × Contains among f × IsSeenAfter h c f) ↔ Fits h c x b name.WritesFollowReads
     fits_follow among are = (there, back)
       where
-        there : (e : ℕ) × IsUpTo h e c × ((d : ℕ) × ReadsFrom h d e × IsAfterAny h among d) → Fits h c x b name.WritesFollowReads
-        there (e, upto, (d, reads, (f, listed, way))) =
+        there : (f : ℕ) × Contains among f × IsSeenAfter h c f → Fits h c x b name.WritesFollowReads
+        there (f, listed, (d, (e, upto, reads), way)) =
             (e, d, upto, reads, (f, reader_reads h b x f below (subst (λ (rs : List ℕ). Contains rs f) are listed), way))
 
-        back : Fits h c x b name.WritesFollowReads → (e : ℕ) × IsUpTo h e c × ((d : ℕ) × ReadsFrom h d e × IsAfterAny h among d)
+        back : Fits h c x b name.WritesFollowReads → (f : ℕ) × Contains among f × IsSeenAfter h c f
         back (e, d, upto, reads, (f, pair, way)) =
-            (e, upto, (d, reads, (f, subst (λ (rs : List ℕ). Contains rs f) (sym are) (reads_reader h b x f pair), way)))
+            (f, subst (λ (rs : List ℕ). Contains rs f) (sym are) (reads_reader h b x f pair), (d, (e, upto, reads), way))
+
+-- none of the first n and one more
+pub none_more : (P : ℕ → Type 0) (xs : List ℕ) (n : ℕ) → ((k : ℕ) → k < n → P (slice_index xs k) → ⊥) → (P (slice_index xs n) → ⊥)
+    → (k : ℕ) → k < n + 1 → P (slice_index xs k) → ⊥
+none_more P xs n before never k less is = go (cases_eq k n)
+  where
+    go : (k ≡ n) ⊎ (k ≢ n) → ⊥
+    go (inl same) = never (subst (λ (z : ℕ). P (slice_index xs z)) same is)
+    go (inr other) = before k (omega (arith, less, other)) is
+
+-- none of them at all
+pub none_listed : (P : ℕ → Type 0) (xs : List ℕ) (n : ℕ) → length xs ≤ n → ((k : ℕ) → k < n → P (slice_index xs k) → ⊥) → (f : ℕ) → Contains xs f → P f → ⊥
+none_listed P xs n past none f (k, inside, here) is =
+    none k (omega (arith, inside, past)) (subst P (sym (get_or_default xs k 0 f inside ∙ here)) is)
+
+-- ---- what the marks say
+module _ (k : Knowledge) (is : IsKnowledge k) where
+  abbrev the : History
+  the = k.graph.now
+
+  abbrev last_in : ℕ → ℕ
+  last_in l = latest_mark k.owners.now k.marks.now k.reader l
+
+  -- who was seen, and has this session, is no later than the last that is marked there
+  seen_upto : (l d : ℕ) → l < length k.marks.now → 0 < d → d < count k.graph.now → owner k.graph.now d ≡ l → IsSeen k.graph.now k.reader d
+      → d ≤ latest_mark k.owners.now k.marks.now k.reader l
+  seen_upto l d room some below owned seen = (is.latest l room).greatest d record { committed = some; below = below; owned = owned; meant = seen }
+
+  module _ (b : ℕ) (some : 0 < b) (below : b < count k.graph.now) where
+    abbrev session : ℕ
+    session = slice_index k.owners.now b
+
+    mine : slice_index k.owners.now b ≡ owner k.graph.now b
+    mine = is.owned.each b some below
+
+    -- a later one of the session that was seen
+    upto_later : (d : ℕ) → IsSessionPair k.graph.now b d → IsSeen k.graph.now k.reader d → d ≤ last_in session
+    upto_later d pair seen =
+        let parts : PairParts k.graph.now b d = pair_parts k.graph.now b d pair in
+        seen_upto session d (is.room b below) parts.some parts.to (sym (parts.same some) ∙ sym mine) seen
+
+    pub fits_past : (b < last_in session) ↔ Fits k.graph.now k.reader (key_at k.graph.now k.key_index) b name.MonotonicWrites
+    fits_past = (λ less. there less (is.latest session (is.room b below)).attained, back)
+      where
+        there : b < last_in session → (last_in session ≡ 0) ⊎ IsOneOf k.graph.now (IsSeen k.graph.now k.reader) session (last_in session)
+            → Fits k.graph.now k.reader (key_at k.graph.now k.key_index) b name.MonotonicWrites
+        there less (inl none) = absurd (omega (arith, less, none))
+        there less (inr one) = (
+          one.meant.0,
+          last_in session,
+          one.meant.1,
+          one.meant.2,
+          same_session k.graph.now is.numbered b (last_in session) some less one.below (sym mine ∙ sym one.owned),
+        )
+
+        back : Fits k.graph.now k.reader (key_at k.graph.now k.key_index) b name.MonotonicWrites → b < last_in session
+        back (e, d, upto, reads, pair) =
+            omega (arith, session_rises k.graph.now is.numbered b d pair, upto_later d pair (e, upto, reads))
+
+    pub seen_after : (b ≤ last_in session) ↔ IsSeenAfter k.graph.now k.reader b
+    seen_after = (λ upto. there upto (is.latest session (is.room b below)).attained (cases_eq b (last_in session)), back)
+      where
+        there : b ≤ last_in session → (last_in session ≡ 0) ⊎ IsOneOf k.graph.now (IsSeen k.graph.now k.reader) session (last_in session)
+            → (b ≡ last_in session) ⊎ (b ≢ last_in session) → IsSeenAfter k.graph.now k.reader b
+        there upto (inl none) kind = absurd (omega (arith, upto, none, some))
+        there upto (inr one) (inl same) = (last_in session, one.meant, inl same)
+        there upto (inr one) (inr other) = (
+          last_in session,
+          one.meant,
+          inr (same_session k.graph.now is.numbered b (last_in session) some (omega (arith, upto, other)) one.below (sym mine ∙ sym one.owned)),
+        )
+
+        back : IsSeenAfter k.graph.now k.reader b → b ≤ last_in session
+        back (d, seen, inl same) =
+            let there : IsSeen k.graph.now k.reader b = subst (IsSeen k.graph.now k.reader) (sym same) seen in
+            seen_upto session b (is.room b below) some below (sym mine) there
+        back (d, seen, inr pair) = omega (arith, session_rises k.graph.now is.numbered b d pair, upto_later d pair seen)
+
+    -- a writer of another session, not seen, that nobody reads from
+    pub none_closer : (slice_index k.owners.now b ≢ slice_index k.owners.now k.reader) → (IsSeenAfter k.graph.now k.reader b → ⊥)
+        → (from key_indices : List ℕ) → AreReadingsByIndex k.graph.now b from key_indices → length from ≡ 0
+        → NoneBefore k.graph.now k.reader (key_at k.graph.now k.key_index) b (rank name.CausalChain)
+    none_closer apart unseen from key_indices are none = go
+      where
+        unread : (f : ℕ) → IsReadsPair k.graph.now b f (key_at k.graph.now k.key_index) → ⊥
+        unread f pair =
+            let there : Contains (zip from key_indices) (f, k.key_index) = (are.each f k.key_index).1 (is.key, pair) in
+            let long : length (zip from key_indices) ≡ min (length from) (length key_indices) = length-zip from key_indices in
+            let some : there.0 < length (zip from key_indices) = there.1 in
+            omega (arith, some, long, none, are.long)
+
+        go : NoneBefore k.graph.now k.reader (key_at k.graph.now k.key_index) b 5
+        go name.ReadYourWrites less pair =
+            let parts : PairParts k.graph.now b k.reader = pair_parts k.graph.now b k.reader pair in
+            apart (mine ∙ (parts.same some ∙ sym (is.owned.each k.reader is.some is.below)))
+        go name.FracturedRead less reads = unseen (b, (k.reader, (is.some, inl refl), reads), inl refl)
+        go name.MonotonicReads less (e, pair, before) = unread e pair
+        go name.MonotonicWrites less (e, d, upto, reads, before) = unseen (d, (e, upto, reads), inr before)
+        go name.WritesFollowReads less (e, d, upto, reads, (f, pair, way)) = unread f pair
+        go name.CausalChain less fits = let no : 5 < 5 = less in omega (arith, no)
+
+  -- the readers of a key are no `init`
+  pub readers_some : (b : ℕ) (x : List ℕ) → b < count k.graph.now → All (λ f. 0 < f) (readers k.graph.now b x)
+  readers_some b x below =
+      All-weaker (Contains (readers k.graph.now b x)) (λ f. 0 < f) (λ f there. reader_some k.graph.now is.acyclic b f x (reader_reads k.graph.now b x f below there))
+      (readers k.graph.now b x) (All-contains_itself (readers k.graph.now b x))

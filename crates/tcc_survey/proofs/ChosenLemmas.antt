@@ -1,12 +1,14 @@
 -- Of the external reads in a list those that are contradicted.
-use Rattle.std.proofs.Common.{◌≡◌, ◌<◌, ◌≤◌, ◌+◌, ◌⊎◌, inl, inr, ℕ, List, [], ◌∷◌, ◌++◌, length, length-append, slice_index, refl, sym, ap, ◌∙◌, subst, arith}
+use Rattle.std.proofs.Common.{◌≡◌, ◌<◌, ◌≤◌, ◌+◌, ◌⊎◌, inl, inr, ℕ, List, [], ◌∷◌, ◌++◌, length, length-append, refl, sym, ap, ◌∙◌, subst, arith}
 use Rattle.std.proofs.lemmas.Bool.{cases_eq}
 use Rattle.tcc_reads.specs.History.{count}
 use Rattle.tcc_graph.specs.Levels.{Judged}
 use Rattle.tcc_survey.specs.declared.external_reads.Reading.{Reading}
 use Rattle.tcc_survey.specs.declared.contradicted.Contradicted.{Contradicted}
 use Rattle.tcc_survey.specs.Contradictions.{IsContradictedBy, Contradicts, HasRead, IsContradicted, ComesBefore, contradicted_at, AreContradicted}
-use Rattle.tcc_survey.specs.private.Settled.{IsAgainst, AreFound, reading_of}
+use Rattle.tcc_survey.specs.declared.called.Called.{Called}
+use Rattle.tcc_survey.specs.private.Called.{AreCalled, IsCalledSo, called_at}
+use Rattle.tcc_survey.specs.private.Settled.{IsAgainst, reading_of}
 use Rattle.tcc_survey.specs.private.Listed.{IsReadOf, AreReadsUpTo, AreContradictedUpTo}
 use Rattle.tcc_survey.proofs.Pushed.{pushed_early, pushed_last, pushed_all, pushed_order}
 
@@ -26,13 +28,10 @@ chosen_none j reads = record {
   order = λ k l less up. absurd (omega arith);
 }
 
-module _ (j : Judged) (reads : List Reading) (listed : AreReadsUpTo j.history (count j.history) 0 reads) (found : List ℕ) (are : AreFound j reads found) (n : ℕ)
+module _ (j : Judged) (reads : List Reading) (listed : AreReadsUpTo j.history (count j.history) 0 reads) (called : List Called) (are : AreCalled j reads called) (n : ℕ)
     (inside : n < length reads) (list : List Contradicted) (before : AreContradictedUpTo j reads n list) where
-  abbrev r : Reading
-  r = reading_of reads n
-
   -- a read that nothing contradicts
-  pub chosen_passed : slice_index found n ≡ 0 → AreContradictedUpTo j reads (n + 1) list
+  pub chosen_passed : (called_at called n).writer ≡ 0 → AreContradictedUpTo j reads (n + 1) list
   chosen_passed none = record {
     each = before.each;
     among = λ k l. let w = before.among k l in (w.0, omega (arith, w.1), w.2);
@@ -40,39 +39,40 @@ module _ (j : Judged) (reads : List Reading) (listed : AreReadsUpTo j.history (c
     order = before.order;
   }
     where
+      nobody : IsCalledSo j (reading_of reads n) (called_at called n) → (b : ℕ) → IsAgainst j (reading_of reads n) b → ⊥
+      nobody (inl w) b against = w.1 b against
+      nobody (inr w) b against = omega (arith, none, w.0)
+
       go : (m b : ℕ) → m < n + 1 → IsAgainst j (reading_of reads m) b → (m ≡ n) ⊎ ((m ≡ n) → ⊥)
           → (k : ℕ) × (k < length list) × ((contradicted_at list k).reading ≡ reading_of reads m)
-      go m b l w (inl same) =
-          let against : IsAgainst j (reading_of reads n) b = subst (λ (z : ℕ). IsAgainst j (reading_of reads z) b) same w in
-          absurd (omega (arith, none, ((are.each n inside).least b against).0))
+      go m b l w (inl same) = absurd (nobody (are.each n inside) b (subst (λ (z : ℕ). IsAgainst j (reading_of reads z) b) same w))
       go m b l w (inr other) = before.all m b (omega (arith, l, other)) w
 
   -- a read that something contradicts
-  module _ (some : 0 < slice_index found n) where
+  module _ (some : 0 < (called_at called n).writer) where
     abbrev new : Contradicted
-    new = record { reading = reading_of reads n; writer = slice_index found n }
+    new = record { reading = reading_of reads n; name = (called_at called n).name; writer = (called_at called n).writer }
 
-    is_against : IsAgainst j (reading_of reads n) (slice_index found n)
-    is_against = go (are.each n inside).attained
+    new_is : IsContradicted j (record { reading = reading_of reads n; name = (called_at called n).name; writer = (called_at called n).writer })
+    new_is = go (are.each n inside)
       where
-        go : (slice_index found n ≡ 0) ⊎ IsAgainst j (reading_of reads n) (slice_index found n) → IsAgainst j (reading_of reads n) (slice_index found n)
-        go (inl none) = absurd (omega (arith, some, none))
-        go (inr w) = w
-
-    new_is : IsContradicted j (record { reading = reading_of reads n; writer = slice_index found n })
-    new_is = record {
-      there = ((listed.each n inside).reading.pair.1, (listed.each n inside).inside);
-      key = (listed.each n inside).reading.key;
-      read = (listed.each n inside).read;
-      by = by_index j (reading_of reads n) (listed.each n inside) (slice_index found n) is_against;
-      least = λ b w. ((are.each n inside).least b (by_numbers j (reading_of reads n) (listed.each n inside) b w)).1;
-    }
+        go : IsCalledSo j (reading_of reads n) (called_at called n)
+            → IsContradicted j (record { reading = reading_of reads n; name = (called_at called n).name; writer = (called_at called n).writer })
+        go (inl w) = absurd (omega (arith, some, w.0))
+        go (inr w) = record {
+          there = ((listed.each n inside).reading.pair.1, (listed.each n inside).inside);
+          key = (listed.each n inside).reading.key;
+          read = (listed.each n inside).read;
+          name = w.1;
+          writer = w.2;
+        }
 
     -- what stands where there is no read
     abbrev none : Contradicted
     none = contradicted_at [] 0
 
-    pub chosen_more : AreContradictedUpTo j reads (n + 1) (list ++ (record { reading = reading_of reads n; writer = slice_index found n }) ∷ [])
+    pub chosen_more : AreContradictedUpTo j reads (n + 1)
+        (list ++ (record { reading = reading_of reads n; name = (called_at called n).name; writer = (called_at called n).writer }) ∷ [])
     chosen_more = record {
       each = pushed_all list new none (IsContradicted j) before.each new_is;
       among = pushed_all list new none (λ c. (m : ℕ) × (m < n + 1) × (c.reading ≡ reading_of reads m))

@@ -18,8 +18,9 @@ use Rattle.tcc_clocks.specs.Spans.{AreSpans, AreBounds}
 use Rattle.tcc_clocks.specs.private.Between.{IsBetween}
 use Rattle.tcc_clocks.specs.declared.latest.TheConstants.{WIDE}
 use Rattle.tcc_clocks.proofs.SpanLemmas.{between_span, writers_rise}
+use Rattle.tcc_survey.specs.Circles.{IsAcyclic}
 use Rattle.tcc_survey.specs.declared.external_reads.Reading.{Reading}
-use Rattle.tcc_survey.specs.private.Settled.{IsAcyclic, AreWritersIn, AreSpansIn, in_span, IsAgainst, IsLeastOf, IsLeastBefore, AreSettled, AreFound, reading_of}
+use Rattle.tcc_survey.specs.private.Settled.{AreWritersIn, AreSpansIn, in_span, IsAgainst, IsLeastOf, IsLeastBefore, AreSettled, AreFound, reading_of}
 
 -- ---- the order
 module _ (h : History) (order : List ℕ) (numbering : IsNumbering (count h) order) where
@@ -100,19 +101,19 @@ spans_in h numbered owners known from low high spans bounds are = record {
     }
 
 -- ---- one read more
-module _ (P Q : ℕ → ℕ → Type 0) (found : List ℕ) (n i v : ℕ) (long : length found ≡ n) (inside : i < n)
-    (before : (k : ℕ) → k < i → P k (slice_index found k)) (rest : (k : ℕ) → i ≤ k → k < n → Q k (slice_index found k)) (new : P i v) where
-  pub cells_before : (k : ℕ) → k < i + 1 → P k (slice_index (set found i v) k)
+module _ {A : Type 0} (d : A) (P Q : ℕ → A → Type 0) (found : List A) (n i : ℕ) (v : A) (long : length found ≡ n) (inside : i < n)
+    (before : (k : ℕ) → k < i → P k (get_or found k d)) (rest : (k : ℕ) → i ≤ k → k < n → Q k (get_or found k d)) (new : P i v) where
+  pub cells_before : (k : ℕ) → k < i + 1 → P k (get_or (set found i v) k d)
   cells_before k l = go (cases_eq k i)
     where
-      go : (k ≡ i) ⊎ (k ≢ i) → P k (slice_index (set found i v) k)
-      go (inl same) = rw same (rw (get_or-set_same found i v 0 (omega (arith, inside, long))) new)
-      go (inr other) = rw (get_or-set_other found i k v 0 other) (before k (omega (arith, l, other)))
+      go : (k ≡ i) ⊎ (k ≢ i) → P k (get_or (set found i v) k d)
+      go (inl same) = rw same (rw (get_or-set_same found i v d (omega (arith, inside, long))) new)
+      go (inr other) = rw (get_or-set_other found i k v d other) (before k (omega (arith, l, other)))
 
-  pub cells_rest : (k : ℕ) → i + 1 ≤ k → k < n → Q k (slice_index (set found i v) k)
+  pub cells_rest : (k : ℕ) → i + 1 ≤ k → k < n → Q k (get_or (set found i v) k d)
   cells_rest k above below =
       let other : k ≢ i = omega arith in
-      rw (get_or-set_other found i k v 0 other) (rest k (omega (arith, above)) below)
+      rw (get_or-set_other found i k v d other) (rest k (omega (arith, above)) below)
 
 -- ---- all blocks
 pub none_settled : (j : Judged) (all : List Reading) (bound : ℕ) (found : List ℕ) → length found ≡ length all → bound ≡ 0

@@ -1,6 +1,6 @@
 -- First numbers of sessions: what a transaction reaches, by what stands right behind it.
 use Rattle.std.proofs.Common.{◌≡◌, ◌≢◌, ◌<◌, ◌≤◌, ◌+◌, ◌↔◌, ◌⊎◌, inl, inr, ℕ, List, [], ◌∷◌, ◌++◌, length, get_or, take}
-use Rattle.std.proofs.Common.{slice_index, refl, sym, ap, ◌∙◌, subst, arith}
+use Rattle.std.proofs.Common.{refl, sym, ap, ◌∙◌, subst, arith}
 use Rattle.std.specs.List.{All, Contains}
 use Rattle.std.proofs.lemmas.Bool.{cases_lt, cases_eq}
 use Rattle.std.proofs.lemmas.List.{get_or_default}
@@ -17,12 +17,11 @@ use Rattle.tcc_graph.proofs.Pairs.{PairParts, pair_below, pair_parts, step_pair,
 use Rattle.tcc_graph.proofs.Walking.{pair_walk, reached_append}
 use Rattle.tcc_bits.proofs.Lists.{zip_has}
 use Rattle.tcc_order.proofs.Readings.{reader_at}
-use Rattle.tcc_clocks.specs.Clocks.{IsAfter, IsWith}
+use Rattle.tcc_clocks.specs.Clocks.{AreOwners, IsAfter, IsWith}
 use Rattle.tcc_clocks.specs.declared.side.Side.TheVariants.{Future}
-use Rattle.tcc_clocks.specs.declared.latest.TheConstants.{WIDE}
 use Rattle.tcc_clocks.proofs.Along.{HaveRows, rows_before}
 use Rattle.tcc_clocks.proofs.Reaching.{same_session}
-use Rattle.tcc_survey.specs.private.Firsts.{AreFirstOf, AreChildren, LeadsBackward}
+use Rattle.tcc_survey.specs.private.Firsts.{AreFirstNumbers, AreFirstOf, AreChildren, LeadsBackward}
 
 -- the next of a session leads to what is further on
 next_of : (h : History) → IsBySession h.entries → (a m : ℕ) → 0 < a → IsSessionPair h a m → (m ≡ a + 1) ⊎ (m ≢ a + 1)
@@ -94,12 +93,12 @@ from_children h numbered a children some are b = (λ w. there w.0 w.1 w.2, λ w.
 
 -- ---- rows
 -- from `init` all are reached
-pub first_all : (h : History) (from : ℕ) (row : List ℕ) → length row ≡ WIDE → ((k : ℕ) → k < length row → slice_index row k ≡ 0)
+pub first_all : (h : History) (owners : List ℕ) → AreOwners h owners → (from : ℕ) (row : List ℕ) → AreFirstNumbers owners from row
     → AreFirstOf h (IsAfter h 0) from row
-first_all h from row wide zeroth = record {
-  wide = wide;
+first_all h owners known from row are = record {
+  wide = are.wide;
   each = λ k l b some below owned. (
-    (λ p. omega (arith, zeroth k (omega (arith, l, wide)))),
+    (λ p. are.each k l b (omega (arith, below, known.long)) (known.each b some below ∙ owned)),
     λ upto. let w = pair_walk h 0 b (inl (initial_pair h 0 b refl (omega (arith, some, below)) some below)) in (w.0, w.1),
   );
 }

@@ -20,18 +20,19 @@ use Rattle.tcc_clocks.proofs.EntryLemmas.{clock_reaches}
 use Rattle.tcc_clocks.specs.Clocks.{AreOwners, AreLatestOf, IsBefore, IsAfter}
 use Rattle.tcc_survey.specs.private.Firsts.{AreFirstOf}
 use Rattle.tcc_clocks.specs.declared.latest.TheConstants.{WIDE}
+use Rattle.tcc_survey.specs.Circles.{IsAcyclic}
 use Rattle.tcc_survey.specs.declared.external_reads.Reading.{Reading}
-use Rattle.tcc_survey.specs.private.Settled.{IsLeastOf, IsAcyclic, IsKnown, IsHit, AreWritersIn, IsAgainst, IsLeastBefore, IsReading}
+use Rattle.tcc_survey.specs.private.Settled.{IsLeastOf, IsKnown, IsHit, AreWritersIn, IsAgainst, IsLeastBefore, IsReading}
 
 -- ---- what the level asks
-known_walk : (j : Judged) (b c : ℕ) → IsReached j.history b c → IsKnown j.level j.history b c → (walk : List Step) × IsWalk j.history b c walk × IsAllowed j.level walk
+pub known_walk : (j : Judged) (b c : ℕ) → IsReached j.history b c → IsKnown j.level j.history b c → (walk : List Step) × IsWalk j.history b c walk × IsAllowed j.level walk
 known_walk j b c reached known = go j.level known
   where
     go : (l : Level) → IsKnown l j.history b c → (walk : List Step) × IsWalk j.history b c walk × IsAllowed l walk
     go level.Causal t = (reached.0, reached.1, tt)
     go level.Atomic pair = pair_walk j.history b c (pair_kinds j.history b c pair)
 
-walk_known : (j : Judged) (b c : ℕ) (walk : List Step) → IsWalk j.history b c walk → IsAllowed j.level walk → IsKnown j.level j.history b c
+pub walk_known : (j : Judged) (b c : ℕ) (walk : List Step) → IsWalk j.history b c walk → IsAllowed j.level walk → IsKnown j.level j.history b c
 walk_known j b c walk is allowed = go j.level allowed
   where
     one : (walk : List Step) → IsWalk j.history b c walk → length walk ≡ 1 → causal_pair j.history b c ≡ true
@@ -44,7 +45,7 @@ walk_known j b c walk is allowed = go j.level allowed
     go level.Atomic e = one walk is e
 
 -- nothing reaches `init`
-never_init : (h : History) → IsAcyclic h → (a : ℕ) → a < count h → IsReached h a 0 → ⊥
+pub never_init : (h : History) → IsAcyclic h → (a : ℕ) → a < count h → IsReached h a 0 → ⊥
 never_init h acyclic a below reached = go (cases_eq a 0)
   where
     go : (a ≡ 0) ⊎ (a ≢ 0) → ⊥

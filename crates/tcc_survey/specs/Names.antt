@@ -31,8 +31,3 @@ rank name.MonotonicReads = 2
 rank name.MonotonicWrites = 3
 rank name.WritesFollowReads = 4
 rank name.CausalChain = 5
-
--- the first that fits
-pub record IsUsualName (h : History) (c : ℕ) (x : List ℕ) (b : ℕ) (it : UsualName) : Type 0 where
-  pub fits : Fits h c x b it
-  pub first : (other : UsualName) → rank other < rank it → Fits h c x b other → ⊥

@@ -3,3 +3,8 @@ pub mod Firsts
 pub mod Settled
 pub mod Listed
 pub mod Spells
+pub mod Circling
+pub mod Needed
+pub mod Seen
+pub mod Called
+pub mod Calling

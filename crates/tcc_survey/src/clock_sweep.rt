@@ -1,7 +1,7 @@
 //! The least that contradicts each read: by vector clocks both ways (Fidge, Mattern), for a block of 64 sessions at a time. For
 //! N transactions, S sessions and R reads that takes at most S (N + R) steps, and for each block and each read whose clock differs
 //! from that of its source a look at the writers of its key in the block, one by one where they are few and else by halving for
-//! each session; and two tables of 64 N numbers.
+//! each session; and two tables of 64 N numbers. A block none of whose writers may contradict a read is passed over (`needed`).
 ghost use Rattle.std.specs.Prelude.{◌≡◌, IfOk, reverse};
 ghost use Rattle.tcc_reads.specs.History.{count};
 ghost use Rattle.tcc_graph.specs.{Levels.judged, Orders.IsNumbering};
@@ -10,6 +10,7 @@ ghost use Rattle.tcc_survey.specs.private.Settled.{AreReads, AreFound};
 
 use crate::block::Block;
 use crate::external_reads::Reading;
+use crate::needed::needed_blocks;
 use crate::reverse_clocks::find_firsts;
 use crate::scanning::Sweep;
 use std::alloc::{AllocError, Global};
@@ -18,7 +19,7 @@ use tcc_graph::{LargeGraph, Level};
 use tcc_txn::NoMemory;
 
 /// The order turned round.
-fn reversed(alloc: Global, order: &[u32]) -> Result<Vec<u32>, AllocError>
+pub(crate) fn reversed(alloc: Global, order: &[u32]) -> Result<Vec<u32>, AllocError>
     ensures { IfOk result (λ found. found.items ≡ reverse order.now) }
 {
     order.iter().rev().copied().collect(alloc)
@@ -45,7 +46,11 @@ pub(crate) fn find_least(
     let mut clocks = SharedRows::new(alloc, graph.count())?;
     let mut firsts = SharedRows::new(alloc, graph.count())?;
     let mut found = vec![in alloc; 0; reads.len()]?;
+    let needed = needed_blocks(alloc, graph, &owners, reads)?;
     for number in 0..sessions.div_ceil(WIDE) {
+        if !needed[number] {
+            continue;
+        }
         let block = Block {
             graph,
             owners: &owners,

@@ -3,12 +3,17 @@
 #![tactic(auto)]
 
 mod block;
+mod called;
+mod calling;
 mod circle;
 mod clock_sweep;
 mod contradicted;
 mod external_reads;
+pub mod laws;
+mod needed;
 mod reverse_clocks;
 mod scanning;
+mod seen;
 mod session_guarantees;
 mod surveyed;
 mod surveying;
@@ -16,7 +21,6 @@ mod usual_name;
 
 pub use contradicted::Contradicted;
 pub use external_reads::Reading;
-pub use session_guarantees::{NAMES, name_of};
 pub use surveyed::Surveyed;
 pub use surveying::survey;
-pub use usual_name::UsualName;
+pub use usual_name::{NAMES, UsualName};

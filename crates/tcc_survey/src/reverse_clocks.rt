@@ -1,15 +1,17 @@
 //! Of a block of sessions the first number that each transaction reaches: vector clocks (Fidge, Mattern) turned round. They
 //! are worked out back along a linear extension of the causal pairs, for a block of 64 sessions at a time, and equal rows are
 //! held once. For N transactions and R reads that takes at most 64 (N + R) steps a block, and 64 N numbers.
-ghost use Rattle.std.specs.Prelude.{◌≡◌, ◌<◌, ◌+◌, MatchOption, ℕ, List, length, set, All, OnOk};
+ghost use Rattle.std.specs.Prelude.{◌≡◌, ◌<◌, ◌≤◌, ◌+◌, ◌^◌, MatchOption, ℕ, List, length, set, slice_index, All, OnOk};
+ghost use Rattle.std.specs.List.Sorted.{IsNonDecreasing};
 ghost use Rattle.tcc_reads.specs.History.{IsBySession, count};
 ghost use Rattle.tcc_graph.specs.{Relations.IsSessionPair, Tables.row_of, Orders.IsNumbering};
-ghost use Rattle.tcc_clocks.specs.Clocks.{AreOwners};
-ghost use Rattle.tcc_survey.specs.private.Firsts.{AreFirsts, AreChildren, IsFirstRow, LeadsBackward};
+ghost use Rattle.tcc_clocks.specs.{Clocks.AreOwners, declared.latest.TheConstants.WIDE};
+ghost use Rattle.tcc_survey.specs.private.Firsts.{AreFirstNumbers, AreFirsts, AreChildren, IsFirstRow, LeadsBackward};
 
 use crate::block::Block;
+use crate::scanning::count_before;
 use std::alloc::{AllocError, Global};
-use tcc_clocks::{SharedRows, Side, WIDE, put_row};
+use tcc_clocks::{Clock, SharedRows, Side, WIDE, put_row};
 use tcc_graph::LargeGraph;
 use tcc_txn::NoMemory;
 
@@ -44,7 +46,31 @@ fn find_children(found: &mut Vec<u32>, graph: &LargeGraph, a: u32) -> Result<(),
     }
 }
 
-/// Gives a transaction its row, once those of what stands behind it are known. From `init` all are reached.
+/// A number up to which none is of this session: its first one, where it has some.
+fn first_number(owners: &[u32], session: u32) -> u32
+    requires { IsNonDecreasing owners.now }
+    ensures { (b : ℕ) → b < length owners.now → slice_index owners.now b ≡ session → result ≤ b }
+{
+    match u32::try_from(count_before(owners, session)) {
+        Ok(first) => first,
+        Err(_) => 0,
+    }
+}
+
+/// Of each session of the block its first number: from `init` all are reached.
+fn first_numbers(owners: &[u32], from: u32) -> Clock
+    requires rising { IsNonDecreasing owners.now }
+    requires room { from + WIDE < 2 ^ 32 }
+    ensures { AreFirstNumbers owners.now from result }
+{
+    let mut row = [0; WIDE];
+    for lane in 0..WIDE {
+        row[lane] = first_number(owners, from + lane as u32);
+    }
+    row
+}
+
+/// Gives a transaction its row, once those of what stands behind it are known.
 fn put_first(
     table: &mut SharedRows,
     block: &Block<'_>,
@@ -53,6 +79,7 @@ fn put_first(
 ) -> Result<(), NoMemory>
     requires numbered { IsBySession block.now.graph.now.entries }
     requires owners { AreOwners block.now.graph.now block.now.owners.now }
+    requires room { block.now.from + WIDE < 2 ^ 32 }
     requires children { AreChildren block.now.graph.now a children.now }
     requires long { length table.old ≡ count block.now.graph.now }
     requires firsts { All (λ p. IsFirstRow block.now.graph.now block.now.from p (row_of table.old p)) children.now }
@@ -60,7 +87,7 @@ fn put_first(
     ensures { OnOk result ((row : List ℕ) × (table.new ≡ set table.old a row) × IsFirstRow block.now.graph.now block.now.from a row) }
 {
     if a == 0 {
-        return table.put_like(a, &[0; WIDE], &[]);
+        return table.put_like(a, &first_numbers(block.owners, block.from), &[]);
     }
     put_row(
         table,
@@ -83,6 +110,7 @@ pub(crate) fn find_firsts(
 ) -> Result<(), NoMemory>
     requires numbered { IsBySession block.now.graph.now.entries }
     requires owners { AreOwners block.now.graph.now block.now.owners.now }
+    requires room { block.now.from + WIDE < 2 ^ 32 }
     requires numbering { IsNumbering (count block.now.graph.now) backward.now }
     requires backward { LeadsBackward block.now.graph.now backward.now }
     requires long { length table.old ≡ count block.now.graph.now }

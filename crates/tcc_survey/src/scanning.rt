@@ -1,12 +1,13 @@
 //! Which of the writers in a block of sessions contradict a read: those that its source reaches and that reach its reader. Of few
-//! writers each is looked at; of many, in each session the first by binary search, as numbers rise with places in a session. A read
-//! of a key with W writers in the block takes 32 steps, or 64 log W and one for each that is not known at the level.
-ghost use Rattle.std.specs.Prelude.{◌≡◌, ◌<◌, ◌≤◌, ◌+◌, ◌↔◌, ℕ, length, slice_index, IsTrue, OnOk};
+//! writers each is looked at; of many, in each session the first by binary search, as numbers rise with places in a session; and at
+//! `Atomic`, where a single pair leads to the reader, those of its own session and those that it reads from. A read of a key with W
+//! writers in the block takes 32 steps, or 64 log W, and at `Atomic` log W for each read of its reader.
+ghost use Rattle.std.specs.Prelude.{◌≡◌, ◌<◌, ◌≤◌, ◌+◌, ◌⊎◌, ◌↔◌, ℕ, length, slice_index, Contains, IsTrue, OnOk};
 ghost use Rattle.std.specs.List.Sorted.{IsNonDecreasing};
 ghost use Rattle.tcc_reads.specs.History.{count};
-ghost use Rattle.tcc_graph.specs.{Keys.key_at, Levels.judged};
+ghost use Rattle.tcc_graph.specs.{Keys.key_at, Levels.judged, declared.level.Level.TheVariants.Atomic};
 ghost use Rattle.tcc_clocks.specs.declared.latest.TheConstants.{WIDE};
-ghost use Rattle.tcc_survey.specs.private.Settled.{IsLeastOf, IsBlock, MayHit, IsWithin, IsKnown, IsHitOf, IsHitOnLane, AreWritersIn, IsReading, IsLeastBefore, AreReads, AreSettled, AreSpansIn};
+ghost use Rattle.tcc_survey.specs.private.Settled.{IsLeastOf, IsBlock, MayHit, IsWithin, IsKnown, IsHitOf, IsHitOnLane, IsOwnHit, AreWritersIn, IsReading, IsLeastBefore, AreReads, AreSettled, AreSpansIn};
 
 use crate::block::Block;
 use crate::external_reads::Reading;
@@ -19,10 +20,11 @@ use tcc_txn::NoMemory;
 const FEW: usize = 32;
 
 /// How many of these, which rise, are less than `bound`.
-fn count_before(numbers: &[u32], bound: u32) -> usize
+pub(crate) fn count_before(numbers: &[u32], bound: u32) -> usize
     requires { IsNonDecreasing numbers.now }
     ensures within { result ≤ length numbers.now }
     ensures less { (k : ℕ) → k < result → slice_index numbers.now k < bound }
+    ensures others { (k : ℕ) → result ≤ k → k < length numbers.now → bound ≤ slice_index numbers.now k }
 {
     numbers.partition_point(|number| *number < bound)
 }
@@ -121,16 +123,85 @@ impl Scan<'_> {
         0
     }
 
-    /// The first of the writers that lies between the rows and is known to the reader, or 0: of many session by session, but where
-    /// all are reached, as they are from `init`.
-    fn first_hit(&self, are_reached: bool) -> u32
+    /// Whether a transaction is one of the writers.
+    fn has(&self, b: u32) -> bool
+        requires { MayHit self.now }
+        ensures { IsTrue result ↔ Contains self.now.writers.now b }
+    {
+        let index = count_before(self.writers, b);
+        if index < self.writers.len() {
+            return self.writers[index] == b;
+        }
+        false
+    }
+
+    /// Whether a transaction is one of the writers, lies between the rows and is known to the reader.
+    fn is_hit(&self, b: u32) -> bool
+        requires may { MayHit self.now }
+        requires inside { b < count self.now.block.graph.now }
+        ensures { IsTrue result ↔ IsHitOf self.now b }
+    {
+        b > 0 && self.has(b) && self.is_within(b) && self.is_known(b)
+    }
+
+    /// The lesser of a hit, or 0 for none, and of a transaction, where that is a hit.
+    fn lesser_hit(&self, least: u32, b: u32) -> u32
+        requires may { MayHit self.now }
+        requires inside { b < count self.now.block.graph.now }
+        requires attained { (least ≡ 0) ⊎ IsHitOf self.now least }
+        ensures attained { (result ≡ 0) ⊎ IsHitOf self.now result }
+        ensures kept { 0 < least → (0 < result) × (result ≤ least) }
+        ensures met { IsHitOf self.now b → (0 < result) × (result ≤ b) }
+    {
+        if (least == 0 || b < least) && self.is_hit(b) {
+            b
+        } else {
+            least
+        }
+    }
+
+    /// The first of the writers of the reader's session that lies between the rows and is known to the reader, or 0.
+    fn hit_of_own(&self) -> u32
+        requires { MayHit self.now }
+        ensures { IsLeastOf (IsOwnHit self.now) result }
+    {
+        let owner = self.block.owners[self.reader as usize];
+        if owner < self.block.from {
+            return 0;
+        }
+        let lane = (owner - self.block.from) as usize;
+        if lane < WIDE {
+            self.hit_in_session(lane)
+        } else {
+            0
+        }
+    }
+
+    /// The first of the writers that lies between the rows and from which a single pair leads to the reader, or 0: one of the
+    /// reader's session, or one that it reads from.
+    fn hit_beside(&self) -> u32
+        requires may { MayHit self.now }
+        requires level { self.now.level ≡ Atomic }
+        ensures { IsLeastOf (IsHitOf self.now) result }
+    {
+        let mut least = self.hit_of_own();
+        for read in self.block.graph.reads_at(self.reader) {
+            least = self.lesser_hit(least, read.1);
+        }
+        least
+    }
+
+    /// The first of the writers that lies between the rows and is known to the reader, or 0.
+    fn first_hit(&self) -> u32
         requires { MayHit self.now }
         ensures { IsLeastOf (IsHitOf self.now) result }
     {
-        if are_reached || self.writers.len() <= FEW {
-            self.hit_of_few()
-        } else {
-            self.hit_of_many()
+        if self.writers.len() <= FEW {
+            return self.hit_of_few();
+        }
+        match self.level {
+            Level::Causal => self.hit_of_many(),
+            Level::Atomic => self.hit_beside(),
         }
     }
 }
@@ -167,7 +238,7 @@ impl Sweep<'_> {
             writers,
             reader: reading.reader,
         };
-        scan.first_hit(reading.source == 0)
+        scan.first_hit()
     }
 
     /// Goes on, for each read, to the writers of its key in the block.

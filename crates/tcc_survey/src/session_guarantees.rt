@@ -1,26 +1,19 @@
-//! The usual names of contradicted reads, those of the session guarantees (Terry et al., Session guarantees for weakly consistent
-//! replicated data, 1994) among them: by the sessions and the reads that lead from the writer to the reader. It is the first name that
-//! fits. A look at each reader of the key from the writer, and, for each read of the reader's session up to the reader, at these again.
-ghost use Rattle.std.specs.Prelude.{◌≡◌, ◌<◌, ◌≤◌, ◌↔◌, ℕ, length, All, IsTrue};
-ghost use Rattle.tcc_txn.specs.declared.limits.TheConstants.{LARGE_COUNT};
+//! Which of the usual names fits a writer of a key: those of the session guarantees (Terry et al., Session guarantees for weakly
+//! consistent replicated data, 1994) among them, by what the session of a reader has read so far (`seen`). The first that fits is
+//! found by a look at each reader of the key from the writer; a writer that nobody reads from needs a step alone, unless the
+//! session of the reader has read past it, or wrote it.
+ghost use Rattle.std.specs.Prelude.{◌≡◌, ◌<◌, ◌⊎◌, ◌↔◌, ℕ, false, length, All, Contains, IsTrue};
 ghost use Rattle.tcc_reads.specs.History.{count};
-ghost use Rattle.tcc_graph.specs.Keys.{keys, key_at, readers};
-ghost use Rattle.tcc_survey.specs.Names.{Fits, IsUpTo, IsUsualName, rank};
-ghost use Rattle.tcc_survey.specs.private.Spells.{AreInside, IsAfterAny, IsSource, IsStart, NoneBefore, ReadsFromAny};
+ghost use Rattle.tcc_graph.specs.Keys.{key_at, readers};
+ghost use Rattle.tcc_graph.specs.Relations.{IsSessionPair};
+ghost use Rattle.tcc_survey.specs.Names.{Fits, rank};
+ghost use Rattle.tcc_survey.specs.declared.usual_name.UsualName.TheVariants.{CausalChain, MonotonicWrites};
+ghost use Rattle.tcc_survey.specs.private.Seen.{IsSeen, latest_mark};
+ghost use Rattle.tcc_survey.specs.private.Spells.{IsAfterAny, IsFirstName, IsKnowledge, IsSeenAfter, NoneBefore};
 
-use crate::contradicted::Contradicted;
-use crate::usual_name::UsualName;
+use crate::seen::Mark;
+use crate::usual_name::{NAMES, UsualName};
 use tcc_graph::LargeGraph;
-
-/// The usual names, in the order in which the first that fits is taken.
-pub const NAMES: [UsualName; 6] = [
-    UsualName::ReadYourWrites,
-    UsualName::FracturedRead,
-    UsualName::MonotonicReads,
-    UsualName::MonotonicWrites,
-    UsualName::WritesFollowReads,
-    UsualName::CausalChain,
-];
 
 /// Whether `d` is one of these transactions, or a later one of its session.
 fn is_after_any(graph: &LargeGraph, among: &[u32], d: u32) -> bool
@@ -36,118 +29,117 @@ fn is_after_any(graph: &LargeGraph, among: &[u32], d: u32) -> bool
     false
 }
 
-/// Transactions that are read from.
+/// What the reader of a key knows by what its session has read so far.
 #[derive(Clone, Copy)]
-enum Sources<'a> {
-    /// Those later in the session of this one.
-    Later(u32),
-    /// These, and those later in their sessions.
-    From(&'a [u32]),
+pub(crate) struct Knowledge<'a> {
+    pub graph: &'a LargeGraph,
+    /// The index of each transaction's session.
+    pub owners: &'a [u32],
+    /// Of each session the last transaction there that a session has read from.
+    pub marks: &'a [Mark],
+    pub reader: u32,
+    pub key_index: u32,
 }
 
-impl Sources<'_> {
-    /// Whether a transaction is one of them.
-    fn has(&self, graph: &LargeGraph, d: u32) -> bool
-        requires inside { AreInside graph.now self.now }
-        requires below { d < count graph.now }
-        ensures { IsTrue result ↔ IsSource graph.now self.now d }
+impl Knowledge<'_> {
+    /// The last transaction of a session that the reader's session has read from, or 0.
+    fn latest(&self, session: u32) -> u32
+        requires session { session < length self.now.marks.now }
+        requires reader { self.now.reader < length self.now.owners.now }
+        ensures { result ≡ latest_mark self.now.owners.now self.now.marks.now self.now.reader session }
     {
-        match self {
-            Sources::Later(b) => graph.session(*b, d),
-            Sources::From(among) => is_after_any(graph, among, d),
+        let mark = self.marks[session as usize];
+        if mark.session == self.owners[self.reader as usize] {
+            mark.source
+        } else {
+            0
         }
     }
-}
 
-/// Whether `e` reads from one of the sources.
-fn reads_any(graph: &LargeGraph, sources: &Sources<'_>, e: u32) -> bool
-    requires inside { AreInside graph.now sources.now }
-    requires reader { e < count graph.now }
-    ensures { IsTrue result ↔ ReadsFromAny graph.now sources.now e }
-{
-    for read in graph.reads_at(e) {
-        if sources.has(graph, read.1) {
+    /// Whether the reader's session has read from a later transaction of the writer's session.
+    fn has_read_past(&self, b: u32) -> bool
+        requires knowledge { IsKnowledge self.now }
+        requires some { 0 < b }
+        requires below { b < count self.now.graph.now }
+        ensures { IsTrue result ↔ Fits self.now.graph.now self.now.reader (key_at self.now.graph.now self.now.key_index) b MonotonicWrites }
+    {
+        b < self.latest(self.owners[b as usize])
+    }
+
+    /// Whether the reader's session has read from this transaction, or from a later one of its session.
+    fn has_seen(&self, f: u32) -> bool
+        requires knowledge { IsKnowledge self.now }
+        requires some { 0 < f }
+        requires below { f < count self.now.graph.now }
+        ensures { IsTrue result ↔ IsSeenAfter self.now.graph.now self.now.reader f }
+    {
+        f <= self.latest(self.owners[f as usize])
+    }
+
+    /// Whether the reader's session has read from one of these, or from a later one of its session.
+    fn has_seen_any(&self, among: &[u32]) -> bool
+        requires knowledge { IsKnowledge self.now }
+        requires some { All (λ f. 0 < f) among.now }
+        requires inside { All (λ f. f < count self.now.graph.now) among.now }
+        ensures { IsTrue result ↔ ((f : ℕ) × Contains among.now f × IsSeenAfter self.now.graph.now self.now.reader f) }
+    {
+        for one in among {
+            if self.has_seen(*one) {
+                return true;
+            }
+        }
+        false
+    }
+
+    /// Whether a name fits a writer where none before it does, by the readers of the key from the writer.
+    fn is_called(&self, among: &[u32], b: u32, name: UsualName) -> bool
+        requires knowledge { IsKnowledge self.now }
+        requires some { 0 < b }
+        requires below { b < count self.now.graph.now }
+        requires readers { among.now ≡ readers self.now.graph.now b (key_at self.now.graph.now self.now.key_index) }
+        requires first { NoneBefore self.now.graph.now self.now.reader (key_at self.now.graph.now self.now.key_index) b (rank name) }
+        ensures { IsTrue result ↔ Fits self.now.graph.now self.now.reader (key_at self.now.graph.now self.now.key_index) b name }
+    {
+        match name {
+            UsualName::ReadYourWrites => self.graph.session(b, self.reader),
+            UsualName::FracturedRead => self.graph.causal(b, self.reader),
+            UsualName::MonotonicReads => is_after_any(self.graph, among, self.reader),
+            UsualName::MonotonicWrites => self.has_read_past(b),
+            UsualName::WritesFollowReads => self.has_seen_any(among),
+            UsualName::CausalChain => true,
+        }
+    }
+
+    /// Whether a closer name than that of a chain may fit a writer. It does only where the writer is of the reader's session, or this
+    /// session has read from it or past it, or anybody reads from it.
+    pub(crate) fn may_be_closer(&self, b: u32) -> bool
+        requires knowledge { IsKnowledge self.now }
+        requires some { 0 < b }
+        requires below { b < count self.now.graph.now }
+        ensures { result ≡ false → NoneBefore self.now.graph.now self.now.reader (key_at self.now.graph.now self.now.key_index) b (rank CausalChain) }
+    {
+        if self.owners[b as usize] == self.owners[self.reader as usize] || self.has_seen(b) {
             return true;
         }
+        let (readers, _) = self.graph.readings_at(b);
+        !readers.is_empty()
     }
-    false
-}
 
-/// The first transaction of the session of `c`.
-fn session_start(graph: &LargeGraph, c: u32) -> u32
-    requires some { 0 < c }
-    requires below { c < count graph.now }
-    ensures { IsStart graph.now c result }
-{
-    graph.numbered();
-    let mut start = c;
-    for _ in 0..c {
-        if start <= 1 || !graph.session(start - 1, c) {
-            return start;
+    /// The first name that fits a writer.
+    pub(crate) fn name_of(&self, b: u32) -> UsualName
+        requires knowledge { IsKnowledge self.now }
+        requires some { 0 < b }
+        requires below { b < count self.now.graph.now }
+        ensures { IsFirstName self.now.graph.now self.now.reader (key_at self.now.graph.now self.now.key_index) b result }
+    {
+        let among = self
+            .graph
+            .readers(b, &self.graph.keys()[self.key_index as usize]);
+        for name in &NAMES {
+            if self.is_called(among, b, *name) {
+                return *name;
+            }
         }
-        start -= 1;
+        UsualName::CausalChain
     }
-    start
-}
-
-/// No number of a transaction is the last of its type: a fact that proofs call by its name.
-fn are_few(graph: &LargeGraph)
-    ensures { count graph.now ≤ LARGE_COUNT }
-{
-    graph.count();
-}
-
-/// Whether the reader, or its session before, reads from one of the sources.
-fn session_reads_any(graph: &LargeGraph, sources: &Sources<'_>, c: u32) -> bool
-    requires inside { AreInside graph.now sources.now }
-    requires some { 0 < c }
-    requires below { c < count graph.now }
-    ensures { IsTrue result ↔ ((e : ℕ) × IsUpTo graph.now e c × ReadsFromAny graph.now sources.now e) }
-{
-    are_few(graph);
-    let start = session_start(graph, c);
-    for e in start..c + 1 {
-        if reads_any(graph, sources, e) {
-            return true;
-        }
-    }
-    false
-}
-
-/// Whether a name fits where none before it does, by the readers of the key from the writer.
-fn is_called(graph: &LargeGraph, among: &[u32], one: &Contradicted, name: UsualName) -> bool
-    requires some { 0 < one.now.reading.reader }
-    requires reader { one.now.reading.reader < count graph.now }
-    requires writer { one.now.writer < count graph.now }
-    requires readers { among.now ≡ readers graph.now one.now.writer (key_at graph.now one.now.reading.key_index) }
-    requires first { NoneBefore graph.now one.now.reading.reader (key_at graph.now one.now.reading.key_index) one.now.writer (rank name) }
-    ensures { IsTrue result ↔ Fits graph.now one.now.reading.reader (key_at graph.now one.now.reading.key_index) one.now.writer name }
-{
-    let b = one.writer;
-    let c = one.reading.reader;
-    match name {
-        UsualName::ReadYourWrites => graph.session(b, c),
-        UsualName::FracturedRead => graph.causal(b, c),
-        UsualName::MonotonicReads => is_after_any(graph, among, c),
-        UsualName::MonotonicWrites => session_reads_any(graph, &Sources::Later(b), c),
-        UsualName::WritesFollowReads => session_reads_any(graph, &Sources::From(among), c),
-        UsualName::CausalChain => true,
-    }
-}
-
-/// The usual name of a contradicted read: the first that fits.
-pub fn name_of(graph: &LargeGraph, one: &Contradicted) -> UsualName
-    requires some { 0 < one.now.reading.reader }
-    requires reader { one.now.reading.reader < count graph.now }
-    requires key { one.now.reading.key_index < length (keys graph.now) }
-    requires writer { one.now.writer < count graph.now }
-    ensures { IsUsualName graph.now one.now.reading.reader (key_at graph.now one.now.reading.key_index) one.now.writer result }
-{
-    let among = graph.readers(one.writer, &graph.keys()[one.reading.key_index as usize]);
-    for name in &NAMES {
-        if is_called(graph, among, one, *name) {
-            return *name;
-        }
-    }
-    UsualName::CausalChain
 }

@@ -9,7 +9,7 @@ use crate::contradicted::contradicted_along;
 use crate::surveyed::Surveyed;
 use std::alloc::Global;
 use tcc_graph::{LargeGraph, Level};
-use tcc_order::order_of_pairs;
+use tcc_order::{PairPlacement, place_pairs};
 use tcc_txn::NoMemory;
 
 /// All contradicted reads of a history at a level: each read that another writer of its key contradicts, since it is known to
@@ -18,8 +18,11 @@ use tcc_txn::NoMemory;
 pub fn survey(alloc: Global, graph: &LargeGraph, level: Level) -> Result<Surveyed, NoMemory>
     ensures { IfOk result (IsSurvey (judged graph.now level)) }
 {
-    let Some(order) = order_of_pairs(alloc, graph)? else {
-        return Ok(Surveyed::Circular(circle_of(alloc, graph)?));
+    let order = match place_pairs(alloc, graph)? {
+        PairPlacement::Order(order) => order,
+        PairPlacement::Stuck(placed) => {
+            return Ok(Surveyed::Circular(circle_of(alloc, graph, &placed)?));
+        }
     };
     let list = contradicted_along(alloc, graph, level, &order)?;
     Ok(Surveyed::Listed(list))

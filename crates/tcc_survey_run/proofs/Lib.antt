@@ -1,5 +1,6 @@
 pub mod Breaking
 pub mod Circular
+pub mod LineEnds
 pub mod Listing
 pub mod NamesLemmas
 pub mod NoFloats

@@ -12,6 +12,7 @@ use Rattle.tcc_graph.specs.Keys.{keys}
 use Rattle.tcc_graph.specs.Levels.{Judged}
 use Rattle.tcc_survey.specs.Contradictions.{AreContradicted, HasRead, contradicted_at}
 use Rattle.tcc_survey.specs.declared.contradicted.Contradicted.{Contradicted}
+use Rattle.tcc_survey.specs.declared.usual_name.UsualName.TheVariants as name
 
 -- a read and the writer that contradicts it, by numbers
 pub record AreNumbers (h : History) (one : Contradicted) : Type 0 where
@@ -34,14 +35,14 @@ numbers j found first are k inside =
       some = reads_some j (contradicted_at found k).reading.reader (contradicted_at found k).reading.index first is.there;
       reader = is.there.0;
       key = is.key;
-      writer = is.by.0.1.0.2.0;
+      writer = is.writer.by.0.1.0.2.0;
     }
 
 pub told_below : (j : Judged) (found : List Contradicted) → entry_at j.history 0 ≡ initial → AreContradicted j found → (k : ℕ) (d : Contradicted) → k < length found
     → (reader writer : ℕ) → reader ≡ (get_or found k d).reading.reader → writer ≡ (get_or found k d).writer
     → (reader < count j.history) × (writer < count j.history)
 told_below j found first are k d inside reader writer reads writes =
-    let some : Contradicted = record { reading = record { reader = 0; index = 0; key_index = 0; source = 0 }; writer = 0 } in
+    let some : Contradicted = record { reading = record { reader = 0; index = 0; key_index = 0; source = 0 }; name = name.CausalChain; writer = 0 } in
     let same : get_or found k d ≡ contradicted_at found k = get_or_default found k d some inside in
     let is = numbers j found first are k inside in (
       subst (λ n. n < count j.history) (sym (reads ∙ ap (λ (one : Contradicted). one.reading.reader) same)) is.reader,

@@ -6,7 +6,7 @@ use Rattle.tcc_reads.specs.Faults.{read_faults}
 use Rattle.tcc_reads.specs.History.{History}
 use Rattle.tcc_reads.specs.Traced.{traced_history}
 use Rattle.tcc_graph.specs.Levels.{judged}
-use Rattle.tcc_survey.specs.Circles.{IsCircle}
+use Rattle.tcc_survey.specs.Circles.{IsAcyclic, IsCircle}
 use Rattle.tcc_survey.specs.Contradictions.{AreContradicted}
 use Rattle.tcc_survey.specs.declared.contradicted.Contradicted.{Contradicted}
 use Rattle.tcc_rows.specs.Answers.{answers_within, records_within}
@@ -66,15 +66,15 @@ surveyed options bytes limits s before after code same is (inr memory) = out_of_
 
 -- the lines of all that is contradicted in the traced history are what is said
 pub listed : (options : SurveyOptions) (s : Sessions) (h : History) (found : List Contradicted) (before after : Option (List ℕ)) (code : ℕ)
-    → h ≡ traced_history s → AreContradicted (judged (traced_history s) options.level) found
+    → h ≡ traced_history s → IsAcyclic (traced_history s) × AreContradicted (judged (traced_history s) options.level) found
     → SaysFound options.json s h found before after code → SaysSurvey options s before after code
-listed options s h found before after code same are says = by_kind (subst (λ (h : History). SaysFound options.json s h found before after code) same says)
+listed options s h found before after code same (acyclic, are) says = by_kind (subst (λ (h : History). SaysFound options.json s h found before after code) same says)
   where
     by_kind : SaysFound options.json s (traced_history s) found before after code → SaysSurvey options s before after code
     by_kind (inl (told, names, as_told, as_named, out)) = inl (
       survey_text options.json (traced_history s) told (read_faults s) names,
       survey_status told (read_faults s),
-      inl (found, told, names, are, as_told, as_named, refl, refl),
+      inl (found, told, names, acyclic, are, as_told, as_named, refl, refl),
       out,
     )
     by_kind (inr memory) = inr memory

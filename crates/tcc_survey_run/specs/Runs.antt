@@ -8,7 +8,7 @@ use Rattle.tcc_rows.specs.Items.{finished_in}
 use Rattle.tcc_reads.specs.Faults.{read_faults}
 use Rattle.tcc_reads.specs.Traced.{traced_history}
 use Rattle.tcc_graph.specs.Levels.{judged}
-use Rattle.tcc_survey.specs.Circles.{IsCircle}
+use Rattle.tcc_survey.specs.Circles.{IsAcyclic, IsCircle}
 use Rattle.tcc_survey.specs.Contradictions.{AreContradicted}
 use Rattle.tcc_survey.specs.declared.contradicted.Contradicted.{Contradicted}
 use Rattle.tcc_print.specs.Courses.{MayEnd}
@@ -25,11 +25,12 @@ use Rattle.tcc_survey_run.specs.declared.told.ToldRead.{ToldRead}
 
 -- ---- one snapshot
 
--- all contradicted reads of its traced history, all read faults, and how many reads there are of each name
+-- causal pairs of its traced history stand in no circle: all its contradicted reads, all read faults, and how many reads there are of
+-- each name
 abbrev pub IsListing : SurveyOptions → Sessions → List ℕ → Status → Type 0
 IsListing options s text status =
     (found : List Contradicted) × (told : List ToldRead) × (names : List NameCount)
-    × AreContradicted (judged (traced_history s) options.level) found
+    × IsAcyclic (traced_history s) × AreContradicted (judged (traced_history s) options.level) found
     × AreTold s (traced_history s) found told × AreNames told names
     × (text ≡ survey_text options.json (traced_history s) told (read_faults s) names) × (status ≡ survey_status told (read_faults s))
 

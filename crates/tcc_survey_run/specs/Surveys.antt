@@ -1,5 +1,5 @@
 -- What is said of a survey, and how it goes out.
-use Rattle.std.specs.Prelude.{ℕ, ◌≡◌, ◌⊎◌, Bool, List, [], ◌∷◌, ◌++◌, length, map, take, flat_map, sum_by, Option, if◌then◌else◌}
+use Rattle.std.specs.Prelude.{ℕ, ◌≡◌, ◌⊎◌, Bool, List, [], ◌∷◌, ◌++◌, length, map, take, flat_map, sum_by, codes, Option, if◌then◌else◌}
 use Rattle.std.specs.Io.KnownBytes.{Appends}
 use Rattle.tcc_reads.specs.History.{History}
 use Rattle.tcc_reads.specs.declared.fault.ReadFault.{ReadFault}
@@ -55,11 +55,20 @@ survey_status [] [] = Success
 
 -- ---- how it goes out
 
--- a part of a text, from its front, went out; and then a writer failed, or memory was out and that was said behind it
+abbrev pub EndsLine : List ℕ → Type 0
+EndsLine text = (front : List ℕ) × (text ≡ front ++ codes "\n")
+
+-- the text is empty, or its last line ends
+abbrev pub AreWholeLines : List ℕ → Type 0
+AreWholeLines text = (text ≡ []) ⊎ EndsLine text
+
+-- a part of a text, from its front, went out, and then a writer failed; or whole lines of it went out, and then memory was out, and
+-- that was said after them
 abbrev pub BreaksOff : Bool → Option (List ℕ) → Option (List ℕ) → List ℕ → ℕ → Type 0
 BreaksOff json before after text code =
     CutsOff before after text code
-    ⊎ ((n : ℕ) × (between : Option (List ℕ)) × Appends before between (take n text) × Prints between after (memory_line json) Memory code)
+    ⊎ ((n : ℕ) × (between : Option (List ℕ)) × AreWholeLines (take n text) × Appends before between (take n text)
+    × Prints between after (memory_line json) Memory code)
 
 -- the text went out whole, and the status is its own; or it broke off
 abbrev pub GoesOut : Bool → Option (List ℕ) → Option (List ℕ) → List ℕ → Status → ℕ → Type 0

@@ -1,5 +1,5 @@
 -- The lines of a survey as text.
-use Rattle.std.specs.Prelude.{ℕ, List, ◌++◌, flat_map, codes, decimal}
+use Rattle.std.specs.Prelude.{ℕ, ◌==◌, List, [], ◌++◌, flat_map, codes, decimal, if◌then◌else◌}
 use Rattle.tcc_print.specs.Texts.{operation_text}
 use Rattle.tcc_survey_run.specs.declared.counting.NameCount.{NameCount}
 use Rattle.tcc_survey_run.specs.declared.told.ToldRead.{ToldRead}
@@ -26,3 +26,11 @@ total_text contradicted reads faults =
 -- circular: A B ..
 abbrev pub circle_text : List (List ℕ) → List ℕ
 circle_text labels = codes "circular:" ++ (flat_map (λ label. codes " " ++ label) labels ++ codes "\n")
+
+-- that no contradicted read is no answer
+abbrev pub nothing_note : List ℕ
+nothing_note = codes "no read is contradicted, which is no answer: ask tcc explain\n"
+
+-- what is noted where a survey ends with this number
+abbrev pub no_answer_note : ℕ → List ℕ
+no_answer_note code = if code == 0 then nothing_note else []

@@ -10,7 +10,7 @@ use Rattle.tcc_txn.specs.declared.op.Op.{Op}
 use Rattle.tcc_reads.specs.History.{History}
 use Rattle.tcc_graph.specs.Keys.{key_at}
 use Rattle.tcc_operations.specs.Operations.{first_reading, ops_of, source_value}
-use Rattle.tcc_survey.specs.Names.{IsUsualName, rank}
+use Rattle.tcc_survey.specs.Names.{rank}
 use Rattle.tcc_survey.specs.declared.contradicted.Contradicted.{Contradicted}
 use Rattle.tcc_survey.specs.declared.usual_name.UsualName.{UsualName}
 use Rattle.tcc_survey.specs.declared.usual_name.UsualName.TheVariants as name
@@ -28,7 +28,7 @@ pub record IsToldOf (s : Sessions) (h : History) (one : Contradicted) (told : To
   pub value : told.value ≡ source_value s h one.reading.source told.key
   pub op : told.op ≡ first_read told.key told.value (ops_of s h told.reader)
   pub writer : told.writer ≡ one.writer
-  pub name : IsUsualName h told.reader told.key told.writer told.name
+  pub name : told.name ≡ one.name
 
 -- by the number of the transaction, then by operation
 abbrev pub operation_cmp : ℕ × ℕ → ℕ × ℕ → Ordering

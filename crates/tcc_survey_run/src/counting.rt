@@ -4,7 +4,6 @@ ghost use Rattle.std.specs.List.Sorted.{IsPermutation, IsSortedByKey};
 ghost use Rattle.tcc_survey.specs.Names.{rank};
 ghost use Rattle.tcc_survey_run.specs.Told.{AreNames, count_of, falling, names_among, operation_cmp};
 
-use crate::naming::rank;
 use crate::told::ToldRead;
 use std::alloc::{AllocError, Global};
 use tcc_survey::{NAMES, UsualName};
@@ -29,7 +28,7 @@ fn count_of(told: &[ToldRead], name: UsualName) -> usize
     ensures { result ≡ count_of told.now name }
 {
     told.iter()
-        .filter(|one| rank(one.name) == rank(name))
+        .filter(|one| one.name.rank() == name.rank())
         .count()
 }
 
@@ -69,7 +68,7 @@ fn sort_by_count(names: &mut [NameCount])
     ensures permutation { IsPermutation names.old names.new }
     ensures sorted { IsSortedByKey (λ one. (falling one.count, rank one.name)) operation_cmp names.new }
 {
-    names.sort_unstable_by_key(|one| (usize::MAX - one.count, rank(one.name)));
+    names.sort_unstable_by_key(|one| (usize::MAX - one.count, one.name.rank()));
 }
 
 /// The names that some of the reads have, by falling count.

@@ -6,6 +6,7 @@ mod counting;
 pub mod laws;
 mod lines;
 mod naming;
+mod noting;
 mod objects;
 mod options;
 mod outgoing;

@@ -6,6 +6,7 @@ ghost use Rattle.tcc_graph.specs.Levels.{judged};
 ghost use Rattle.tcc_survey.specs.Contradictions.{IsSurvey};
 ghost use Rattle.tcc_survey_run.specs.{Runs.IsSurveyRun, Runs.limits_of, private.Saying.SaysSurvey};
 
+use crate::noting::note_no_answer;
 use crate::options::SurveyOptions;
 use crate::saying::{say_circle, say_found};
 use std::alloc::Global;
@@ -49,7 +50,7 @@ fn examine<B: Bounds>(
 }
 
 /// Says what a survey finds in a snapshot, and gives the number that the run ends with. Of the first read faults it is noted which
-/// write each of them is about.
+/// write each of them is about; and where nothing is found, that this is no answer.
 fn say<B: Bounds, W: Write, N: Write>(
     alloc: Global,
     snapshot: &SnapshotWithin<B>,
@@ -70,7 +71,9 @@ fn say<B: Bounds, W: Write, N: Write>(
     match surveyed {
         Surveyed::Listed(found) => {
             note_reads(alloc, snapshot, &faults, notes);
-            say_found(alloc, snapshot, &graph, options, &found, &faults, out)
+            let code = say_found(alloc, snapshot, &graph, options, &found, &faults, out);
+            note_no_answer(code, notes);
+            code
         }
         Surveyed::Circular(circle) => say_circle(alloc, &graph, options.json, &circle, out),
     }

@@ -10,7 +10,7 @@ ghost use Rattle.tcc_survey_run.specs.Told.{AreTold, IsToldOf, first_read, opera
 use std::alloc::Global;
 use tcc_graph::LargeGraph;
 use tcc_operations::{first_reading, source_value};
-use tcc_survey::{Contradicted, UsualName, name_of};
+use tcc_survey::{Contradicted, UsualName};
 use tcc_txn::{Bounds, Name, NoMemory, SnapshotWithin};
 
 /// What is told of a contradicted read.
@@ -22,7 +22,7 @@ pub struct ToldRead {
     pub op: usize,
     pub key: Name,
     pub value: u64,
-    /// The least number of a writer that contradicts the read.
+    /// The least number of a writer that contradicts the read and that the name fits.
     pub writer: u32,
     pub name: UsualName,
 }
@@ -49,10 +49,8 @@ fn told_of<B: Bounds>(
     graph: &LargeGraph,
     one: &Contradicted,
 ) -> ToldRead
-    requires some { 0 < one.now.reading.reader }
     requires reader { one.now.reading.reader < count graph.now }
     requires key { one.now.reading.key_index < length (keys graph.now) }
-    requires writer { one.now.writer < count graph.now }
     ensures { IsToldOf snapshot.now graph.now one.now result }
 {
     let reader = one.reading.reader;
@@ -64,7 +62,7 @@ fn told_of<B: Bounds>(
         key,
         value,
         writer: one.writer,
-        name: name_of(graph, one),
+        name: one.name,
     }
 }
 

@@ -1,5 +1,5 @@
 -- A table of names that takes one more.
-use Rattle.std.proofs.Common.{◌≡◌, ℕ, zero, suc, ◌<◌, Bool, true, false, cond, List, [], ◌∷◌, ◌++◌, length, get_or, refl, ap, sym, subst, ◌∙◌, arith}
+use Rattle.std.proofs.Common.{◌≡◌, ℕ, zero, suc, ◌<◌, Bool, true, false, cond, ◌||◌, List, [], ◌∷◌, ◌++◌, length, get_or, refl, ap, sym, subst, ◌∙◌, arith}
 use Rattle.std.proofs.Common.{Option, None, Some, length-append}
 use Rattle.std.specs.Prelude.{MatchOption}
 use Rattle.std.specs.List.{list_any}
@@ -9,12 +9,14 @@ use Rattle.std.specs.declared.cmp.Ordering.{Ordering}
 use Rattle.std.specs.declared.cmp.Ordering.TheVariants.{Less, Equal, Greater}
 use Rattle.std.specs.Cmp.Lexicographic.{nat_list_eq_equiv, texts_ties}
 use Rattle.std.proofs.lemmas.List.Folds.{list_any-append}
+use Rattle.std.proofs.Math.Bool.{or-false}
 use Rattle.std.proofs.Math.Seq.{get_or-append_seam}
 use Rattle.std.proofs.lemmas.List.{get_or_append_left}
 use Rattle.std.proofs.lemmas.Map.Lookups.{exact_bytes}
 use Rattle.std.proofs.lemmas.Map.Views.{list_any-from_Contains}
-use Rattle.tcc_txn.specs.private.Symbols.{HoldsNumbers, IsNumber, with_symbol}
-use Rattle.tcc_txn.proofs.SortedParts.{name_cmp, same_name}
+use Rattle.tcc_txn.specs.Symbols.{IsNumber, is_symbol, with_symbol}
+use Rattle.tcc_txn.specs.private.Symbols.{HoldsNumbers}
+use Rattle.tcc_txn.proofs.SortedParts.{name_cmp, same_name, same_names}
 
 -- a name with a number is among the names
 pub among : (names : List (List ℕ)) (name : List ℕ) (n : ℕ) → IsNumber names name n → list_any (same_name name) names ≡ true
@@ -81,3 +83,24 @@ numbers-grown names name old new holds updates q =
     by false differ =
         subst (Held all q) (sym (updates.0 q ∙ ap (λ b. cond b (Some (length names)) (get name_cmp old q)) differ))
         (later differ (get name_cmp old q) (holds q))
+
+either_order : (a b : Bool) → (a || b) ≡ (b || a)
+either_order true true = refl
+either_order true false = refl
+either_order false true = refl
+either_order false false = refl
+
+-- what is among the names with one more
+pub symbol-more : (names : List (List ℕ)) (name q : List ℕ) → is_symbol q (with_symbol name names) ≡ (same_name name q || is_symbol q names)
+symbol-more names name q = go (is_symbol name names) refl
+  where
+    there : is_symbol name names ≡ true → (b : Bool) → same_name name q ≡ b → is_symbol q names ≡ (b || is_symbol q names)
+    there e true same = ap (λ (x : List ℕ). is_symbol x names) (sym (same_names name q same)) ∙ e
+    there e false other = refl
+
+    go : (b : Bool) → is_symbol name names ≡ b → is_symbol q (cond b names (names ++ name ∷ [])) ≡ (same_name name q || is_symbol q names)
+    go true e = there e (same_name name q) refl
+    go false e =
+        list_any-append (same_name q) names (name ∷ [])
+        ∙ (λ i. is_symbol q names || (or-false (same_name q name) ∙ nat_list_eq_equiv.symm q name) i)
+        ∙ either_order (is_symbol q names) (same_name name q)

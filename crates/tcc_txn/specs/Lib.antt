@@ -5,4 +5,5 @@ pub mod Names
 pub mod Nested
 pub mod Transactions
 pub mod Snapshots
+pub mod Symbols
 pub mod private

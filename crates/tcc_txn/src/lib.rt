@@ -7,6 +7,7 @@ mod limits;
 mod list;
 mod memory;
 mod name;
+mod near;
 mod op;
 mod packed;
 mod recorded;
@@ -24,7 +25,9 @@ pub use limits::{
 pub use list::ListOf;
 pub use memory::NoMemory;
 pub use name::{Name, NameFault};
+pub use near::Nearby;
 pub use op::Op;
 pub use recorded::Recorded;
 pub use snapshot::{GrowFault, LargeSnapshot, Snapshot, SnapshotFault, SnapshotWithin};
+pub use symbols::SymbolTable;
 pub use txn::{Txn, TxnFault};

@@ -164,6 +164,17 @@ impl Name {
         bytes == &self.buffer[..self.len as usize]
     }
 
+    /// A hash of the name, for tables that compare names themselves: its words, each multiplied and added.
+    pub(crate) fn mixed(&self) -> u64 {
+        let mut hash: u64 = word(&self.buffer, 0).wrapping_mul(0x9E37_79B9_7F4A_7C15);
+        for at in 1..4usize {
+            hash = (hash ^ (hash >> 29))
+                .wrapping_add(word(&self.buffer, 8 * at))
+                .wrapping_mul(0x9E37_79B9_7F4A_7C15);
+        }
+        hash
+    }
+
     /// An equal name.
     pub fn copy(&self) -> Result<Name, NoMemory>
         ensures { result ≡ Ok self.now }

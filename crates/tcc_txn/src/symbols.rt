@@ -1,18 +1,21 @@
-//! A symbol table (interning of strings): each name is kept once, and told by its number from then on. A look-up goes
-//! down a B-tree, by as many comparisons as the logarithm of their count.
-ghost use Rattle.std.specs.Prelude.{◌≡◌, [], IfOk, OnErr, OnOk};
-ghost use Rattle.tcc_txn.specs.private.Symbols.{IsNumber, with_symbol};
+//! A symbol table (interning of strings): each name is kept once, and told by its number from then on. A look-up asks a
+//! cache of numbers and compares one name; where that is another one it goes down a B-tree, by as many comparisons as
+//! the logarithm of their count.
+ghost use Rattle.std.specs.Prelude.{◌≡◌, ◌++◌, ◌∷◌, [], false, IfOk, IfSome, MatchOption, OnErr, OnOk, length};
+ghost use Rattle.tcc_txn.specs.Symbols.{IsNumber, is_symbol, with_symbol};
 
-use crate::{Name, NoMemory};
+use crate::{Name, Nearby, NoMemory};
 use std::alloc::Global;
 use std::collections::BTreeMap;
 use std::marker::Model;
 
 /// Names, each once, in the order in which they came, numbered from 0.
 #[derive(Drop)]
-pub(crate) struct SymbolTable {
+pub struct SymbolTable {
     names: Vec<Name>,
     numbers: BTreeMap<Name, u32>,
+    /// The number of most names, found without the map.
+    nearby: Nearby,
 }
 
 impl Model for SymbolTable {
@@ -38,39 +41,114 @@ pub(crate) fn number_of(count: usize) -> Result<u32, NoMemory>
 
 impl SymbolTable {
     /// No names.
-    pub(crate) fn new(alloc: Global) -> SymbolTable
+    pub fn new(alloc: Global) -> SymbolTable
         ensures { result ≡ [] }
     {
         SymbolTable {
             names: Vec::new(alloc),
             numbers: BTreeMap::new(alloc),
+            nearby: Nearby::new(alloc),
         }
     }
 
+    /// How many names there are.
+    pub fn len(&self) -> usize
+        ensures { result ≡ length self.now }
+    {
+        self.names.len()
+    }
+
     /// The names, each at its number.
-    pub(crate) fn names(&self) -> &[Name]
+    pub fn names(&self) -> &[Name]
         ensures { result.now ≡ self.now }
     {
         &self.names
     }
 
-    /// The number of the name, which is one more if it isn't there.
-    pub(crate) fn number(&mut self, name: Name) -> Result<u32, NoMemory>
+    /// The number of a name that the cache knows; none says nothing.
+    fn near(&self, name: &Name) -> Option<u32>
+        ensures { IfSome result (λ n. IsNumber self.now name.now n) }
+    {
+        let number = self.nearby.number(name);
+        match self.names.get(number as usize) {
+            Some(known) => { if *known == *name { Some(number) } else { None } }
+            None => None,
+        }
+    }
+
+    /// The number that the map has for a name.
+    fn mapped(&self, name: &Name) -> Option<u32>
+        ensures { MatchOption result (is_symbol name.now self.now ≡ false) (λ n. IsNumber self.now name.now n) }
+    {
+        match self.numbers.get(name) {
+            Some(number) => Some(*number),
+            None => None,
+        }
+    }
+
+    /// The number of a name; none where it isn't there.
+    pub fn find(&self, name: &Name) -> Option<u32>
+        ensures { MatchOption result (is_symbol name.now self.now ≡ false) (λ n. IsNumber self.now name.now n) }
+    {
+        match self.near(name) {
+            Some(number) => Some(number),
+            None => self.mapped(name),
+        }
+    }
+
+    /// Makes room in the cache for one more name.
+    fn make_room(&mut self) -> Result<(), NoMemory>
+        ensures { self.new ≡ self.old }
+    {
+        let count = self.names.len();
+        if !self.nearby.has_room(count) {
+            self.nearby = Nearby::of(*self.names.allocator(), &self.names)?;
+        }
+        Ok(())
+    }
+
+    /// Tells the cache a number.
+    fn note(&mut self, name: &Name, number: u32)
+        ensures { self.new ≡ self.old }
+    {
+        self.nearby.put(name, number);
+    }
+
+    /// One more name, behind the others.
+    fn push(&mut self, name: Name) -> Result<u32, NoMemory>
+        requires { is_symbol name self.old ≡ false }
         ensures number { IfOk result (λ n. IsNumber self.new name n) }
-        ensures once { OnOk result (self.new ≡ with_symbol name self.old) }
+        ensures once { OnOk result (self.new ≡ self.old ++ name ∷ []) }
         ensures kept { OnErr result (self.new ≡ self.old) }
     {
-        if let Some(number) = self.numbers.get(&name) {
-            return Ok(*number);
-        }
+        self.make_room()?;
         let number = number_of(self.names.len())?;
         self.names.push(name)?;
         match self.numbers.insert(name, number) {
-            Ok(_) => Ok(number),
+            Ok(_) => {
+                self.note(&name, number);
+                Ok(number)
+            }
             Err(_) => {
                 self.names.truncate(number as usize);
                 Err(NoMemory)
             }
         }
+    }
+
+    /// The number of the name, which is one more if it isn't there.
+    pub fn number(&mut self, name: Name) -> Result<u32, NoMemory>
+        ensures number { IfOk result (λ n. IsNumber self.new name n) }
+        ensures once { OnOk result (self.new ≡ with_symbol name self.old) }
+        ensures kept { OnErr result (self.new ≡ self.old) }
+    {
+        if let Some(number) = self.near(&name) {
+            return Ok(number);
+        }
+        if let Some(number) = self.mapped(&name) {
+            self.note(&name, number);
+            return Ok(number);
+        }
+        self.push(name)
     }
 }

@@ -20,6 +20,7 @@ pub const EXPLAIN: &str = "Records, one a line (CSV without a header row):
   SESSION,w,KEY,VALUE  it wrote the value, which is not 0 and is written once per key
   SESSION,commit       it is finished, and counts
   SESSION,abort        it is finished, and its writes do not count
+  SESSION,unknown      it and its session ended, and nobody told how: it counts if a value of it was read
   seal                 an answer is wanted for what was finished so far
 
 A session and a key are names: 1 to 32 of A-Z, a-z, 0-9, '_', '.' and '-'. A value is a decimal

@@ -1,5 +1,5 @@
 -- How the rows of operations are noted, record by record.
-use Rattle.std.specs.Prelude.{ℕ, ◌+◌, ◌≡◌, Bool, false, if◌then◌else◌, List, [], ◌∷◌, length, codes, Option, None, Some}
+use Rattle.std.specs.Prelude.{ℕ, ◌+◌, ◌≡◌, Bool, false, if◌then◌else◌, List, [], ◌∷◌, length, Option, None, Some}
 use Rattle.csv.specs.Reading.{Reached, default_config, reader_state, source_of, strip_bom}
 use Rattle.csv.specs.declared.parser.State.TheVariants.{StartRecord}
 use Rattle.csv.specs.declared.reader.Reader.{Reader}
@@ -7,16 +7,16 @@ use Rattle.tcc_rows.specs.Lines.{Record}
 use Rattle.tcc_rows.specs.RecordsLeft.{IsPlain}
 use Rattle.tcc_txn.specs.Bytes.{same}
 use Rattle.tcc_txn.specs.Names.{name_fault}
-use Rattle.tcc_full.specs.Rows.{after_record, rows_in, session_rows}
+use Rattle.tcc_full.specs.Rows.{Rows, after_record, rows_in, session_rows}
 use Rattle.tcc_full.specs.declared.rows.OperationRows.{OperationRows}
 
--- a begin of some session
-abbrev pub is_begin : Record → Bool
-is_begin (session ∷ word ∷ []) = same word (codes "begin")
-is_begin _ = false
+-- this word of some session
+abbrev pub is_word : List ℕ → Record → Bool
+is_word word (session ∷ said ∷ []) = same said word
+is_word word _ = false
 
 -- the session, which has a name, has its rows changed so, and others have theirs
-abbrev pub Changes : List ℕ → (List (List ℕ) → List (List ℕ)) → OperationRows → OperationRows → Type 0
+abbrev pub Changes : List ℕ → (Rows → Rows) → OperationRows → OperationRows → Type 0
 Changes session change old new =
     (name : List ℕ) → name_fault name ≡ None → rows_in new name ≡ (if same session name then change (rows_in old name) else rows_in old name)
 

@@ -28,3 +28,14 @@ pub record AreThose (most : ℕ) (Is : ℕ → Type 0) (list : List ℕ) : Type 
   pub ascend : DoAscend list
   pub few : length list ≤ most
   pub each : (n : ℕ) → Contains list n ↔ Is n
+
+-- of the transactions at the first places those are marked to which something leads back
+pub record AreMarkedLed (count : ℕ) (order : List ℕ) (lasts : List ℕ) (end : ℕ) (marks : List Bool) : Type 0 where
+  pub long : length marks ≡ count
+  pub each : (place : ℕ) → place < end → (slice_index_or marks (slice_index order place) false ≡ true) ↔ (0 < slice_index lasts place)
+
+-- what both lists mark
+pub record AreMarkedBoth (one : List Bool) (other : List Bool) (end : ℕ) (marks : List Bool) : Type 0 where
+  pub long : length marks ≡ end
+  pub each : (v : ℕ) → v < end
+      → (slice_index_or marks v false ≡ true) ↔ ((slice_index_or one v false ≡ true) × (slice_index_or other v false ≡ true))

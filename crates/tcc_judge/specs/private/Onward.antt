@@ -22,4 +22,4 @@ pub record AreNarrowed (h : History) (members : List ℕ) (key_indices : List �
 -- in turn, with an order
 abbrev pub onward_rules : Judged → List ℕ → ℕ → List (Asked Rule)
 onward_rules j order most =
-    at_each Onward (BreaksPair j.history order) ∷ as_whole Limits (IsBounded j.history order most) ∷ as_whole Cheaper (NoneBelow j most) ∷ []
+    at_each Onward (BreaksPair j.history order) ∷ as_whole Limits (IsBounded j order most) ∷ as_whole Cheaper (NoneBelow j most) ∷ []

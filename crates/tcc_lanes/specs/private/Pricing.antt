@@ -5,7 +5,7 @@ use Rattle.tcc_graph.specs.Keys.{key_at, keys}
 use Rattle.tcc_graph.specs.Levels.{Judged}
 use Rattle.tcc_graph.specs.Links.{IsLink, IsReason, cost, link_cost, link_from, link_to}
 use Rattle.tcc_graph.specs.Relations.{IsReadsPair, causal_pair}
-use Rattle.tcc_graph.specs.Routes.{IsCycle}
+use Rattle.tcc_graph.specs.Routes.{IsCycle, IsRoute}
 use Rattle.tcc_graph.specs.declared.link.Link.{Link}
 use Rattle.tcc_graph.specs.declared.step.Step.{Step}
 use Rattle.tcc_lanes.specs.declared.words.TheConstants.{LANES}
@@ -92,3 +92,12 @@ pub record IsSettled (rows : List (List ℕ)) (level : ℕ) (end : ℕ) (old : L
 -- a cycle from a member, of links among the members, costs less than a limit
 abbrev pub HasReturn : Judged → List ℕ → ℕ → ℕ → Type 0
 HasReturn j members most s = (links : List Link) × IsCycle j (slice_index members s) links × All (IsAmong members) links × (cost links < most)
+
+-- what it costs to come to each member from one of them, as far as that is settled
+pub record IsReached (j : Judged) (members : List ℕ) (rows : List (List ℕ)) (s : ℕ) (level : ℕ) (costs : List ℕ) : Type 0 where
+  pub same : length costs ≡ length members
+  pub sound : (v : ℕ) → v < length members → slice_index costs v < NONE
+      → (links : List Link) × IsRoute j (slice_index members s) (slice_index members v) links × All (IsAmong members) links × (cost links ≤ slice_index costs v)
+  pub first : (v : ℕ) → v < length members → slice_index costs v ≤ slice_index (slice_index_or rows s []) v
+  pub over : (u v : ℕ) → u < length members → v < length members → slice_index costs u < level
+      → slice_index costs v ≤ slice_index costs u + slice_index (slice_index_or rows u []) v

@@ -36,7 +36,7 @@ use Rattle.tcc_print.specs.declared.options.Options.{Options}
 use Rattle.tcc_print.specs.declared.status.Status.{Status}
 use Rattle.tcc_print.specs.declared.status.Status.TheVariants.{Anomaly, Device, Memory, ReadFaults}
 use Rattle.tcc_print.specs.Saying.{Course}
-use Rattle.tcc_large_run.specs.LargeRuns.{CertificateStops, Files, IsCertified, IsProvedLeast, IsSaidWithLarge, IsSliceText, IsSliced, SliceStops, Stops, bare_cycle, bare_order, claim_of, proved_claim, short_runs}
+use Rattle.tcc_large_run.specs.LargeRuns.{CertificateStops, Files, HasNoSlice, IsCertified, IsProvedLeast, IsSaidWithLarge, IsShort, IsSliceText, IsSliced, SliceStops, Stops, bare_cycle, bare_order, claim_of, proved_claim, short_runs}
 use Rattle.tcc_large_run.specs.declared.outcome.Outcome.{Outcome}
 use Rattle.tcc_large_run.specs.declared.outcome.Outcome.TheVariants as outcome
 
@@ -51,7 +51,7 @@ outcome_of level h (decision.Cycle links) = outcome.Cycle h (labels_of h) links
 -- what is said of a history by what is decided of it, or by a claim that a cycle is a least one
 abbrev pub IsFoundOf : Level → History → Decision → Outcome → Type 0
 IsFoundOf level h d o =
-    ((o ≡ outcome_of level h d) × HasLargeText (claim_of level h d))
+    ((o ≡ outcome_of level h d) × IsShort d × HasLargeText (claim_of level h d))
     ⊎ ((links : List Link) × (runs : List Run) × IsProvedLeast level h links runs × HasLargeText (proved_claim level h links runs)
     × (o ≡ outcome.Proved h (answer.Anomaly (bare_cycle level h links)) (proved_claim level h links runs)))
 
@@ -62,6 +62,7 @@ pub record IsDecided (level : Level) (s : Sessions) (h : History) (o : Outcome) 
   pub own : h ≡ history s
   pub decided : Decision
   pub is : IsDecision (judged (history s) level) decided
+  pub short : IsShort decided
   pub room : HasLargeText (claim_of level (history s) decided)
   pub outcome : o ≡ outcome_of level h decided
 
@@ -155,10 +156,16 @@ WritesCertificate options last (Err code) before after file file' = CertificateS
 
 -- ---- the slice
 
--- the slice by some links, or nothing, went into the file; or a write to it failed, or memory was out, which is said
+-- the records of the slice by some links; or they have none
+abbrev pub IsSliceMade : Level → Sessions → List Link → Option (List ℕ) → Type 0
+IsSliceMade level whole links None = HasNoSlice level whole links
+IsSliceMade level whole links (Some text) = IsSliceText level whole links text
+
+-- the slice by some links, or nothing, where they have none, went into the file; or a write to it failed, or memory was out, which is said
 abbrev pub SendsSlice : {A : Type 0} → Options → Sessions → List Link → Result A ℕ → Option (List ℕ) → Option (List ℕ) → Option (List ℕ) → Option (List ℕ) → Type 0
 SendsSlice options whole links (Ok done) before after file file' =
-    (after ≡ before) × (Appends file file' [] ⊎ ((slice : List ℕ) × IsSliceText options.level whole links slice × Appends file file' slice))
+    (after ≡ before) × (((slice : List ℕ) × IsSliceText options.level whole links slice × Appends file file' slice)
+    ⊎ (HasNoSlice options.level whole links × Appends file file' []))
 SendsSlice options whole links (Err code) before after file file' =
     ((slice : List ℕ) × (n : ℕ) × IsSliceText options.level whole links slice × Appends file file' (take n slice)
     × Prints before after (device_line options.json) Device code)

@@ -1,29 +1,6 @@
--- Who reads from each transaction, those of one key together; and what their clocks hold.
-use Rattle.std.specs.Prelude.{ℕ, ◌<◌, ◌≤◌, ◌-◌, ◌≡◌, ◌⊎◌, ◌↔◌, max, List, length, slice_index, slice_index_or, All, Contains}
-use Rattle.tcc_reads.specs.History.{History, count}
-use Rattle.tcc_graph.specs.Relations.{IsReadsPair}
-use Rattle.tcc_graph.specs.Keys.{keys, key_at}
+-- Readings, each a reader and the index of a key: what the clocks of those of one key hold.
+use Rattle.std.specs.Prelude.{ℕ, ◌<◌, ◌≤◌, ◌-◌, ◌≡◌, ◌⊎◌, if◌then◌else◌, nat_le, max, List, length, slice_index, slice_index_or}
 use Rattle.tcc_graph.specs.Tables.{row_of}
-
--- each who reads from a, beside the index of a key that it reads there
-pub record AreReadingsFrom (h : History) (a : ℕ) (readings : List (ℕ × ℕ)) : Type 0 where
-  pub readers : All (λ reading. reading.0 < count h) readings
-  pub within : All (λ reading. reading.1 < length (keys h)) readings
-  pub each : (c key_index : ℕ) → Contains readings (c, key_index) ↔ ((key_index < length (keys h)) × IsReadsPair h a c (key_at h key_index))
-
--- for each transaction a row of those who read from it
-pub record AreReadingRows (h : History) (rows : List (List (ℕ × ℕ))) : Type 0 where
-  pub long : length rows ≡ count h
-  pub each : (a : ℕ) → a < count h → AreReadingsFrom h a (row_of rows a)
-
--- c stands beside a before index n
-abbrev pub IsBeside : List ℕ → List ℕ → ℕ → ℕ → ℕ → Type 0
-IsBeside sources readers n a c = (k : ℕ) × (k < n) × (slice_index sources k ≡ a) × (slice_index readers k ≡ c)
-
--- the readings of a key before index n came to the rows of their sources
-pub record AddsReadings (sources : List ℕ) (readers : List ℕ) (key_index : ℕ) (n : ℕ) (old : List (List (ℕ × ℕ))) (new : List (List (ℕ × ℕ))) : Type 0 where
-  pub same : length new ≡ length old
-  pub each : (a c p : ℕ) → Contains (row_of new a) (c, p) ↔ (Contains (row_of old a) (c, p) ⊎ ((p ≡ key_index) × IsBeside sources readers n a c))
 
 -- the reader at an index, and the index of the key that it reads
 abbrev pub reader_in : List (ℕ × ℕ) → ℕ → ℕ
@@ -36,6 +13,10 @@ key_index_in readings k = (slice_index_or readings k (0, 0)).1
 pub record IsTop (table : List (List ℕ)) (readings : List (ℕ × ℕ)) (start : ℕ) (end : ℕ) (known : List ℕ) (k : ℕ) (top : ℕ) : Type 0 where
   pub attained : (top ≡ 0) ⊎ ((j : ℕ) × (start ≤ j) × (j < end) × (top ≡ slice_index (row_of table (reader_in readings j)) k))
   pub greatest : (j : ℕ) → start ≤ j → j < end → slice_index (row_of table (reader_in readings j)) k ≤ max top (slice_index known k)
+
+-- the number where it is past what is known, or else 0
+abbrev pub past_of : ℕ → ℕ → ℕ
+past_of known n = if nat_le n known then 0 else n
 
 -- at index k stand the same key and readers of one row
 abbrev pub AreAlikeAt : List (List ℕ) → List (ℕ × ℕ) → List (ℕ × ℕ) → ℕ → Type 0

@@ -21,10 +21,6 @@ pub record AreLatestPast (h : History) (Is : ℕ → Type 0) (from : ℕ) (known
   pub wide : length row ≡ WIDE
   pub each : (k : ℕ) → k < WIDE → IsLatestPast h Is (from + k) (slice_index known k) (slice_index row k)
 
--- all that read from a have its row
-abbrev pub TellsNothing : History → List (List ℕ) → ℕ → Type 0
-TellsNothing h table a = (c : ℕ) (x : List ℕ) → IsReadsPair h a c x → row_of table c ≡ row_of table a
-
 -- b, another writer of a key that is read from a, reaches the reader
 abbrev pub IsOverwritten : History → (ℕ → List ℕ → Type 0) → ℕ → ℕ → Type 0
 IsOverwritten h IsReading a b = (c : ℕ) × (x : List ℕ) × IsReading c x × Contains (writers h x) b × (b ≢ a) × IsReached h b c

@@ -51,6 +51,11 @@ pub(super) fn mending_of(kind: &RowFaultKind, fields: usize, limits: Limits) -> 
             "a whole number up to 18446744073709551615, in digits without a leading 0",
         ),
         RowFaultKind::WriteOfZero => Mending::Field(3, "a value other than the initial 0"),
+        RowFaultKind::SessionEnded => {
+            Mending::Record(
+                "another session, since this one ended by a transaction of unknown outcome",
+            )
+        }
         RowFaultKind::NotBegun => {
             Mending::Record("begin first, since no transaction of the session is begun")
         }

@@ -9,8 +9,6 @@ use Rattle.std.specs.List.Sorted.{IsPartitionPoint}
 use Rattle.std.specs.Ordering.{nat_cmp, ordering_then}
 use Rattle.std.specs.declared.cmp.Ordering.{Ordering}
 use Rattle.std.specs.declared.cmp.Ordering.TheVariants.{Less}
-use Rattle.std.specs.BTreeMap as tree
-use Rattle.std.specs.BTreeMap.{BTreeMap}
 use Rattle.tcc_txn.specs.declared.op.Op.{Op}
 use Rattle.tcc_txn.specs.declared.op.Op.TheVariants.{Get, Put}
 use Rattle.tcc_reads.specs.declared.fault.ReadFault.{ReadFault}
@@ -23,7 +21,7 @@ use Rattle.tcc_reads.specs.History.{Entry}
 use Rattle.tcc_reads.specs.Sites.{Stand, Site, at, sites_of}
 use Rattle.tcc_reads.specs.private.Numbers.{Numbered}
 use Rattle.tcc_reads.specs.private.KeyIndices.{index_of, key_index}
-use Rattle.tcc_reads.specs.Sources.{puts_at, visible_write, name_cmp, pair_cmp, sorted_once, writes_of as keys_written}
+use Rattle.tcc_reads.specs.Sources.{puts_at, visible_write, pair_cmp, sorted_once, writes_of as keys_written}
 use Rattle.tcc_reads.specs.Faults.{puts}
 use Rattle.tcc_txn.specs.Transactions.{op_key, op_value}
 
@@ -125,10 +123,6 @@ AreOwnIn table n before (Put key value ∷ after) =
 abbrev pub AreOwn : Writes → List Numbered → Type 0
 AreOwn table [] = Unit {0}
 AreOwn table (n ∷ later) = AreOwnIn table n [] n.stand.txn.ops × AreOwn table later
-
--- the map has the visible writes of these operations
-abbrev pub AreVisibleWrites : BTreeMap (List ℕ) ℕ → List Op → Type 0
-AreVisibleWrites own ops = (x : List ℕ) → tree.get name_cmp own x ≡ visible_write x ops
 
 abbrev pub is_in : Numbered → Writer → Bool
 is_in n first = (first.session == n.stand.session) && (first.place == n.stand.place)

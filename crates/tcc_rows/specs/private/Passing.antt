@@ -4,7 +4,7 @@ use Rattle.std.specs.Option.{option_map_or}
 use Rattle.tcc_txn.specs.Limits.{most_keys, most_sessions}
 use Rattle.tcc_rows.specs.Lines.{Record, line_of}
 use Rattle.tcc_rows.specs.Past.{fault_within, is_begun, item_of, lesser, sessions, with_name}
-use Rattle.tcc_rows.specs.Standing.{HoldsNames, IsAfter, NameSet}
+use Rattle.tcc_rows.specs.Standing.{HoldsNames, IsAfter}
 use Rattle.tcc_rows.specs.declared.rows.Item.{Item}
 use Rattle.tcc_rows.specs.declared.fault.RowFaultKind.{RowFaultKind}
 use Rattle.tcc_rows.specs.declared.fault.RowFaultKind.TheVariants as kind
@@ -27,7 +27,7 @@ MayBegin limits past name (Err k) =
     ⊎ ((k ≡ kind.TooManySessions) × (is_begun name past ≡ false) × (most_sessions limits < length (sessions (line.Begin name ∷ past))))
 
 -- one more name is held, or it is one too many
-abbrev pub NotesName : {U : Type 0} → Limits → List (List ℕ) → List ℕ → Result U RowFaultKind → NameSet → Type 0
+abbrev pub NotesName : {U : Type 0} → Limits → List (List ℕ) → List ℕ → Result U RowFaultKind → List (List ℕ) → Type 0
 NotesName limits names name (Ok done) new = HoldsNames limits (with_name name names) new
 NotesName limits names name (Err k) new = ((k ≡ kind.TooManyKeys) × (most_keys limits < length (with_name name names))) ⊎ (k ≡ kind.NoMemory)
 

@@ -49,6 +49,8 @@ TakesItem limits remaining ahead item.End new = ahead ≡ ending None
 TakesItem limits remaining ahead item.Seal new = (rest : Answers) × (ahead ≡ after_item (Some item.Seal) rest) × IsMidway limits remaining new rest
 TakesItem limits remaining ahead (item.Finished name txn) new =
     (rest : Answers) × (ahead ≡ after_item (Some (item.Finished name txn)) rest) × IsMidway limits remaining new rest
+TakesItem limits remaining ahead (item.Unknown name txn) new =
+    (rest : Answers) × (ahead ≡ after_item (Some (item.Unknown name txn)) rest) × IsMidway limits remaining new rest
 
 -- one record was passed, or the end was met: what came of it
 abbrev pub TakesLine : {R : Type 0} → Limits → (R → Option (List ℕ)) → Answers → Result (Option Item) RowFault → Rows R → Type 0

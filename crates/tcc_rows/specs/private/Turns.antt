@@ -11,6 +11,7 @@ abbrev pub line_by : Turn → Line
 line_by turn.Seal = line.Seal
 line_by (turn.Begin session) = line.Begin session
 line_by (turn.Finish session committed) = line.Finish session committed
+line_by (turn.Unknown session) = line.Unknown session
 
 -- the line of a record, or what is wrong with it
 abbrev pub read_as : Result Turn RowFaultKind → Result Line RowFaultKind

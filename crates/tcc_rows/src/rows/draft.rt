@@ -1,6 +1,7 @@
 //! The operations of a transaction that is not finished.
-ghost use Rattle.std.specs.Prelude.{◌≡◌, ◌≤◌, ◌<◌, ◌⊎◌, ◌++◌, ◌∷◌, [], false, length, OnOk, IfErr, ◌≢◌};
+ghost use Rattle.std.specs.Prelude.{◌≡◌, ◌≤◌, ◌<◌, ◌⊎◌, ◌++◌, ◌∷◌, [], false, true, length, OnOk, IfErr, ◌≢◌};
 ghost use Rattle.tcc_rows.specs.private.Drafts.{AddsOp};
+ghost use Rattle.tcc_rows.specs.Past.{writes_of};
 ghost use Rattle.tcc_txn.specs.{Transactions.writes_zero, declared.limits.TheConstants.MAX_OPERATIONS};
 
 use crate::RowFaultKind;
@@ -57,6 +58,22 @@ impl Draft {
     {
         Txn::new(self.ops, committed).unwrap()
     }
+
+    /// The transaction of the writes alone, as it is where it counts as committed.
+    pub(crate) fn finish_writes(self) -> Txn
+        ensures { result ≡ record { ops = writes_of self; committed = true } }
+    {
+        let mut ops = self.ops;
+        keep_writes(&mut ops);
+        Txn::new(ops, true).unwrap()
+    }
+}
+
+/// Leaves the writes among the operations.
+fn keep_writes(ops: &mut Vec<Op>)
+    ensures { ops.new.items ≡ writes_of ops.old.items }
+{
+    ops.retain(|op| matches!(op, Op::Put { .. }));
 }
 
 /// One more operation of a transaction, if one is begun.

@@ -18,6 +18,8 @@ pub(crate) enum Turn {
     Begin { session: Name },
     /// The session's transaction is finished.
     Finish { session: Name, committed: bool },
+    /// The session's transaction ends, and nobody told how; so does the session.
+    Unknown { session: Name },
 }
 
 /// The number of 64 bits that the digits write.
@@ -73,6 +75,8 @@ fn read_turn(session: &[u8], word: &[u8]) -> Result<Turn, RowFaultKind>
             session,
             committed: false,
         })
+    } else if word == b"unknown".as_slice() {
+        Ok(Turn::Unknown { session })
     } else {
         Err(RowFaultKind::UnknownWord)
     }

@@ -1,13 +1,13 @@
 //! What the lines so far have begun, finished and named.
-ghost use Rattle.std.specs.Prelude.{◌≡◌, ℕ, ◌∷◌, [], false, List, IfOk, Some, None, All, fold, length, ◌≢◌, IfErr};
+ghost use Rattle.std.specs.Prelude.{◌≡◌, ℕ, ◌∷◌, [], false, true, List, IfOk, Some, None, All, fold, length, ◌≢◌, IfErr, OnOk};
 ghost use Rattle.std.specs.BTreeMap.{get};
 ghost use Rattle.std.specs.Ordering.{nat_cmp};
 ghost use Rattle.std.specs.Cmp.Lexicographic.{slice_cmp};
 ghost use Rattle.std.specs.Option.{option_map_or};
 ghost use Rattle.csv.specs.Records.{fields_of};
 ghost use Rattle.tcc_rows.specs.{Lines.line_of, private.Turns.line_by, private.StagesAfter.stage_after_line, Line.Line};
-ghost use Rattle.tcc_rows.specs.Past.{least, lesser, open_sessions, ops_since};
-ghost use Rattle.tcc_rows.specs.Standing.{HoldsNames, HoldsSeats, IsAfter};
+ghost use Rattle.tcc_rows.specs.Past.{least, lesser, open_sessions, ops_since, writes_of};
+ghost use Rattle.tcc_rows.specs.Standing.{HoldsEnded, HoldsNames, HoldsSeats, IsAfter};
 ghost use Rattle.tcc_rows.specs.private.Passing.{MayBegin, NotesName, PassesLine, PassesOperation, TakesLine, lower};
 ghost use Rattle.tcc_txn.specs.{Transactions.writes_zero, declared.limits.Limits.Limits};
 ghost use Rattle.tcc_rows.specs.declared.rows.Stage.TheVariants as stage;
@@ -20,31 +20,43 @@ use crate::RowFaultKind;
 use csv::ByteRecord;
 use std::alloc::Global;
 use std::collections::{BTreeMap, BTreeSet};
-use tcc_txn::{Limits, MAX_SEALS, Name, Op, Txn};
+use tcc_txn::{Limits, MAX_SEALS, Name, Op, SymbolTable, Txn};
 
-/// The limits; each session with the operations of the transaction that it has begun; the keys so far; how
-/// many transactions were begun and how many seals there were.
+/// The limits; each session with the operations of the transaction that it has begun; the sessions that have ended; the
+/// keys so far; how many transactions were begun and how many seals there were.
 #[derive(Drop)]
 pub(crate) struct Progress {
     limits: Limits,
     sessions: BTreeMap<Name, Option<Draft>>,
-    keys: BTreeSet<Name>,
+    ended: BTreeSet<Name>,
+    keys: SymbolTable,
     begun: usize,
     seals: usize,
 }
 
 /// The key is one of those so far, of which there are not too many.
-fn note_key(keys: &mut BTreeSet<Name>, key: Name, limits: Limits) -> Result<(), RowFaultKind>
+fn note_key(keys: &mut SymbolTable, key: Name, limits: Limits) -> Result<(), RowFaultKind>
     ensures noted { (names : List (List ℕ)) → HoldsNames limits names keys.old → NotesName limits names key result keys.new }
     ensures other { IfErr result (λ kind. kind ≢ RowFaultKind.Read) }
 {
-    if keys.contains(&key) {
-        return Ok(());
+    if keys.len() < limits.keys() {
+        return match keys.number(key) {
+            Ok(_) => Ok(()),
+            Err(_) => Err(RowFaultKind::NoMemory),
+        };
     }
-    if keys.len() >= limits.keys() {
-        return Err(RowFaultKind::TooManyKeys);
+    match keys.find(&key) {
+        Some(_) => Ok(()),
+        None => Err(RowFaultKind::TooManyKeys),
     }
-    match keys.insert(key) {
+}
+
+/// The session has ended.
+fn note_ended(ended: &mut BTreeSet<Name>, session: Name) -> Result<(), RowFaultKind>
+    ensures noted { OnOk result ((past : List Line) → HoldsEnded past ended.old → HoldsEnded (line.Unknown session ∷ past) ended.new) }
+    ensures memory { IfErr result (λ kind. kind ≡ RowFaultKind.NoMemory) }
+{
+    match ended.insert(session) {
         Ok(_) => Ok(()),
         Err(_) => Err(RowFaultKind::NoMemory),
     }
@@ -103,7 +115,8 @@ impl Progress {
         Progress {
             limits,
             sessions: BTreeMap::new(alloc),
-            keys: BTreeSet::new(alloc),
+            ended: BTreeSet::new(alloc),
+            keys: SymbolTable::new(alloc),
             begun: 0,
             seals: 0,
         }
@@ -126,6 +139,9 @@ impl Progress {
         ensures passed { (limits : Limits) (past : List Line) → IsAfter limits past self.old → PassesLine limits past (line.Begin session) result self.new }
         ensures other { IfErr result (λ kind. kind ≢ RowFaultKind.Read) }
     {
+        if self.ended.contains(&session) {
+            return Err(RowFaultKind::SessionEnded);
+        }
         may_begin(&self.sessions, &session, self.limits)?;
         if self.begun >= self.limits.transactions() {
             return Err(RowFaultKind::TooManyTransactions);
@@ -147,11 +163,35 @@ impl Progress {
             → IfOk result (λ txn. txn ≡ record { ops = ops_since session past; committed = committed }) }
         ensures other { IfErr result (λ kind. kind ≢ RowFaultKind.Read) }
     {
+        if self.ended.contains(&session) {
+            return Err(RowFaultKind::SessionEnded);
+        }
         let Some(Some(_)) = self.sessions.get(&session) else {
             return Err(RowFaultKind::NotBegun);
         };
         match self.sessions.insert(session, None) {
             Ok(Some(Some(draft))) => Ok(draft.finish(committed)),
+            _ => Err(RowFaultKind::NoMemory),
+        }
+    }
+
+    /// The session's transaction ends, and nobody told how: what it wrote. So does the session.
+    fn leave(&mut self, session: Name) -> Result<Txn, RowFaultKind>
+        ensures passed { (limits : Limits) (past : List Line) → IsAfter limits past self.old
+            → PassesLine limits past (line.Unknown session) result self.new }
+        ensures finished { (limits : Limits) (past : List Line) → IsAfter limits past self.old
+            → IfOk result (λ txn. txn ≡ record { ops = writes_of (ops_since session past); committed = true }) }
+        ensures other { IfErr result (λ kind. kind ≢ RowFaultKind.Read) }
+    {
+        if self.ended.contains(&session) {
+            return Err(RowFaultKind::SessionEnded);
+        }
+        let Some(Some(_)) = self.sessions.get(&session) else {
+            return Err(RowFaultKind::NotBegun);
+        };
+        note_ended(&mut self.ended, session)?;
+        match self.sessions.insert(session, None) {
+            Ok(Some(Some(draft))) => Ok(draft.finish_writes()),
             _ => Err(RowFaultKind::NoMemory),
         }
     }
@@ -163,6 +203,9 @@ impl Progress {
             → PassesLine limits past (line.Operation session op) result self.new }
         ensures other { IfErr result (λ kind. kind ≢ RowFaultKind.Read) }
     {
+        if self.ended.contains(&session) {
+            return Err(RowFaultKind::SessionEnded);
+        }
         let key = op.key();
         match self.sessions.get_mut(&session) {
             Some(begun) => {
@@ -240,6 +283,10 @@ impl Progress {
             },
             Turn::Finish { session, committed } => match self.finish(session, committed) {
                 Ok(txn) => Ok(Some(Item::Finished(session, txn))),
+                Err(kind) => Err(kind),
+            },
+            Turn::Unknown { session } => match self.leave(session) {
+                Ok(txn) => Ok(Some(Item::Unknown(session, txn))),
                 Err(kind) => Err(kind),
             },
         }

@@ -1,5 +1,5 @@
 -- What a cut keeps of a snapshot.
-use Rattle.std.specs.Prelude.{ℕ, ◌≡◌, ◌<◌, ◌≤◌, ◌+◌, ◌-◌, ◌==◌, ◌&&◌, Bool, true, false, Contains, if◌then◌else◌, List, [], ◌∷◌, ◌++◌, length, filter, flat_map, slice_get, slice_index, slice_index_or, unwrap_or, is_none, Option, None, Some}
+use Rattle.std.specs.Prelude.{ℕ, ◌≡◌, ◌<◌, ◌≤◌, ◌+◌, ◌-◌, ◌==◌, ◌&&◌, Bool, not, true, false, Contains, if◌then◌else◌, List, [], ◌∷◌, ◌++◌, length, filter, flat_map, slice_get, slice_index, slice_index_or, unwrap_or, is_none, Option, None, Some}
 use Rattle.std.specs.FinMap.{entries}
 use Rattle.std.specs.List.{list_any}
 use Rattle.std.specs.Option.{option_map_or}
@@ -43,9 +43,13 @@ abbrev pub is_free : List Op → Op → Bool
 is_free before (Get x v) = is_none (visible_write x before)
 is_free before (Put x v) = true
 
--- whether an operation behind some others is a wanted one
+-- whether an operation is among others
+abbrev pub is_among : List Op → Op → Bool
+is_among ops op = list_any (λ one. same_op one op) ops
+
+-- whether an operation after some others is a wanted one, for the first time
 abbrev pub is_wanted : List Op → List Op → Op → Bool
-is_wanted wanted before op = list_any (λ one. same_op one op) wanted && is_free before op
+is_wanted wanted before op = (is_among wanted op && is_free before op) && not (is_among before op)
 
 -- what is kept of operations behind some others
 abbrev pub kept_behind : (List Op → Op → Bool) → List Op → List Op → List Op

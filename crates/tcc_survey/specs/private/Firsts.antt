@@ -1,10 +1,16 @@
 -- First numbers that transactions reach, by what stands right behind each, along an order turned round.
-use Rattle.std.specs.Prelude.{ℕ, ◌<◌, ◌+◌, List, Contains}
+use Rattle.std.specs.Prelude.{ℕ, ◌<◌, ◌≤◌, ◌≡◌, ◌+◌, List, length, slice_index, Contains}
 use Rattle.tcc_reads.specs.History.{History, count}
 use Rattle.tcc_graph.specs.Relations.{IsCausalPair, IsReadsPair, IsSessionPair}
 use Rattle.tcc_graph.specs.Orders.{Before}
 use Rattle.tcc_clocks.specs.Clocks.{AreEntries, HasRows, IsAfter}
+use Rattle.tcc_clocks.specs.declared.latest.TheConstants.{WIDE}
 use Rattle.tcc_clocks.specs.declared.side.Side.TheVariants.{Future}
+
+-- of each session of the block a number up to which none is of it
+pub record AreFirstNumbers (owners : List ℕ) (from : ℕ) (row : List ℕ) : Type 0 where
+  pub wide : length row ≡ WIDE
+  pub each : (k : ℕ) → k < WIDE → (b : ℕ) → b < length owners → slice_index owners b ≡ from + k → slice_index row k ≤ b
 
 -- a row says of each session of the block that begins at `from` which of those meant is the first
 abbrev pub AreFirstOf : History → (ℕ → Type 0) → ℕ → List ℕ → Type 0

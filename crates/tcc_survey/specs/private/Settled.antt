@@ -5,7 +5,6 @@ use Rattle.tcc_reads.specs.History.{History, IsBySession, count, owner}
 use Rattle.tcc_graph.specs.Relations.{causal_pair, IsReadsPair}
 use Rattle.tcc_graph.specs.Keys.{keys, key_at, writers}
 use Rattle.tcc_graph.specs.Levels.{Judged, judged}
-use Rattle.tcc_graph.specs.Walks.{IsReached}
 use Rattle.tcc_graph.specs.declared.level.Level.{Level}
 use Rattle.tcc_graph.specs.declared.level.Level.TheVariants as level
 use Rattle.tcc_clocks.specs.Clocks.{AreOwners, AreClocks}
@@ -14,16 +13,13 @@ use Rattle.tcc_clocks.specs.declared.latest.TheConstants.{WIDE}
 use Rattle.tcc_survey.specs.declared.external_reads.Reading.{Reading}
 use Rattle.tcc_survey.specs.declared.scanning.Scan.{Scan}
 use Rattle.tcc_survey.specs.declared.scanning.Sweep.{Sweep}
+use Rattle.tcc_survey.specs.Circles.{IsAcyclic}
 use Rattle.tcc_survey.specs.Contradictions.{IsContradictedBy}
 
 -- the least number that is one of those meant, or 0 where there is none; 0 itself isn't meant
 pub record IsLeastOf (Is : ℕ → Type 0) (b : ℕ) : Type 0 where
   pub attained : (b ≡ 0) ⊎ Is b
   pub least : (d : ℕ) → Is d → (0 < b) × (b ≤ d)
-
--- no transaction reaches itself by pairs
-abbrev pub IsAcyclic : History → Type 0
-IsAcyclic h = (t : ℕ) → IsReached h t t → ⊥
 
 -- b is of session k of the block, and no earlier there than the one row says and no later than the other
 abbrev pub IsWithin : List ℕ → ℕ → List ℕ → List ℕ → ℕ → Type 0
@@ -72,6 +68,10 @@ IsHitOf s b = IsHit (judged s.block.graph.now s.level) s.block.owners.now s.bloc
 abbrev pub IsHitOnLane : Scan → ℕ → ℕ → Type 0
 IsHitOnLane s lane b =
     IsHitIn (judged s.block.graph.now s.level) s.block.owners.now (s.block.from + lane) (slice_index s.first.now lane) (slice_index s.clock.now lane) s.writers.now s.reader b
+
+-- b is a hit of the scan, of the reader's session
+abbrev pub IsOwnHit : Scan → ℕ → Type 0
+IsOwnHit s b = IsHitOf s b × (slice_index s.block.owners.now b ≡ slice_index s.block.owners.now s.reader)
 
 -- some writers of the key, and all that are of the block; they rise
 pub record AreWritersIn (h : History) (from : ℕ) (x : List ℕ) (among : List ℕ) : Type 0 where

@@ -11,8 +11,8 @@ use tcc_rows::{
     LargeRecording, Moment, Recording, RowFault, RowFaultKind, large_snapshot_of, snapshot_of,
 };
 use tcc_txn::{
-    Alike, LARGE_COUNT, LargeSnapshot, Limits, Name, NameFault, NoMemory, Op, Recorded, Snapshot,
-    SnapshotFault, Txn, TxnFault, are_same,
+    Alike, LARGE_COUNT, LargeSnapshot, Limits, Name, NameFault, Nearby, NoMemory, Op, Recorded,
+    Snapshot, SnapshotFault, SymbolTable, Txn, TxnFault, are_same,
 };
 
 fn get(key: Name, value: u64) -> Op {
@@ -97,6 +97,51 @@ fn names_are_hashed(rt: HostRuntime) -> Result<(), Fail> {
     for (text, index) in [("A", Some(2)), ("b", None)] {
         assert_eq!(rt; hashed.get_index_of(&name(&rt, text)), index);
     }
+    Ok(())
+}
+
+// More names than the first slots of the table's cache, so that it grows, and each asked for again.
+#[test]
+fn names_have_numbers(rt: HostRuntime) -> Result<(), Fail> {
+    let alloc = rt.alloc();
+    let mut table = SymbolTable::new(alloc);
+    assert!(rt; table.names().is_empty());
+    assert!(rt; table.find(&name(&rt, "k0")).is_none());
+    for _ in 0..2u32 {
+        for number in 0..300u32 {
+            let text = format!(in alloc; "k{number}")?;
+            assert_eq!(rt; table.number(name(&rt, text.as_str()))?, number);
+        }
+    }
+    assert_eq!(rt; table.len(), 300);
+    assert!(rt; table.names()[299] == name(&rt, "k299"));
+    assert!(rt;
+        table
+            .find(&name(&rt, "k299"))
+            .is_some_and(|number| number == 299)
+    );
+    assert!(rt; table.find(&name(&rt, "k300")).is_none());
+    Ok(())
+}
+
+// What no clause says: the cache has the number that was put last, and room for as many names as it was asked for.
+#[test]
+fn caches_numbers(rt: HostRuntime) -> Result<(), Fail> {
+    let alloc = rt.alloc();
+    let (x, y) = (name(&rt, "x"), name(&rt, "y"));
+    let mut nearby = Nearby::new(alloc);
+    nearby.put(&x, 7);
+    assert_eq!(rt; nearby.number(&x), 0);
+    assert!(rt; !nearby.has_room(1));
+    nearby = Nearby::with_room(alloc, 1000)?;
+    assert!(rt; nearby.has_room(1000));
+    nearby.put(&x, 7);
+    nearby.put(&y, 8);
+    nearby.put(&y, 9);
+    assert_eq!(rt; nearby.number(&x), 7);
+    assert_eq!(rt; nearby.number(&y), 9);
+    let names = [y, x];
+    assert_eq!(rt; Nearby::of(alloc, &names)?.number(&x), 1);
     Ok(())
 }
 

@@ -4,5 +4,5 @@ use Rattle.tcc_full.proofs.rows.add_last.Goals as goal
 
 pub returns : goal.returns
 returns c =
-    last_added c.args.transactions.now.items c.in-Some.last c.args.row c.push.new.self c.index_mut.result.now (omega (arith, c.in-Some.ensures, c.len.ensures))
-    (c.in_ok-push.ensures.items ∙ ap (λ t. t.items ++ c.args.row ∷ []) c.index_mut.ensures.value)
+    last_added c.args.transactions.now.items c.in-Some.last c.args.one c.push.new.self c.index_mut.result.now (omega (arith, c.in-Some.ensures, c.len.ensures))
+    (c.in_ok-push.ensures.items ∙ ap (λ t. t.items ++ c.args.one ∷ []) c.index_mut.ensures.value)

@@ -8,8 +8,8 @@ use Rattle.tcc_graph.specs.Keys.{has_name, keys_of}
 use Rattle.tcc_graph.proofs.IndexedLemmas.{more_indexed}
 use Rattle.tcc_graph.proofs.indexed.indexed_by.Goals as goal
 
-pub of-requires-clause-there : goal.of-requires-clause-there
-of-requires-clause-there c =
+pub of-requires-in-loop-transaction-clause-there : goal.of-requires-in-loop-transaction-clause-there
+of-requires-in-loop-transaction-clause-there c =
     let t =
     YieldsList-turn (YieldsList-from_vec c.args.transactions.items (cc) (cc)) c.loop-transaction.yielded
     c.loop-transaction.transaction-iterator c.loop-transaction.yielded_by c.next.result c.next.new.self c.in-Some.transaction c.in-Some.is c.next.ensures.steps in

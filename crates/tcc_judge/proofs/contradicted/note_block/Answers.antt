@@ -54,3 +54,9 @@ returns-clause-noted c =
     noted_all c.args.graph.now c.args.order.now c.args.positions.now c.args.block.now.from ordered.numbering ordered.some ordered.init c.loop-place.place
     c.loop-place.lasts c.args.stale.now c.mark_stale.new.stale one inv.lasts c.requires.so_far.keys_long c.mark_stale.ensures.same
     (λ k l. c.requires.so_far.of_key k l) (rw inv.same at (c.mark_stale.ensures.each c.args.order.now at))
+
+pub returns-clause-at : goal.returns-clause-at
+returns-clause-at c =
+    let inv = c.loop-place.invariant in
+    let one : c.loop-place.place ≡ 1 = omega (arith, inv.some) in
+    subst (λ (p : ℕ). IsAt c.args.graph.now c.args.order.now p c.loop-place.block) one inv.at

@@ -7,8 +7,8 @@ returns-then-cost-le-SHORT c = c.short_verdict.ensures c.args.level c.args.runs.
 pub returns-in_default : goal.returns-in_default
 returns-in_default c = absurd ((rw c.in_default.is at c.in_ok-order.ensures.whole) (c.requires.whole c.if-cost-le-SHORT.false))
 
-pub onward_verdict-requires : goal.onward_verdict-requires
-onward_verdict-requires c = rw c.deref.ensures.value (rw c.in-Some.is at c.in_ok-order.ensures.ordered)
+pub onward_verdict-requires-clause-ordered : goal.onward_verdict-requires-clause-ordered
+onward_verdict-requires-clause-ordered c = rw c.deref.ensures.value (rw c.in-Some.is at c.in_ok-order.ensures.ordered)
 
 pub returns : goal.returns
 returns c =

@@ -15,23 +15,24 @@ returns-in_default c =
 
 pub has_cheaper-requires-clause-narrowed : goal.has_cheaper-requires-clause-narrowed
 has_cheaper-requires-clause-narrowed c =
-    let are_those = rw c.in-Some.is at c.in_ok-narrowed.ensures in
-    are_narrowed c.args.graph.now c.args.order.now c.requires c.in-Some.narrowed.members.items c.in-Some.narrowed.key_indices.items are_those.1.0 are_those.1.1
+    let are_those = rw (c.in-Some.is, c.deref.ensures.value) at c.in_ok-narrowed.ensures in
+    are_narrowed c.args.graph.now c.args.level c.args.order.now c.in-Ok.positions.items c.requires.ordered c.args.most c.in-Some.narrowed.members.items
+    c.in-Some.narrowed.key_indices.items are_those.1.0 are_those.1.1
 
 pub returns-then-branch : goal.returns-then-branch
 returns-then-branch c =
     let kept = rw c.in-Ok.is at c.in_ok-positions.ensures in
-    let are_those = rw c.in-Some.is at c.in_ok-narrowed.ensures in
+    let are_those = rw (c.in-Some.is, c.deref.ensures.value) at c.in_ok-narrowed.ensures in
     let cheaper =
-    some_cheaper c.args.graph.now c.args.order.now c.requires c.in-Some.narrowed.members.items c.in-Some.narrowed.key_indices.items are_those.1.0 are_those.1.1
-    c.args.level c.args.most (c.in_ok-has_cheaper.ensures.0 c.if-branch.true) in
+    some_cheaper c.args.graph.now c.args.level c.args.order.now c.in-Ok.positions.items c.requires.ordered c.args.most c.in-Some.narrowed.members.items
+    c.in-Some.narrowed.key_indices.items are_those.1.0 are_those.1.1 (c.in_ok-has_cheaper.ensures.0 c.if-branch.true) in
     rw c.rejected-then-branch.ensures (inr (kept.reads, inr (are_those.0, inl (refl, (refl, cheaper)))))
 
 pub returns : goal.returns
 returns c =
     let kept = rw c.in-Ok.is at c.in_ok-positions.ensures in
-    let are_those = rw c.in-Some.is at c.in_ok-narrowed.ensures in
+    let are_those = rw (c.in-Some.is, c.deref.ensures.value) at c.in_ok-narrowed.ensures in
     let none =
-    none_cheaper c.args.graph.now c.args.order.now c.requires c.in-Some.narrowed.members.items c.in-Some.narrowed.key_indices.items are_those.1.0 are_those.1.1
-    c.args.level c.args.most c.in-Ok.positions.items kept (λ is. false≢true (sym c.if-branch.false ∙ c.in_ok-has_cheaper.ensures.1 is)) in
+    none_cheaper c.args.graph.now c.args.level c.args.order.now c.in-Ok.positions.items c.requires.ordered c.args.most c.in-Some.narrowed.members.items
+    c.in-Some.narrowed.key_indices.items are_those.1.0 are_those.1.1 kept (λ is. false≢true (sym c.if-branch.false ∙ c.in_ok-has_cheaper.ensures.1 is)) in
     (kept.reads, (are_those.0, (none, tt)))

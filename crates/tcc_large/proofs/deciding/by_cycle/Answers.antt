@@ -4,13 +4,8 @@ use Rattle.tcc_graph.specs.Links.{cost}
 use Rattle.tcc_graph.specs.declared.link.Link.{Link}
 use Rattle.tcc_least.specs.Shapes.{AreLeast, NoneBelow}
 use Rattle.tcc_graph.specs.Routes.{AreCycle}
-use Rattle.tcc_large.proofs.Returned.{cycle_closed}
+use Rattle.tcc_large.proofs.Returned.{cycle_closed, least_of_four}
 use Rattle.tcc_large.proofs.deciding.by_cycle.Goals as goal
-
--- where none costs less than four steps, one of four steps is a least one
-least_of_four : (j : Judged) (links : List Link) → NoneBelow j 4 → cost links ≤ 4 → AreCycle j links → AreLeast j links
-least_of_four j links none cheap (s, cycle) =
-    (s, record { cycle = cycle; least = λ t others other. omega (arith, none t others other, cheap) })
 
 pub returns-in-Some : goal.returns-in-Some
 returns-in-Some c = let found = rw c.in-Some.is at (c.in_ok-least.ensures c.args.at.now.level) in found.0

@@ -6,4 +6,5 @@ pub returns : goal.returns
 returns c = λ options d is.
     let h = c.args.graph.now in
     let claim = claim_of options.level h d in
-    (claim, has_claim options h d, c.kept.ensures h claim (keeps_rules h c.own_order.ensures c.own_cycle.ensures c.own_short.ensures options.level d is))
+    let rules = keeps_rules h c.own_order.ensures c.own_cycle.ensures c.own_short.ensures options.level d is in
+    (claim, has_claim options h d, rules, c.kept.ensures h claim rules)

@@ -1,17 +1,25 @@
--- The graph that is there is the snapshot's.
-use Rattle.std.proofs.Common.{subst}
-use Rattle.tcc_large_run.specs.private.Stages.{IsOutcome}
+-- The graph that is there is the snapshot's, and the links are a cycle of it.
+use Rattle.std.proofs.Common.{◌≡◌, [], Some, subst}
+use Rattle.tcc_reads.specs.Faults.{read_faults}
+use Rattle.tcc_reads.specs.Sources.{history}
+use Rattle.tcc_graph.specs.Levels.{judged}
+use Rattle.tcc_graph.specs.Routes.{AreCycle}
+use Rattle.tcc_large_run.specs.private.Stages.{IsOutcome, outcome_links}
 use Rattle.tcc_large_run.specs.declared.outcome.Outcome.{Outcome}
+use Rattle.tcc_large_run.proofs.Outcomes.{links_cycle}
 use Rattle.tcc_large_run.proofs.slice_records.slice_text.Goals as goal
 
 pub returns-in-Large : goal.returns-in-Large
-returns-in-Large c = λ is.
-    c.text_of.ensures (subst (λ (o : Outcome). IsOutcome c.args.level c.args.snapshot.now o) c.in-Large.is is).own
+returns-in-Large c = λ is has.
+    let w = links_cycle c.args.level c.args.snapshot.now c.args.outcome.now c.args.links.now is has in
+    c.text_of.ensures (subst (λ (o : Outcome). IsOutcome c.args.level c.args.snapshot.now o) c.in-Large.is is).own w.0 w.1
 
 pub returns-in-Proved : goal.returns-in-Proved
-returns-in-Proved c = λ is.
-    c.text_of-in-Proved.ensures (subst (λ (o : Outcome). IsOutcome c.args.level c.args.snapshot.now o) c.in-Proved.is is).own
+returns-in-Proved c = λ is has.
+    let w = links_cycle c.args.level c.args.snapshot.now c.args.outcome.now c.args.links.now is has in
+    c.text_of-in-Proved.ensures (subst (λ (o : Outcome). IsOutcome c.args.level c.args.snapshot.now o) c.in-Proved.is is).own w.0 w.1
 
 pub returns-in-Cycle : goal.returns-in-Cycle
-returns-in-Cycle c = λ is.
-    c.text_of-in-Cycle.ensures (subst (λ (o : Outcome). IsOutcome c.args.level c.args.snapshot.now o) c.in-Cycle.is is).own
+returns-in-Cycle c = λ is has.
+    let w = links_cycle c.args.level c.args.snapshot.now c.args.outcome.now c.args.links.now is has in
+    c.text_of-in-Cycle.ensures (subst (λ (o : Outcome). IsOutcome c.args.level c.args.snapshot.now o) c.in-Cycle.is is).own w.0 w.1

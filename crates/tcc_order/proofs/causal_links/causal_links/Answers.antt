@@ -9,27 +9,47 @@ pub loop-block-init : goal.loop-block-init
 loop-block-init c =
     let h = c.args.graph.now in
     let kept = c.in_ok-kept.kept.items in
-    let long : length kept ≡ count h = search rules in
-    (search rules, long, none_derived (Overwrites h) kept c.in_ok-kept.ensures.none, λ a b over some less. absurd (omega (arith, less)))
+    let long : length kept ≡ count h = search rules in (
+      search rules,
+      long,
+      none_derived (Overwrites h) kept c.in_ok-kept.ensures.none,
+      (λ a b over some less. absurd (omega (arith, less))),
+      search rules,
+      search rules,
+      search rules,
+    )
 
 pub keep_block-requires-clause-derived : goal.keep_block-requires-clause-derived
-keep_block-requires-clause-derived c = rw c.deref_mut.ensures.value c.loop-block.invariant.2
+keep_block-requires-clause-derived c = rw c.deref_mut-in-loop-block-3.ensures.value c.loop-block.invariant.2
 
 pub keep_block-requires-clause-enough : goal.keep_block-requires-clause-enough
-keep_block-requires-clause-enough c = rw c.deref_mut.ensures.value c.loop-block.invariant.3
+keep_block-requires-clause-enough c = rw c.deref_mut-in-loop-block-3.ensures.value c.loop-block.invariant.3
 
 pub loop-block-preserved : goal.loop-block-preserved
 loop-block-preserved c =
     let new = c.keep_block.new.kept in
     let old = c.loop-block.kept.items in
     let inv = c.loop-block.invariant in
-    let same : length new ≡ length old = rw c.deref_mut.ensures.value at c.in_ok-keep_block.ensures.same in
+    let same : length new ≡ length old = rw c.deref_mut-in-loop-block-3.ensures.value at c.in_ok-keep_block.ensures.same in
     let long : c.loop-block.kept.len ≡ length old = search rules in
-    rw (take_at new _ c.loop-block.kept.len (same ∙ sym long)) (
+    let last = c.find_news.new.last in
+    let kept_last : length last ≡ length c.loop-block.last.items = rw c.deref_mut-in-loop-block.ensures.value at c.find_news.ensures.rows in
+    let long_last : c.loop-block.last.len ≡ length c.loop-block.last.items = search rules in
+    let heads = c.find_news.new.heads in
+    let kept_heads : length heads ≡ length c.loop-block.heads.items = rw c.deref_mut-in-loop-block-2.ensures.value at c.find_news.ensures.heads in
+    let long_heads : c.loop-block.heads.len ≡ length c.loop-block.heads.items = search rules in
+    rw (
+      take_at new _ c.loop-block.kept.len (same ∙ sym long),
+      take_at last _ c.loop-block.last.len (kept_last ∙ sym long_last),
+      take_at heads _ c.loop-block.heads.len (kept_heads ∙ sym long_heads),
+    ) (
       c.in_ok-find_clocks.ensures.long,
       same ∙ inv.1,
       c.in_ok-keep_block.ensures.derived,
-      λ a b over some less. c.in_ok-keep_block.ensures.enough a b over some (omega (arith, less)),
+      (λ a b over some less. c.in_ok-keep_block.ensures.enough a b over some (omega (arith, less))),
+      search rules,
+      kept_last ∙ inv.5,
+      kept_heads ∙ inv.6,
     )
 
 pub returns : goal.returns

@@ -10,3 +10,6 @@ invariant-loop-block l =
     × (length l.kept.items ≡ count l.graph)
     × AreDerived (Overwrites l.graph) l.kept.items
     × AreEnough l.graph (Overwrites l.graph) (λ a b. owner l.graph b < l.block * WIDE) l.kept.items
+    × (length l.readings.items ≡ count l.graph)
+    × (length l.last.items ≡ length l.initial.last.items)
+    × (length l.heads.items ≡ length l.initial.heads.items)

@@ -8,6 +8,7 @@ use Rattle.tcc_clocks.specs.declared.latest.TheConstants.{WIDE}
 use Rattle.tcc_order.specs.private.CausalLinks.{AreLatestPast, AreRuns, IsOverwritten, KeepsNews}
 use Rattle.tcc_order.proofs.Needing.{IsUpTo, kept_derived, kept_enough, runs_begun, runs_kept, runs_passed}
 use Rattle.tcc_order.proofs.ByKey.{none_more}
+use Rattle.tcc_order.proofs.NewsLemmas.{news_readers}
 use Rattle.tcc_clocks.proofs.SpanLemmas.{owners_rise}
 use Rattle.tcc_order.proofs.causal_links.keep_block.Goals as goal
 use Rattle.tcc_order.proofs.causal_links.keep_block.Goals.{then-has_more+in_ok-keep, else-has_more}
@@ -39,7 +40,7 @@ needed-requires-clause-readings c =
     let was : get_or readings a c.index-readings-a.result ≡ row_of readings a
     = get_or_default readings a c.index-readings-a.result [] (omega (arith, low, c.requires.readings.long)) in
     let is : c.as_slice-from_a.result.now ≡ row_of readings a = cc (was, c.as_slice-from_a.ensures, c.index-readings-a.is) in
-    rw is (c.requires.readings.each a low)
+    rw is (c.requires.readings.each a)
 
 pub keep-requires-clause-long : goal.keep-requires-clause-long
 keep-requires-clause-long c =
@@ -103,3 +104,10 @@ pub needed-requires-clause-spans : goal.needed-requires-clause-spans
 needed-requires-clause-spans c =
     let bounds = c.block_bounds-bounds in
     rw c.deref.ensures.value (bounds.result.0, bounds.result.1, bounds.ensures, c.in_ok-find_spans.ensures)
+
+pub has_more-requires-clause-long : goal.has_more-requires-clause-long
+has_more-requires-clause-long c = omega (arith, c.requires.readings.long, c.requires.owners.long)
+
+pub has_more-requires-clause-readers : goal.has_more-requires-clause-readers
+has_more-requires-clause-readers c =
+    news_readers c.args.graph.now c.args.from c.args.table.now c.args.readings.now c.requires.readings (length c.args.table.now) c.requires.clocks.long

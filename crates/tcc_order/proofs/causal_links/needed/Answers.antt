@@ -23,7 +23,7 @@ writers_part c =
     let start = c.loop-start.start in
     let key : ℕ = key_index_in readings start in
     let ws = writers h (key_at h key) in
-    let span = c.requires.spans.3.each key (reading_key h c.args.a readings c.requires.readings start c.loop-start-test.true) in
+    let span = c.requires.spans.3.each key (reading_key h c.args.from c.args.table.now c.args.a readings c.requires.readings start c.loop-start-test.true) in
     rw (c.between-writers.ensures, c.writers_at.ensures) (between_span ws (writers_rise h (key_at h key)) c.requires.spans.0 c.requires.spans.1 _ _ span)
 
 pub loop-start-init : goal.loop-start-init
@@ -34,7 +34,7 @@ loop-start-init c =
 
 pub top_of-top-requires-clause-readers : goal.top_of-top-requires-clause-readers
 top_of-top-requires-clause-readers c = λ k l.
-    omega (arith, reading_below c.args.graph.now c.args.a c.args.readings.now c.requires.readings k l, c.requires.clocks.long)
+    omega (arith, reading_below c.args.graph.now c.args.from c.args.table.now c.args.a c.args.readings.now c.requires.readings k l, c.requires.clocks.long)
 
 pub top_of-top-requires-clause-wide : goal.top_of-top-requires-clause-wide
 top_of-top-requires-clause-wide c = λ n l. let below : n < count c.args.graph.now = omega (arith, l, c.requires.clocks.long) in (c.requires.clocks.each n below below).wide
@@ -52,7 +52,7 @@ lift_writers-requires c =
       same = c.loop-start.invariant.1.wide ∙ sym tops.wide;
       ordered = owners_ordered h c.requires.numbered owners c.requires.owners;
       owned = top_clock h c.requires.numbered owners c.requires.owners c.args.from c.args.a c.args.readings.now c.args.table.now c.requires.clocks
-          (reading_below h c.args.a c.args.readings.now c.requires.readings) c.loop-start.start c.end_of_key-end.result c.end_of_key-end.ensures.within
+          (reading_below h c.args.from c.args.table.now c.args.a c.args.readings.now c.requires.readings) c.loop-start.start c.end_of_key-end.result c.end_of_key-end.ensures.within
           c.top_of-top.result (row_of c.args.table.now c.args.a) tops.wide tops.tops;
       rising = part.rising;
       inside = all_between (λ b. b < length owners) (writers h (key_at h key)) low high c.between-writers.result.now part
@@ -86,7 +86,7 @@ loop-start-preserved c =
     (omega (arith, l, inv.1.wide)) c.requires.spans.2 (writers_inside h owners c.requires.owners (key_at h key)) part (some s l) in
     let upto : start ≤ end = omega (arith, c.end_of_key-end.ensures.past) in (
       c.end_of_key-end.ensures.within,
-      read_more h c.requires.numbered owners c.requires.owners from a readings table c.requires.clocks (reading_below h a readings c.requires.readings) start end
+      read_more h c.requires.numbered owners c.requires.owners from a readings table c.requires.clocks (reading_below h from table a readings c.requires.readings) start end
           c.end_of_key-end.ensures.within top (row_of table a) c.top_of-top.ensures.wide c.top_of-top.ensures.tops upto (key_at h key)
           (λ j above less. ap (λ p. key_at h p) (c.end_of_key-end.ensures.same j above less)) old new inv.1 c.lift_writers.ensures.same lift,
     )
@@ -102,5 +102,17 @@ returns c =
     let known = row_of c.args.table.now a in
     let need = c.loop-start.need in
     let whole : c.loop-start.start ≡ length readings = omega (arith, c.loop-start-test.false, c.loop-start.invariant.0) in
-    read_all h a readings c.requires.readings c.args.from known need
+    read_all h c.args.from c.args.table.now a readings c.requires.readings need
     (subst (λ (z : ℕ). AreLatestPast h (IsOverwritten h (IsReadBefore h readings z) a) c.args.from known need) whole c.loop-start.invariant.1)
+
+pub writers_at-requires : goal.writers_at-requires
+writers_at-requires c =
+    reading_key c.args.graph.now c.args.from c.args.table.now c.args.a c.args.readings.now c.requires.readings c.loop-start.start c.loop-start-test.true
+
+pub bounds-spans-key_index : goal.bounds-spans-key_index
+bounds-spans-key_index c =
+    omega (
+      arith,
+      reading_key c.args.graph.now c.args.from c.args.table.now c.args.a c.args.readings.now c.requires.readings c.loop-start.start c.loop-start-test.true,
+      c.requires.spans.3.long,
+    )

@@ -1,13 +1,11 @@
-use Rattle.std.proofs.Common.{take, sym, arith}
+use Rattle.std.proofs.Common.{sym, arith}
 use Rattle.std.proofs.lemmas.Grind.{common_steps}
 use Rattle.tcc_reads.specs.private.Verdicts.{writers_in}
-use Rattle.tcc_reads.proofs.Tables.{own_ahead, own_on}
+use Rattle.tcc_reads.proofs.Tables.{own_ahead}
 use Rattle.tcc_reads.proofs.judging.judge.Goals as goal
 
 pub loop-before-preserved : goal.loop-before-preserved
 loop-before-preserved c = record {
-  own = own_on c.args.ops.now c.loop-before.before c.index-ops-before.result c.loop-before-test.true (sym c.index-ops-before.is) c.put_own.new.own
-      (c.in_ok-put_own.ensures (take c.loop-before.before c.args.ops.now) c.loop-before.invariant.own);
   writes = λ distinct. own_ahead c.args.ops.now c.loop-before.before c.index-ops-before.result
       c.loop-before-test.true (sym c.index-ops-before.is) (writers_in c.args.writers.now) c.args.standing.now (c.loop-before.invariant.writes distinct);
   faults = grind (arith, common_steps);

@@ -1,14 +1,13 @@
 use Rattle.std.proofs.Common.{◌≡◌, ◌++◌, true, List, take, drop}
 use Rattle.std.specs.Prelude.{filter_map}
 use Rattle.tcc_reads.specs.Sites.{Site, sites_from}
-use Rattle.tcc_reads.specs.private.Verdicts.{writers_in, AreOwnIn, AreVisibleWrites, fault_found, source_found, faults_found, sources_found}
+use Rattle.tcc_reads.specs.private.Verdicts.{writers_in, AreOwnIn, fault_found, source_found, faults_found, sources_found}
 use Rattle.tcc_reads.proofs.judging.judge.Given as goal
 
 abbrev pub invariant-loop-before : goal.invariant-loop-before
 invariant-loop-before l =
     let ahead : List Site = sites_from l.standing.stand (take l.before l.ops) (drop l.before l.ops) in
     record {
-      own : AreVisibleWrites l.own (take l.before l.ops);
       writes : l.distinct ≡ true → AreOwnIn (writers_in l.writers) l.standing (take l.before l.ops) (drop l.before l.ops);
       faults : l.faults.items ++ filter_map (fault_found (writers_in l.writers) l.standing) ahead ≡ l.initial.faults.items
           ++ faults_found (writers_in l.writers) l.standing;

@@ -1,13 +1,8 @@
-use Rattle.std.proofs.Common.{ap, ◌∙◌, true, cond}
-use Rattle.std.specs.BTreeSet.{contains}
-use Rattle.std.specs.Str.{bytes_eq}
-use Rattle.tcc_reads.specs.Sources.{name_cmp}
-use Rattle.tcc_reads.proofs.Ties.{names_tie, cond_or}
+use Rattle.std.proofs.Common.{ap, ◌∙◌}
+use Rattle.tcc_reads.specs.private.KeyIndices.{has_key}
+use Rattle.tcc_txn.proofs.NumberedNames.{symbol-more}
 use Rattle.tcc_reads.proofs.keys.add_key.Goals as goal
 
-pub returns-in_ok-insert : goal.returns-in_ok-insert
-returns-in_ok-insert c x =
-    rw c.in-Put.is
-    (c.in_ok-insert.ensures.updates.0 x
-    ∙ ap (λ b. cond b true (contains name_cmp c.args.keys.now x)) (names_tie c.in-Put.key x)
-    ∙ cond_or (bytes_eq c.in-Put.key x) (contains name_cmp c.args.keys.now x))
+pub returns-in_ok-number : goal.returns-in_ok-number
+returns-in_ok-number c x =
+    rw c.in-Put.is (ap (λ names. has_key names x) c.in_ok-number.ensures.once ∙ symbol-more c.args.keys.now c.in-Put.key x)

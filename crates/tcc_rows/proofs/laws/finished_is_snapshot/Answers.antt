@@ -4,7 +4,8 @@ use Rattle.tcc_rows.specs.Answers.{answers_of}
 use Rattle.tcc_txn.specs.Finished.{KeepsLimits}
 use Rattle.tcc_rows.specs.Items.{finished_in}
 use Rattle.tcc_txn.specs.declared.limits.Limits.TheVariants.{Small}
-use Rattle.tcc_rows.proofs.FinishedFacts.{limits-before, no-snapshot-fault, text-limits}
+use Rattle.tcc_rows.proofs.FinishedFacts.{limits-before, no-snapshot-fault}
+use Rattle.tcc_rows.proofs.SettlingLimits.{text-limits}
 use Rattle.tcc_rows.proofs.laws.finished_is_snapshot.Goals as goal
 
 pub returns-clause-limits : goal.returns-clause-limits

@@ -1,5 +1,5 @@
-use Rattle.tcc_rows.proofs.Interleaving.{interleaved-finished}
 use Rattle.tcc_rows.proofs.InterleavedFaults.{interleaved-lawful, unsealed}
+use Rattle.tcc_rows.proofs.SealedAlike.{interleaved-finished}
 use Rattle.tcc_rows.proofs.laws.interleaved.Goals as goal
 
 pub returns-clause-finished : goal.returns-clause-finished

@@ -1,8 +1,7 @@
 use Rattle.std.proofs.Common.{◌≡◌, Bool, true, false, refl, sym, ap, ◌∙◌}
 use Rattle.tcc_txn.specs.declared.op.Op.{Op}
 use Rattle.tcc_slices.specs.private.Cutting.{same_op}
-use Rattle.tcc_slices.proofs.Keeping.{same_is}
-use Rattle.tcc_slices.proofs.PartsOf.{itself_op}
+use Rattle.tcc_slices.proofs.Keeping.{itself_op, same_is}
 use Rattle.tcc_slices.proofs.cutting.is_same.Goals as goal
 
 -- a test of two operations that holds just where they are equal

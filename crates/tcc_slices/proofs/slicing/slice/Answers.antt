@@ -1,4 +1,4 @@
-use Rattle.std.proofs.Common.{ℕ, ◌<◌, List, length, map, sym, ◌∙◌}
+use Rattle.std.proofs.Common.{ℕ, ◌+◌, ◌<◌, List, length, map, sym, ◌∙◌}
 use Rattle.std.proofs.lemmas.Bool.{false≢true}
 use Rattle.tcc_graph.specs.Levels.{judged}
 use Rattle.std.specs.Prelude.{Contains, slice_index}
@@ -8,6 +8,7 @@ use Rattle.tcc_slices.specs.private.Cutting.{AreMetBy, IsCut}
 use Rattle.tcc_slices.specs.private.Fitting.{IsPassing}
 use Rattle.tcc_slices.specs.declared.needs.Need.{Need}
 use Rattle.tcc_slices.proofs.Fits.{met_numbers}
+use Rattle.tcc_slices.proofs.Lefts.{left_of}
 use Rattle.tcc_slices.proofs.Passing.{passing_cut}
 use Rattle.tcc_slices.proofs.Spare.{nothing_spare}
 use Rattle.tcc_slices.proofs.Told.{all_met, told_back}
@@ -31,10 +32,11 @@ returns-then-branch-clause-links c =
       resolved = c.in_ok-is_slice.ensures.resolved c.if-branch.true;
       number = carry numbers;
       carried = rw c.deref-2.ensures.value at (c.in_ok-is_slice.ensures.carried c.if-branch.true);
+      left = λ i d inside. left_of s h needs (slice_index numbers (i + 1)) _ (cut.each i d inside);
       own = map (link_by (place numbers)) links;
       cycle = rw c.deref-2.ensures.value at (c.in_ok-is_slice.ensures.cycle c.if-branch.true);
       same = told_back numbers rising links met;
-      needed = nothing_spare s c.in-Some.slice h links needs numbers rising c.in_ok-needs.ensures.theirs only cut;
+      needed = nothing_spare s c.in-Some.slice h links needs numbers rising c.in_ok-needs.ensures.theirs only met cut;
     }
 
 pub is_slice-requires : goal.is_slice-requires

@@ -1,8 +1,10 @@
-use Rattle.std.proofs.Common.{rules, ◌≡◌, ◌≤◌, ◌*◌, ◌+◌, ◌∙◌, ℕ, length, sym, subst, arith, take_at}
+use Rattle.std.proofs.Common.{rules, ◌≡◌, ◌<◌, ◌≤◌, ◌*◌, ◌+◌, ◌∙◌, ℕ, false, length, get_or, refl, sym, ap, subst, arith, take_at}
+use Rattle.std.proofs.lemmas.List.{get_or_default}
 use Rattle.tcc_graph.specs.Levels.{Judged, judged}
 use Rattle.tcc_clocks.specs.declared.latest.TheConstants.{WIDE}
 use Rattle.tcc_survey.specs.private.Settled.{AreSettled, reading_of}
 use Rattle.tcc_survey.proofs.FindLemmas.{acyclic, reversed_before, reversed_numbering, settled_found, blocks_cover}
+use Rattle.tcc_survey.proofs.NeededLemmas.{passed_over}
 use Rattle.tcc_survey.proofs.ScanLemmas.{against_some}
 use Rattle.tcc_survey.proofs.clock_sweep.find_least.Goals as goal
 
@@ -24,6 +26,30 @@ settle-requires-clause-block c = record {
   first = search rules;
   clock = search rules;
 }
+
+pub loop-number-preserved-then-not-index : goal.loop-number-preserved-then-not-index
+loop-number-preserved-then-not-index c =
+    let h = c.args.graph.now in
+    let j : Judged = judged h c.args.level in
+    let all = c.args.reads.now in
+    let number = c.loop-number.number in
+    let needed = c.in_ok-needed.needed.items in
+    let inv = c.loop-number.invariant in
+    let inside : c.loop-number.number < length c.in_ok-needed.needed.items = omega (
+      arith,
+      c.loop-number-test.true,
+      c.div_ceil-number-end.ensures,
+      c.in_ok-needed.ensures.long,
+      ap length c.sessions-sessions.ensures.value,
+    ) in
+    let unmarked : get_or c.in_ok-needed.needed.items c.loop-number.number false ≡ false
+    = get_or_default c.in_ok-needed.needed.items c.loop-number.number false c.index.result.now inside ∙ (sym c.index.ensures ∙ c.if-not-index.true) in (
+      inv.0,
+      inv.1,
+      passed_over j all needed (c.in_ok-needed.ensures.needed c.args.level) number (number * WIDE) ((number + 1) * WIDE) refl (omega arith) unmarked
+          (λ k l b w. against_some j (acyclic h c.args.order.now c.requires.numbering c.requires.onward) (reading_of all k) (c.requires.reads k l) b w)
+          c.loop-number.found.items inv.2,
+    )
 
 pub loop-number-preserved : goal.loop-number-preserved
 loop-number-preserved c =

@@ -4,6 +4,7 @@ use Rattle.tcc_graph.specs.Levels.{judged}
 use Rattle.tcc_reads.specs.Traced.{traced_history}
 use Rattle.tcc_survey.specs.Circles.{IsCircle}
 use Rattle.tcc_survey.specs.Contradictions.{AreContradicted, IsSurvey}
+use Rattle.tcc_survey.specs.declared.surveyed.Surveyed.TheVariants as answer
 use Rattle.tcc_survey_run.proofs.Circular.{circle_below}
 use Rattle.tcc_survey_run.proofs.Runs.{circular, listed}
 use Rattle.tcc_survey_run.proofs.running.say.Goals as goal
@@ -12,8 +13,9 @@ pub returns-in-Listed : goal.returns-in-Listed
 returns-in-Listed g c =
     let s = c.args.snapshot.now in
     let j = judged (traced_history s) c.args.options.now.level in
-    listed c.args.options.now s _ c.deref-in-Listed.result.now _ _ c.say_found.result c.in-Ok.ensures.graph
-    (subst (AreContradicted j) (sym c.deref-in-Listed.ensures.value) (subst (IsSurvey j) c.in-Listed.is c.in-Ok.ensures.surveyed)) c.say_found.ensures
+    let is : IsSurvey j (answer.Listed c.in-Listed.found) = subst (IsSurvey j) c.in-Listed.is c.in-Ok.ensures.surveyed in
+    listed c.args.options.now s _ c.deref-in-Listed.result.now _ _ c.say_found-code.result c.in-Ok.ensures.graph
+    (is.0, subst (AreContradicted j) (sym c.deref-in-Listed.ensures.value) is.1) c.say_found-code.ensures
 
 pub say_circle-requires : goal.say_circle-requires
 say_circle-requires g c =

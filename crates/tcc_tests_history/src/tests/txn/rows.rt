@@ -100,6 +100,7 @@ fn lines_of(bytes: &[u8]) -> u64 {
 fn told(item: &Item) -> (&[u8], Option<(bool, usize)>) {
     match item {
         Item::Finished(session, txn) => (session.bytes(), Some((txn.committed(), txn.ops().len()))),
+        Item::Unknown(session, txn) => (session.bytes(), Some((txn.committed(), txn.ops().len()))),
         Item::Seal => (b"a seal", None),
         Item::End => (b"the end", None),
     }

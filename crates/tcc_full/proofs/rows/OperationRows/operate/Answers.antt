@@ -8,5 +8,5 @@ returns-in-Some c =
     let held = c.get_mut.follows.holds c.add_last.new.transactions in
     let there = sym c.in-Some.ensures.value in
     on_ok c.add_last.result
-    (λ more. changed c.args.self.now.sessions (c.get_mut.follows.lender c.add_last.new.transactions) c.args.session.now (add_last c.args.row)
+    (λ more. changed c.args.self.now.sessions (c.get_mut.follows.lender c.add_last.new.transactions) c.args.session.now (add_last c.args.one)
     c.add_last.new.transactions (rw there more) (held.3 (rw there (search rules)))) c.add_last.ensures

@@ -1,6 +1,10 @@
 use Rattle.std.proofs.Common.{sym}
-use Rattle.tcc_reads.proofs.Indices.{found, missed}
+use Rattle.tcc_reads.proofs.Indices.{found, missed, numbered_key}
 use Rattle.tcc_reads.proofs.keys.Keys.find.Goals as goal
+
+pub returns-in-Some-clause-value : goal.returns-in-Some-clause-value
+returns-in-Some-clause-value c =
+    sym (numbered_key c.args.self.now c.args.key.now c.in-Some.index (rw c.self.view_is at c.self.invariant.0) c.in-Some.ensures)
 
 pub returns-in-Ok-clause-value : goal.returns-in-Ok-clause-value
 returns-in-Ok-clause-value c =

@@ -23,8 +23,8 @@ loop-index-preserved c =
     let v = c.least_up_to.result in
     let inv = c.loop-index.invariant in (
       length-set found i v ∙ inv.0,
-      cells_before (λ k b. IsLeastBefore j (from + WIDE) (reading_of all k) b) (λ k b. IsLeastBefore j from (reading_of all k) b) found (length all) i v inv.0
+      cells_before 0 (λ k b. IsLeastBefore j (from + WIDE) (reading_of all k) b) (λ k b. IsLeastBefore j from (reading_of all k) b) found (length all) i v inv.0
           c.loop-index-test.true inv.1 inv.2 c.least_up_to.ensures,
-      cells_rest (λ k b. IsLeastBefore j (from + WIDE) (reading_of all k) b) (λ k b. IsLeastBefore j from (reading_of all k) b) found (length all) i v inv.0
+      cells_rest 0 (λ k b. IsLeastBefore j (from + WIDE) (reading_of all k) b) (λ k b. IsLeastBefore j from (reading_of all k) b) found (length all) i v inv.0
           c.loop-index-test.true inv.1 inv.2 c.least_up_to.ensures,
     )

@@ -1,22 +1,10 @@
-use Rattle.std.proofs.Common.{◌≡◌, ℕ, List, Some, length, sym, subst, arith}
-use Rattle.std.specs.BTreeMap.{Updates}
-use Rattle.tcc_txn.specs.private.Symbols.{HoldsNumbers, with_symbol}
-use Rattle.tcc_txn.proofs.SortedParts.{name_cmp}
-use Rattle.tcc_txn.proofs.NumberedNames.{held, no_more, numbers-grown}
+use Rattle.std.proofs.Common.{sym, ◌∙◌}
+use Rattle.tcc_txn.proofs.NumberedNames.{no_more}
 use Rattle.tcc_txn.proofs.symbols.SymbolTable.number.Goals as goal
 
 pub returns-in-Some-clause-once : goal.returns-in-Some-clause-once
-returns-in-Some-clause-once c =
-    sym (subst (λ (names : List (List ℕ)). with_symbol c.args.name names ≡ names) c.self.view_is
-    (no_more c.self.inside.names.items c.args.name c.in-Some.number.now
-    (held c.self.inside.names.items c.self.inside.numbers c.args.name c.in-Some.number.now c.self.invariant (sym c.in-Some.ensures.value))))
+returns-in-Some-clause-once c = sym (no_more c.args.self.now c.args.name c.in-Some.number c.in-Some.ensures)
 
-pub invariant_of-self-in-Ok : goal.invariant_of-self-in-Ok
-invariant_of-self-in-Ok c =
-    let names = c.self.inside.names.items in
-    let old = c.self.inside.numbers in
-    let new = c.insert.new.self in
-    let last : c.in_ok-number.number ≡ length names = omega (arith, c.in_ok-number.ensures, c.len.ensures, c.self.inside.names.ok.0) in
-    subst (λ (all : List (List ℕ)). HoldsNumbers all new) (sym c.in_ok-push.ensures.items)
-    (numbers-grown names c.args.name old new c.self.invariant
-    (subst (λ (n : ℕ). Updates name_cmp old new c.args.name (Some n)) last c.in-Ok.ensures.updates))
+pub returns-in-Some-mapped-clause-once : goal.returns-in-Some-mapped-clause-once
+returns-in-Some-mapped-clause-once c =
+    c.note.ensures ∙ sym (no_more c.args.self.now c.args.name c.in-Some-mapped.number c.in-Some-mapped.ensures)

@@ -6,5 +6,5 @@ pub returns-in-Ok-Some-Some-clause-passed : goal.returns-in-Ok-Some-Some-clause-
 returns-in-Ok-Some-Some-clause-passed c limits past is =
     let found = c.in-Ok-Some-Some in
     let sits = sym found.ensures.old ∙ found.field-0-is ∙ ap Some found.field-0-0-is in
-    after-finish limits past c.args.session c.args.committed _ c.args.self.now _ is sits found.ensures.updates
-    (rw found.field-0-is at found.ensures.len ∙ omega arith) refl refl refl refl
+    after-finish limits past c.args.session c.args.committed _ c.args.self.now _ is (sym (is.ended c.args.session) ∙ sym c.contains.ensures ∙ c.if-contains.false) sits found.ensures.updates
+    (rw found.field-0-is at found.ensures.len ∙ omega arith) refl refl refl refl refl

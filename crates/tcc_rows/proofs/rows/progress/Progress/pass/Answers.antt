@@ -17,3 +17,12 @@ returns-in-Ok-finish-clause-passed c limits past is =
 
 pub returns-in-Err-finish-clause-passed : goal.returns-in-Err-finish-clause-passed
 returns-in-Err-finish-clause-passed c limits past is = rw c.in-Finish.is (c.in-Err-finish.ensures.passed limits past is)
+
+pub returns-in-Ok-leave-clause-passed : goal.returns-in-Ok-leave-clause-passed
+returns-in-Ok-leave-clause-passed c limits past is =
+    let passed = c.in-Ok-leave.ensures.passed limits past is in
+    let finished = ap (λ txn. Some (item.Unknown c.in-Unknown.session txn)) (c.in-Ok-leave.ensures.finished limits past is) in
+    rw c.in-Unknown.is (passed.0, finished, passed.1)
+
+pub returns-in-Err-leave-clause-passed : goal.returns-in-Err-leave-clause-passed
+returns-in-Err-leave-clause-passed c limits past is = rw c.in-Unknown.is (c.in-Err-leave.ensures.passed limits past is)

@@ -1,0 +1,2 @@
+-- What nobody has to believe: private functions say it to one another.
+pub mod Notes

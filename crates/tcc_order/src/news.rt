@@ -1,0 +1,405 @@
+//! Which readings may tell more of the transaction that they read from than its clock does: the last writers of each key, by session,
+//! are noted along an order of the causal pairs (a sweep), and a reader is asked at its turn. Who is new is asked before who is known:
+//! where no writer noted so far is past the clock of the source, the reading is done, by one comparison of 64 numbers; or of one
+//! alone, the head, where all writers noted so far reach it, as they mostly do. For N
+//! transactions, R reads and W writes that takes N + 64 R + W steps a block of 64 sessions. A key has a row of 64 numbers; past
+//! `SLOTS` keys several share one, which then holds more than it must: some readings are looked at in vain.
+ghost use Rattle.std.specs.Prelude.{◌≡◌, ◌<◌, ◌≤◌, false, true, ℕ, List, min, length, slice_index, All, IfOk, OnOk};
+ghost use Rattle.std.specs.List.Sorted.{IsNonDecreasing};
+ghost use Rattle.tcc_reads.specs.History.{IsBySession, count};
+ghost use Rattle.tcc_graph.specs.{Relations.IsReadsPair, Keys.keys, Keys.key_at, Tables.row_of, Orders.IsNumbering, Walks.IsReached};
+ghost use Rattle.tcc_clocks.specs.{Parents.AreSteps, Parents.parents};
+ghost use Rattle.tcc_clocks.specs.Clocks.{AreOwners, AreClocks, LeadsOnward};
+ghost use Rattle.tcc_clocks.specs.{private.Rows.with_own, declared.latest.TheConstants.WIDE, declared.side.Side.TheVariants.Past};
+ghost use Rattle.tcc_order.specs.private.CausalLinks.{HasNone};
+ghost use Rattle.tcc_order.specs.private.News.{AreNews, AreNoted, AreRaised, AreReadingsOf, AreWider, HasHeads, HaveHeads, HaveRisen, IsFloor, IsHead, IsHeld, IsKnown, IsTold, KeepHeads, KeepsHead, TellsNone, known_of};
+
+use crate::reading_rows::{Readings, clear_all, sort_all};
+use std::alloc::{AllocError, Global};
+use tcc_clocks::{Clock, SharedRows, Steps, WIDE, between, block_bounds, raise_each};
+use tcc_graph::LargeGraph;
+use tcc_txn::NoMemory;
+
+/// How many rows of last writers there are at most: 32 MiB.
+const SLOTS: usize = 131_072;
+
+/// Raises the number of a transaction's session to its own, where the session is of the block.
+fn raise_own(row: &mut [u32], owners: &[u32], from: u32, a: u32)
+    requires inside { a < length owners.now }
+    ensures same { length row.new ≡ length row.old }
+    ensures each { (k : ℕ) → k < length row.old → slice_index row.new k ≡ with_own Past owners.now from a k (slice_index row.old k) }
+{
+    let owner = owners[a as usize];
+    if a > 0 && owner >= from {
+        let column = (owner - from) as usize;
+        if column < row.len() {
+            row[column] = a.max(row[column]);
+        }
+    }
+}
+
+/// Of each session of the block the greatest number that reaches `a`, or its own; and a number at least that is less than those
+/// of the block.
+fn known_by(table: &SharedRows, owners: &[u32], from: u32, floor: u32, a: u32) -> Clock
+    requires inside { a < length owners.now }
+    requires long { length table.now ≡ length owners.now }
+    requires wide { length (row_of table.now a) ≡ WIDE }
+    ensures wide { length result ≡ WIDE }
+    ensures each { (k : ℕ) → k < WIDE → slice_index result k ≡ known_of owners.now from floor (row_of table.now a) a k }
+{
+    let mut known = [floor; WIDE];
+    raise_each(&mut known, table.get(a));
+    raise_own(&mut known, owners, from, a);
+    known
+}
+
+/// Whether a number that was noted, and that the reader's clock holds, is past what is known.
+fn is_past(last: &[u32], reader: &[u32], known: &[u32]) -> bool
+    requires readers { length reader.now ≡ length last.now }
+    requires known { length known.now ≡ length last.now }
+    ensures { result ≡ false → (k : ℕ) → k < length last.now → min (slice_index reader.now k) (slice_index last.now k) ≤ slice_index known.now k }
+{
+    let mut any = false;
+    for (session, number) in last.iter().enumerate() {
+        any |= reader[session].min(*number) > known[session];
+    }
+    any
+}
+
+/// No writers yet: a row for each key, or for several.
+pub(crate) fn no_writers(alloc: Global, graph: &LargeGraph) -> Result<Vec<Clock>, AllocError>
+    ensures { IfOk result (λ last. 0 < length last.items) }
+{
+    let slots = graph.keys().len().clamp(1, SLOTS);
+    vec![in alloc; [0; WIDE]; slots]
+}
+
+/// A number that is less than all transactions of the block.
+fn floor_of(owners: &[u32], from: u32) -> u32
+    requires { IsNonDecreasing owners.now }
+    ensures { IsFloor owners.now from result }
+{
+    let bounds = block_bounds(owners, from);
+    u32::try_from(bounds.0).unwrap_or(0).saturating_sub(1)
+}
+
+/// Whether `z` is a transaction of the block that a clock holds.
+fn is_held(owners: &[u32], from: u32, clock: &[u32], z: u32) -> bool
+    ensures { result ≡ true → IsHeld owners.now from clock.now z }
+{
+    let Some(owner) = owners.get(z as usize) else {
+        return false;
+    };
+    if *owner < from {
+        return false;
+    }
+    let column = (*owner - from) as usize;
+    column < clock.len() && z <= clock[column]
+}
+
+/// Whether nobody of the block is `z`, or it is `a`, or the clock holds it.
+fn is_known(owners: &[u32], from: u32, floor: u32, clock: &[u32], a: u32, z: u32) -> bool
+    ensures { result ≡ true → IsKnown owners.now from floor clock.now a z }
+{
+    if z <= floor || z == a {
+        return true;
+    }
+    is_held(owners, from, clock, z)
+}
+
+/// Whether `c`, as it reads the key at an index from `a`, may tell that more stands before `a` than its clock holds.
+fn may_tell(
+    last: &[Clock],
+    heads: &[u32],
+    owners: &[u32],
+    from: u32,
+    floor: u32,
+    graph: &LargeGraph,
+    table: &SharedRows,
+    c: u32,
+    key_index: u32,
+    a: u32,
+) -> bool
+    requires numbered { IsBySession graph.now.entries }
+    requires owners { AreOwners graph.now owners.now }
+    requires clocks { AreClocks graph.now from table.now }
+    requires floor { IsFloor owners.now from floor }
+    requires noted { AreNoted graph.now from (λ b. IsReached graph.now b c) last.now }
+    requires heads { HaveHeads graph.now from floor (λ b. IsReached graph.now b c) heads.now }
+    requires beside { length heads.now ≡ length last.now }
+    requires some { 0 < length last.now }
+    requires reader { c < count graph.now }
+    requires source { a < count graph.now }
+    requires key { key_index < length (keys graph.now) }
+    ensures { result ≡ false → TellsNone graph.now from table.now a c (key_at graph.now key_index) }
+{
+    if table.are_same(c, a) {
+        return false;
+    }
+    let slot = key_index as usize % last.len();
+    let clock = table.get(a);
+    if is_known(owners, from, floor, clock, a, heads[slot]) {
+        return false;
+    }
+    let known = known_by(table, owners, from, floor, a);
+    let reader = table.get(c);
+    is_past(&last[slot], reader, &known)
+}
+
+/// Whether `c` isn't `init`, and those that it reads from, all but the first of these, are known to have its row.
+fn are_sources_same(table: &SharedRows, found: &[u32], c: u32) -> bool
+    requires inside { All (λ p. p < length table.now) found.now }
+    requires below { c < length table.now }
+    ensures some { result ≡ true → 0 < c }
+    ensures same { result ≡ true → (k : ℕ) → 0 < k → k < length found.now → row_of table.now (slice_index found.now k) ≡ row_of table.now c }
+{
+    if c == 0 {
+        return false;
+    }
+    for index in 1..found.len() {
+        if !table.are_same(found[index], c) {
+            return false;
+        }
+    }
+    true
+}
+
+/// Adds what a transaction reads where it may tell more of that which it reads from: nothing where these have its row.
+fn add_readings(
+    rows: &mut [Readings],
+    last: &[Clock],
+    heads: &[u32],
+    owners: &[u32],
+    from: u32,
+    floor: u32,
+    graph: &LargeGraph,
+    table: &SharedRows,
+    found: &[u32],
+    c: u32,
+) -> Result<(), NoMemory>
+    requires numbered { IsBySession graph.now.entries }
+    requires owners { AreOwners graph.now owners.now }
+    requires clocks { AreClocks graph.now from table.now }
+    requires floor { IsFloor owners.now from floor }
+    requires noted { AreNoted graph.now from (λ b. IsReached graph.now b c) last.now }
+    requires heads { HaveHeads graph.now from floor (λ b. IsReached graph.now b c) heads.now }
+    requires beside { length heads.now ≡ length last.now }
+    requires some { 0 < length last.now }
+    requires reader { c < count graph.now }
+    requires found { found.now ≡ parents graph.now c }
+    requires inside { All (λ p. p < count graph.now) found.now }
+    requires long { length rows.old ≡ count graph.now }
+    requires sound { (a : ℕ) → AreReadingsOf graph.now a (row_of rows.old a) }
+    ensures same { length rows.new ≡ length rows.old }
+    ensures wider { OnOk result (AreWider rows.old rows.new) }
+    ensures sound { OnOk result ((a : ℕ) → AreReadingsOf graph.now a (row_of rows.new a)) }
+    ensures told { OnOk result ((a : ℕ) (x : List ℕ) → IsReadsPair graph.now a c x → IsTold graph.now from table.now a (row_of rows.new a) c x) }
+{
+    if are_sources_same(table, found, c) {
+        return Ok(());
+    }
+    for read in graph.reads_at(c) {
+        let (key_index, a) = *read;
+        if may_tell(
+            last, heads, owners, from, floor, graph, table, c, key_index, a,
+        ) {
+            rows[a as usize].push((c, key_index))?;
+        }
+    }
+    Ok(())
+}
+
+/// The head of a row after a transaction was noted there: itself, where all that were noted reach it, or else none.
+fn head_after(
+    row: &[u32],
+    head: u32,
+    owners: &[u32],
+    from: u32,
+    floor: u32,
+    graph: &LargeGraph,
+    table: &SharedRows,
+    c: u32,
+) -> u32
+    requires numbered { IsBySession graph.now.entries }
+    requires owners { AreOwners graph.now owners.now }
+    requires clocks { AreClocks graph.now from table.now }
+    requires floor { IsFloor owners.now from floor }
+    requires wide { length row.now ≡ WIDE }
+    requires below { c < count graph.now }
+    requires above { floor < c }
+    ensures own { IsHead graph.now floor c result }
+    ensures kept { KeepsHead graph.now from floor row.now head result }
+{
+    let clock = table.get(c);
+    if is_known(owners, from, floor, clock, c, head) {
+        return c;
+    }
+    let none = graph.count();
+    if head < none {
+        return none;
+    }
+    let known = known_by(table, owners, from, floor, c);
+    if is_past(row, row, &known) { none } else { c }
+}
+
+/// Notes a transaction as the last writer of these keys in its session.
+fn raise_keys(
+    last: &mut [Clock],
+    heads: &mut [u32],
+    key_indices: &[u32],
+    session: usize,
+    owners: &[u32],
+    from: u32,
+    floor: u32,
+    graph: &LargeGraph,
+    table: &SharedRows,
+    c: u32,
+)
+    requires numbered { IsBySession graph.now.entries }
+    requires owners { AreOwners graph.now owners.now }
+    requires clocks { AreClocks graph.now from table.now }
+    requires floor { IsFloor owners.now from floor }
+    requires beside { length heads.old ≡ length last.old }
+    requires some { 0 < length last.old }
+    requires session { session < WIDE }
+    requires below { c < count graph.now }
+    requires above { floor < c }
+    ensures same { length last.new ≡ length last.old }
+    ensures heads { length heads.new ≡ length heads.old }
+    ensures raised { AreRaised key_indices.now session c last.old last.new }
+    ensures kept { KeepHeads graph.now from floor last.old heads.old heads.new }
+    ensures own { HasHeads graph.now floor c key_indices.now heads.new }
+{
+    for key_index in key_indices {
+        let slot = *key_index as usize % last.len();
+        heads[slot] = head_after(
+            &last[slot],
+            heads[slot],
+            owners,
+            from,
+            floor,
+            graph,
+            table,
+            c,
+        );
+        let row = &mut last[slot];
+        row[session] = c.max(row[session]);
+    }
+}
+
+/// Notes a transaction as the last writer of its keys, where its session is of the block.
+fn note_writer(
+    last: &mut [Clock],
+    heads: &mut [u32],
+    owners: &[u32],
+    from: u32,
+    floor: u32,
+    graph: &LargeGraph,
+    table: &SharedRows,
+    c: u32,
+)
+    requires numbered { IsBySession graph.now.entries }
+    requires owners { AreOwners graph.now owners.now }
+    requires clocks { AreClocks graph.now from table.now }
+    requires floor { IsFloor owners.now from floor }
+    requires beside { length heads.old ≡ length last.old }
+    requires some { 0 < length last.old }
+    requires below { c < count graph.now }
+    ensures same { length last.new ≡ length last.old }
+    ensures heads { length heads.new ≡ length heads.old }
+    ensures rise { HaveRisen last.old last.new }
+    ensures noted { AreNoted graph.now from (λ b. b ≡ c) last.new }
+    ensures kept { KeepHeads graph.now from floor last.old heads.old heads.new }
+    ensures own { HaveHeads graph.now from floor (λ b. b ≡ c) heads.new }
+{
+    let owner = owners[c as usize];
+    if c > 0 && owner >= from {
+        let session = (owner - from) as usize;
+        if session < WIDE {
+            raise_keys(
+                last,
+                heads,
+                graph.writes_at(c),
+                session,
+                owners,
+                from,
+                floor,
+                graph,
+                table,
+                c,
+            );
+        }
+    }
+}
+
+/// Adds the readings that may tell more of their source than its clock does, by an order in which causal pairs lead onward. What
+/// was noted before in other blocks may stand there still.
+fn add_along(
+    rows: &mut [Readings],
+    last: &mut [Clock],
+    heads: &mut [u32],
+    owners: &[u32],
+    from: u32,
+    graph: &LargeGraph,
+    table: &SharedRows,
+    order: &[u32],
+    steps: &Steps,
+) -> Result<(), NoMemory>
+    requires numbered { IsBySession graph.now.entries }
+    requires owners { AreOwners graph.now owners.now }
+    requires clocks { AreClocks graph.now from table.now }
+    requires numbering { IsNumbering (count graph.now) order.now }
+    requires onward { LeadsOnward graph.now order.now }
+    requires steps { AreSteps graph.now order.now steps.now.spans.items steps.now.numbers.items (length order.now) }
+    requires beside { length heads.old ≡ length last.old }
+    requires some { 0 < length last.old }
+    requires long { length rows.old ≡ count graph.now }
+    requires none { HasNone rows.old }
+    ensures same { length rows.new ≡ length rows.old }
+    ensures rows { length last.new ≡ length last.old }
+    ensures heads { length heads.new ≡ length heads.old }
+    ensures news { OnOk result (AreNews graph.now from table.now rows.new) }
+{
+    let floor = floor_of(owners, from);
+    for (position, c) in order.iter().enumerate() {
+        let found = between(&steps.numbers, steps.spans[position]);
+        add_readings(
+            rows, last, heads, owners, from, floor, graph, table, found, *c,
+        )?;
+        note_writer(last, heads, owners, from, floor, graph, table, *c);
+    }
+    Ok(())
+}
+
+/// Finds the readings that may tell more of their source than its clock does, those of one key together, by an order in which
+/// causal pairs lead onward.
+pub(crate) fn find_news(
+    rows: &mut [Readings],
+    last: &mut [Clock],
+    heads: &mut [u32],
+    owners: &[u32],
+    from: u32,
+    graph: &LargeGraph,
+    table: &SharedRows,
+    order: &[u32],
+    steps: &Steps,
+) -> Result<(), NoMemory>
+    requires numbered { IsBySession graph.now.entries }
+    requires owners { AreOwners graph.now owners.now }
+    requires clocks { AreClocks graph.now from table.now }
+    requires numbering { IsNumbering (count graph.now) order.now }
+    requires onward { LeadsOnward graph.now order.now }
+    requires steps { AreSteps graph.now order.now steps.now.spans.items steps.now.numbers.items (length order.now) }
+    requires beside { length heads.old ≡ length last.old }
+    requires some { 0 < length last.old }
+    requires long { length rows.old ≡ count graph.now }
+    ensures same { length rows.new ≡ length rows.old }
+    ensures rows { length last.new ≡ length last.old }
+    ensures heads { length heads.new ≡ length heads.old }
+    ensures news { OnOk result (AreNews graph.now from table.now rows.new) }
+{
+    clear_all(rows);
+    add_along(rows, last, heads, owners, from, graph, table, order, steps)?;
+    sort_all(rows);
+    Ok(())
+}

@@ -1,0 +1,17 @@
+pub mod Raised
+pub mod NoCycle
+pub mod Rising
+pub mod Arrived
+pub mod Over
+pub mod RowLemmas
+pub mod Members
+pub mod Settled
+pub mod TableLemmas
+pub mod Noted
+pub mod Delivering
+pub mod Deciding
+pub mod Beginning
+pub mod Alike
+pub mod Waiting
+pub mod Deliveries
+pub mod Worked

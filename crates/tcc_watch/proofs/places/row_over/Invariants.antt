@@ -1,0 +1,6 @@
+use Rattle.std.proofs.Common.{ℕ, slice_index, take}
+use Rattle.tcc_watch.specs.private.Rows.{IsLastOver}
+use Rattle.tcc_watch.proofs.places.row_over.Given as goal
+
+abbrev pub invariant-loop-parent : goal.invariant-loop-parent
+invariant-loop-parent l = (k : ℕ) → IsLastOver l.rows (take l.parent-index l.parents) k (slice_index l.row k)

@@ -1,0 +1,7 @@
+-- What nobody has to believe: private functions say it to one another, or proofs to themselves.
+pub mod Rows
+pub mod Links
+pub mod Tables
+pub mod Writers
+pub mod Delivering
+pub mod Deciding

@@ -1,0 +1,36 @@
+//! The laws of histories that grow at their end.
+ghost use Rattle.std.specs.Prelude.{◌≡◌, ◌<◌, ◌⊎◌, ◌↔◌, ℕ, Bool, false, []};
+ghost use Rattle.tcc_txn.specs.Snapshots.{Sessions};
+ghost use Rattle.tcc_reads.specs.{Faults.read_faults, Sources.history};
+ghost use Rattle.tcc_reads.specs.History.{Entry, History, count};
+ghost use Rattle.tcc_graph.specs.{Levels.judged, Links.IsLink, Routes.HasCycle, Walks.IsReached, declared.level.Level.Level, declared.link.Link.Link};
+ghost use Rattle.tcc_watch.specs.Delivered.{AllWait, AreAlike, IsBy, IsDelivered, IsDeliveryOf, MayCome, with_last};
+
+/// Where a transaction comes after all that it needs, each link stays one, and each that is new is a pair into it or a derived link of
+/// which it is the reader; nothing that was there is reached from more than before.
+pub fn sinks()
+    ensures delivered { (h : History) (e : Entry) → IsDelivered h → MayCome h e → IsDelivered (with_last h e) }
+    ensures kept { (h : History) (e : Entry) (level : Level) (l : Link) → IsLink (judged h level) l → IsLink (judged (with_last h e) level) l }
+    ensures new { (h : History) (e : Entry) (level : Level) (l : Link) → IsDelivered h → MayCome h e → IsLink (judged (with_last h e) level) l
+        → IsLink (judged h level) l ⊎ IsBy (count h) l }
+    ensures reached { (h : History) (e : Entry) (a : ℕ) (b : ℕ) → IsDelivered h → MayCome h e → b < count h → IsReached (with_last h e) a b
+        → IsReached h a b }
+{}
+
+/// Histories that are one but for the numbers of their transactions have a cycle at a level both or neither.
+pub fn alike()
+    ensures { (h : History) (k : History) (level : Level) → AreAlike h k → HasCycle (judged h level) ↔ HasCycle (judged k level) }
+{}
+
+/// Where all that a snapshot has was delivered, in whatever order, and its reads are resolved, what was delivered has a cycle at a level
+/// exactly where the history of the snapshot has one.
+pub fn deliveries()
+    ensures { (s : Sessions) (h : History) (f : ℕ → ℕ) (level : Level) → read_faults s ≡ [] → IsDeliveryOf s h f
+        → HasCycle (judged h level) ↔ HasCycle (judged (history s) level) }
+{}
+
+/// Where each transaction that hasn't come waits for another that hasn't, and some hasn't, the history has a cycle of causal pairs.
+pub fn waiting()
+    ensures { (h : History) (has_come : ℕ → Bool) (level : Level) (x : ℕ) → x < count h → has_come x ≡ false → AllWait h has_come
+        → HasCycle (judged h level) }
+{}

@@ -1,0 +1,13 @@
+//! Answers while a history grows: transactions come one after the other, each after those that it needs, and what has to stand before
+//! what is kept in rows.
+#![tactic(auto)]
+
+mod at;
+mod decided;
+mod delivered;
+pub mod laws;
+mod linking;
+mod places;
+mod raising;
+mod tables;
+mod writers;

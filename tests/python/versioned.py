@@ -1,0 +1,222 @@
+"""Versions: what a recorder keeps of them, the records that say their order, and the reads that they contradict, beside a slow checker of
+the definition by all orders."""
+import io
+import itertools
+import json
+import os
+import pathlib
+import random
+import subprocess
+import sys
+from typing import Dict, Iterator, List, NamedTuple, Optional, Set, Tuple
+
+from counted import Outcome
+from helpers import SECONDS, differs, raises, run
+
+# Two writes of x of which neither client knew of the other; c reads the later one, and then the earlier one.
+RECORDS = ["a,begin", "a,w,x,1", "a,commit", "b,begin", "b,w,x,2", "b,commit", "c,begin", "c,r,x,2", "c,commit", "c,begin", "c,r,x,1", "c,commit"]
+OBSERVED = ["o.1,begin", "o.1,r,x,1", "o.1,commit", "o.1,begin", "o.1,r,x,2", "o.1,commit"]
+
+
+def recorded(folder: pathlib.Path, library: str, tcc: List[str]) -> Iterator[Outcome]:
+    """What a recorder keeps, and the answers without versions and with them."""
+    from tcc import Anomaly, Consistent, NoAnswer, NoRecord, Recorder, explain
+    from tcc.versions import NoVersions, read_versions, write_versioned
+    path, versions = folder / "versioned.csv", folder / "versioned.versions"
+    with Recorder(path, versions=versions) as recorder:
+        a, b, c = (recorder.session(name) for name in "abc")
+        with a.transaction() as one:
+            one.write("x", 1)
+            one.committing()
+            one.versioned(10)
+        with b.call() as one:
+            one.write("x", 2)
+            one.versioned(20)
+        with c.transaction() as one:
+            one.read("x", 2, version=20)
+        with c.call() as one:
+            one.read("x").returned(1, version=10)
+            yield "a version that is none", raises(NoRecord, lambda: one.read("y").returned(None, version=0))
+    yield differs("records beside versions", RECORDS, path.read_text().split())
+    yield differs("versions", ["key,value,version", "x,1,10", "x,2,20"], versions.read_text().split())
+    yield differs("the answer without versions", Consistent, type(explain(path, tcc=tcc[-1])))
+    yield differs("the answer with versions", Anomaly, type(explain(path, tcc=tcc[-1], versions=versions)))
+    with Recorder(path, versions=versions) as recorder:
+        with recorder.session("d").transaction() as one:
+            one.read("x", 2, version=20)
+            one.read("y", None, version=7)  # of what was never written none is kept
+            one.write("z", 5, version=3)
+    yield differs("versions after a restart", ["key,value,version", "x,1,10", "x,2,20", "z,5,3"], versions.read_text().split())
+    out = folder / "versioned-judged.csv"
+    words = [sys.executable, os.path.join(library, "bin/tcc-versions"), str(path), str(versions), "-o", str(out)]
+    done = run(words, library)
+    yield differs("tcc-versions", (1, "c/2 read x = 1, version 10, and knew of version 20 by b/1\n"), (done.returncode, done.stdout))
+    wanted = [*RECORDS[:5], "b,w,x.v20,1", *RECORDS[5:11], "c,r,x.v20,0", "c,commit",
+              "d,begin", "d,r,x,2", "d,r,y,0", "d,w,z,5", "d,commit", *OBSERVED]
+    yield differs("records with versions", wanted, out.read_text().split())
+    versions.write_text("key,value,version\nx,1,20\nx,2,10\n")
+    answer = explain(path, tcc=tcc[-1], versions=versions, require=5)
+    got = (answer.transactions, answer.sessions, sorted(answer.order)) if isinstance(answer, Consistent) else answer
+    yield differs("the answer where the first one read is the older", (5, 4, ["a/1", "b/1", "c/1", "c/2", "d/1", "init"]), got)
+    yield "more transactions than there are, without observers", raises(NoAnswer, lambda: explain(path, tcc=tcc[-1], versions=versions, require=6))
+    for about, text in (("two versions of a value", "x,1,1\nx,1,2\n"), ("a line that is none", "x,1\n"), ("a version of 0", "x,1,0\n"),
+                        ("a text", "x,1,a\n")):
+        versions.write_text(text)
+        yield about, raises(NoVersions, lambda: read_versions(versions))
+    versions.write_text("x,1,5\nx,2,5\n")
+    yield "one version of two values", raises(NoVersions, lambda: write_versioned(path, versions, out))
+    yield differs("tcc-versions of one version of two values", 3, run(words, library).returncode)
+    yield "an answer with such versions", raises(ValueError, lambda: explain(path, tcc=tcc[-1], versions=versions))
+    yield "a file of another form", raises(NoRecord, lambda: Recorder(folder / "more.csv", versions=path))
+    with Recorder(folder / "no-versions.csv") as recorder:
+        with recorder.session("a").transaction() as one:
+            yield "a version without a file", raises(NoRecord, lambda: one.read("x", 1, version=1))
+
+
+class Txn(NamedTuple):
+    """A transaction: its session, the keys and values that it reads, and those that it writes."""
+
+    session: str
+    reads: Dict[str, int]
+    writes: Dict[str, int]
+
+
+def history(pick: random.Random, count: int) -> Tuple[List[Txn], Dict[str, Dict[int, int]]]:
+    """Transactions one after the other that read any write before them, and versions: most in that order, some in another, some none."""
+    found: List[Txn] = []
+    written: Dict[str, List[int]] = {"x": [0], "y": [0]}
+    for number in range(1, count + 1):
+        reads = {key: pick.choice(written[key][-3:] if pick.random() < 0.8 else written[key]) for key in "xy" if pick.random() < 0.4}
+        writes = {key: number for key in "xy" if pick.random() < 0.45}
+        found.append(Txn("s%d" % pick.randrange(3), reads, writes))
+        for key in writes:
+            written[key].append(number)
+    versions: Dict[str, Dict[int, int]] = {}
+    for key, values in written.items():
+        order = values[1:]
+        if len(order) > 1 and pick.random() < 0.4:
+            at = pick.randrange(len(order) - 1)
+            order[at], order[at + 1] = order[at + 1], order[at]
+        versions[key] = {value: 3 * place for place, value in enumerate(order, 1) if pick.random() < 0.9}
+    return found, versions
+
+
+class Slow:
+    """The definition."""
+
+    def __init__(self, every: List[Txn], versions: Dict[str, Dict[int, int]]):
+        self.every, self.versions, count = every, versions, len(every)
+        self.source = {(number, key): value - 1 for number, one in enumerate(every) for key, value in one.reads.items()}
+        pair = [[one < other and every[one].session == every[other].session or one in (self.source.get((other, key)) for key in "xy")
+                 for other in range(count)] for one in range(count)]
+        self.direct = [list(row) for row in pair]
+        for middle, one, other in itertools.product(range(count), repeat=3):
+            pair[one][other] |= pair[one][middle] and pair[middle][other]
+        self.reaches = pair
+        self.label = ["%s/%d" % (one.session, sum(each.session == one.session for each in every[:number + 1])) for number, one in enumerate(every)]
+
+    def writers(self, key: str) -> List[int]:
+        return [number for number, one in enumerate(self.every) if key in one.writes]
+
+    def version(self, key: str, number: int) -> Optional[int]:
+        return 0 if number < 0 else self.versions[key].get(self.every[number].writes[key])
+
+    def contradicted(self, is_by_versions: bool, is_atomic: bool = False) -> Set[Tuple[str, str]]:
+        """The reads, of which the reader knew a write that is newer: by what reached it, or by its version. At `atomic` a reader knows of its
+        session and of those that it reads from, and of nothing else."""
+        knows = self.direct if is_atomic else self.reaches
+        found = set()
+        for (reader, key), source in self.source.items():
+            mine = self.version(key, source)
+            for other in self.writers(key):
+                if other in (reader, source) or not knows[other][reader]:
+                    continue
+                its = self.version(key, other)
+                if is_by_versions and mine is not None and its is not None and its > mine or not is_by_versions and (
+                        source < 0 or self.reaches[source][other]):
+                    found.add((self.label[reader], key))
+        return found
+
+    def has_order(self) -> bool:
+        """Whether some order of all holds sessions and reads, explains each read, and has the writes of each key by their versions."""
+        count = len(self.every)
+        for order in itertools.permutations(range(count)):
+            at = {number: place for place, number in enumerate(order)}
+            if any(self.reaches[one][other] and at[one] > at[other] for one in range(count) for other in range(count)):
+                continue
+            by_version = all(at[one] < at[other] for key in "xy" for one in self.writers(key) for other in self.writers(key)
+                             if (self.version(key, one) or 10**9) < (self.version(key, other) or 0))
+            if by_version and all(at[other] < at.get(source, -1) for (reader, key), source in self.source.items() for other in self.writers(key)
+                                  if other not in (reader, source) and self.reaches[other][reader]):
+                return True
+        return False
+
+
+def text_of(every: List[Txn]) -> str:
+    lines = []
+    for one in every:
+        lines += ["begin", *("r,%s,%d" % pair for pair in one.reads.items()), *("w,%s,%d" % pair for pair in one.writes.items()), "commit"]
+        lines = [line if line.startswith("s") else "%s,%s" % (one.session, line) for line in lines]
+    return "".join(line + "\n" for line in lines)
+
+
+def asked(tcc: List[str], words: List[str], records: str) -> "subprocess.CompletedProcess[str]":
+    return subprocess.run([*tcc, *words], input=records, capture_output=True, text=True, timeout=SECONDS, check=False)
+
+
+def by_definition(tcc: List[str], count: int) -> Iterator[Outcome]:
+    """Random histories: there is an answer `consistent` exactly where there is an order, and the contradicted reads are those of the
+    definition, as they are worked out and as `tcc survey` lists them."""
+    from tcc.rows import read_history
+    from tcc.versions import Versioned
+    wrong, good, bad, by_versions = None, 0, 0, 0
+    for seed in range(count):
+        every, versions = history(random.Random(seed), 3 + seed % 4)
+        slow = Slow(every, versions)
+        spelled = {key: {str(value): version for value, version in each.items()} for key, each in versions.items()}
+        told, at_once = (Versioned(read_history(io.StringIO(text_of(every))), spelled, level) for level in ("causal", "atomic"))
+        records = "".join(told.records())
+        status, has_order = asked(tcc, ["explain", "--quiet"], records).returncode, slow.has_order()
+        good, bad = good + has_order, bad + (not has_order)
+        if status != (0 if has_order else 1):
+            wrong = wrong or "seed %d: status %d, and there is %s order" % (seed, status, "an" if has_order else "no")
+        stale, plain = slow.contradicted(True), slow.contradicted(False)
+        by_versions += len(stale - plain)
+        got = {(one.reader, one.operation.key) for one in told.stale}
+        got_at_once = {(one.reader, one.operation.key) for one in at_once.stale}
+        if got_at_once != slow.contradicted(True, True):
+            wrong = wrong or "seed %d, at atomic: got %s" % (seed, got_at_once)
+        if got != stale:
+            wrong = wrong or "seed %d: wanted %s, got %s" % (seed, stale, got)
+        *lines, _ = [json.loads(line) for line in asked(tcc, ["survey", "--json"], records).stdout.splitlines()]
+        listed = {(one["contradicted"], told.marks.get(one["key"], one["key"])) for one in lines
+                  if "contradicted" in one and not told.is_made(one["contradicted"])}
+        if listed != stale | plain:
+            wrong = wrong or "seed %d: survey lists %s, and not %s" % (seed, listed, stale | plain)
+        wrong = wrong or next(("seed %d: no walks for %s" % (seed, one) for one in told.stale if not told.cycle_of(one)), None)
+    yield "histories with versions", wrong or (None if min(good, bad) > count // 10 and by_versions > count // 20 else "only %d, %d, %d" % (
+        good, bad, by_versions))
+
+
+def of_etcd() -> Iterator[Outcome]:
+    """What the recorder of recipes/etcd reckons from revisions, by hand: b reads the older x after it read y of who knew the newer x."""
+    import importlib.util
+    path = pathlib.Path(__file__).resolve().parents[2] / "recipes/etcd/record.py"
+    spec = importlib.util.spec_from_file_location("etcd_record", path)
+    record = importlib.util.module_from_spec(spec)
+    sys.modules[spec.name] = record
+    spec.loader.exec_module(record)
+    seen, found = record.Seen, record.Found
+    every = [seen("a/1", {"x": 1}, 2), seen("c/1", {"x": 2}, 3), seen("c/2", {"y": 3}, 4),
+             seen("b/1", {}, 0, {"y": found(3, 4)}), seen("b/2", {}, 0, {"x": found(1, 2), "y": found(3, 4)}),
+             seen("b/3", {}, 0, {"x": found()}), seen("a/2", {}, 0, {"x": found(1, 2), "y": found()}),
+             seen("d/1", {"z": 5}, 0), seen("d.2/1", {"z": 6}, 9), seen("b/4", {}, 0, {"z": found(6, 9)}), seen("b/5", {}, 0, {"z": found(5, 7)})]
+    yield differs("stale by revisions", [("b/2", "x"), ("b/3", "x"), ("b/5", "z")], sorted(set(record.stale(every))))
+    circle = [seen("a/1", {"x": 1}, 2, {"y": found(2, 3)}), seen("b/1", {"y": 2}, 3, {"x": found(1, 2)})]
+    yield "revisions of a circle", raises(ValueError, lambda: list(record.stale(circle)))
+
+
+def outcomes(folder: pathlib.Path, library: str, tcc: List[str]) -> Iterator[Outcome]:
+    yield from recorded(folder, library, tcc)
+    yield from by_definition(tcc, 150)
+    yield from of_etcd()

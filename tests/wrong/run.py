@@ -1,0 +1,357 @@
+#!/usr/bin/env python3
+"""Tries the mutants of the crates: the check has to refuse each.
+
+    run.py [--after-gate] [--lanes N] [--anew] [--kept FOLDER] [--top FOLDER] [CRATE ..]
+
+A mutant is a wrong body of a function, in a file crates/CRATE/wrong/NAME.edit: a line `why:`, which names the clause that
+refuses it, a line `file:`, and pairs of lines `old:` and `new:`. Each old text stands once in its file.
+
+One check tries as many mutants as there are functions with one. A round of a crate has one mutant of a function at most, all of
+them in one copy, and checks these functions alone with what they call (`rattle check --only`). The obligations of a function are
+stated over the contracts of what it calls, never over bodies, so no other mutant changes them. A mutant counts as refused only
+where its own function fails by itself: an obligation isn't proved, or a file of its own proof doesn't fit. That the function
+calls one that isn't proved doesn't count. A round in which a function without a mutant fails by itself, or that doesn't compile,
+counts for nothing. Its mutants are tried alone, each with the whole crate. So is each that its round doesn't refuse, and each
+that isn't in the body of one function.
+
+Each crate has to be proved. With --after-gate `rt ci` has just passed on these sources: its libraries serve as they are. Else
+`rt lib` proves what changed. What was refused is kept in a folder, by sums of all that the answer rests on; --anew tries all
+again. The last line is `N passed, M failed`.
+"""
+import argparse
+import concurrent.futures
+import functools
+import hashlib
+import importlib.machinery
+import json
+import os
+import pathlib
+import resource
+import shutil
+import signal
+import subprocess
+import sys
+import tempfile
+import threading
+import time
+import types
+from typing import Dict, Iterator, List, NamedTuple, Optional, Tuple
+
+TOP = pathlib.Path(__file__).resolve().parent.parent.parent
+sys.path.insert(0, str(TOP / "tests"))
+from counted import Outcome, status_of  # noqa: E402
+from crates import stands_on  # noqa: E402
+from judging import judged, judged_alone  # noqa: E402
+from machine import free_memory, processors  # noqa: E402
+from mutants import PARTS, Mutant, Unusable, rounds_of  # noqa: E402
+
+# What a check takes at most, in bytes.
+MEMORY = 2_200_000_000
+UNKNOWN = "has no function `"
+SAYING = threading.Lock()
+
+
+def say(text: str) -> None:
+    with SAYING:
+        print(text, flush=True)
+
+
+class Killed(Exception):
+    """A check was killed, most likely since memory was short."""
+
+
+class Unproved(Exception):
+    """Why the crate or a library below it isn't there."""
+
+
+@functools.lru_cache(maxsize=None)
+def kit() -> pathlib.Path:
+    """The folder of the toolchain."""
+    return pathlib.Path(subprocess.run(["rt", "doc"], capture_output=True, text=True, check=True).stdout.strip()).parent
+
+
+@functools.lru_cache(maxsize=None)
+def words_of_kit(top: pathlib.Path) -> Dict[str, List[str]]:
+    """By crate the words with which the toolchain's own command has it checked; none where that can't be asked."""
+    try:
+        loader = importlib.machinery.SourceFileLoader("rtlib", str(kit() / "bin/rtlib.py"))
+        rtlib = types.ModuleType(loader.name)
+        rtlib.__file__ = loader.path
+        sys.modules[loader.name] = rtlib
+        loader.exec_module(rtlib)
+        return {one.name: one.words(["--jobs", "1"], keeps=False) for one in rtlib.crates_below(str(top)) if not one.is_program}
+    except (ImportError, OSError, AttributeError, TypeError, SystemExit):
+        return {}
+
+
+class Repository:
+    """The crates of a repository, and the libraries that stand for them in a check."""
+
+    def __init__(self, top: pathlib.Path):
+        self.top, self.libraries = top, stands_on(top)
+
+    def folder(self, crate: str) -> pathlib.Path:
+        return self.top / "crates" / crate
+
+    def own(self, crate: str) -> List[str]:
+        """The libraries of the repository that a crate names."""
+        return [one for one in self.libraries[crate] if one in self.libraries]
+
+    @functools.lru_cache(maxsize=None)
+    def below(self, crate: str) -> Tuple[str, ...]:
+        """All libraries of the repository that a crate rests on."""
+        return tuple(dict.fromkeys(it for one in self.own(crate) for it in (*self.below(one), one)))
+
+    def library(self, crate: str) -> pathlib.Path:
+        return self.folder(crate) / "out" / "rlib" / (crate + ".rlib")
+
+    def build(self, crate: str, after_gate: bool) -> None:
+        """Has the crate proved, and its library and those below be there.
+
+        `rt ci` leaves libraries without a stamp, which fit one another alone.
+        """
+        all_of = [*self.below(crate), crate]
+        from_gate = [self.library(one).is_dir() and not self.library(one).with_name("stamp").exists() for one in all_of]
+        if not (after_gate and all(from_gate)):
+            done = subprocess.run(["rt", "lib"], cwd=self.folder(crate), stdin=subprocess.DEVNULL, stdout=subprocess.PIPE,
+                                  stderr=subprocess.STDOUT, text=True, errors="replace")
+            if done.returncode:
+                raise Unproved("rt lib ended with status %d: %s" % (done.returncode, done.stdout[-300:].strip()))
+
+    def words(self, crate: str) -> List[str]:
+        """The command that checks a crate, in a folder that has a copy of it: as the toolchain has it, where that says so."""
+        words = [str(kit() / "bin/rattle"), "check"]
+        if crate in words_of_kit(self.top):
+            return [*words, *words_of_kit(self.top)[crate]]
+        words += ["--crate-name", crate, "src/lib.rt"]
+        for one in ("std", *(it for it in self.libraries[crate] if it not in self.libraries)):
+            words += ["--extern", "%s=%s" % (one, kit() / "rlibs" / (one + ".rlib"))]
+        words += ["-L", "dependency=%s" % (kit() / "rlibs")]
+        for one in self.own(crate):
+            words += ["--extern", "%s=%s" % (one, self.library(one))]
+        for one in self.below(crate):
+            words += ["-L", "dependency=%s" % self.library(one).parent]
+        words += ["--antt-project", str(kit() / "rattle/logic/antt-project.json"), "--logic-built", str(kit() / "logic_built")]
+        return words + ["--links", crate + "=", "--jobs", "1"]
+
+    def sum_of(self, crate: str) -> str:
+        """A sum of all that a check of the crate rests on, but for its mutants."""
+        found = hashlib.sha256(self.sum_of_kit().encode())
+        for one in (*self.below(crate), crate):
+            found.update(repr((one, self.libraries[one])).encode())
+            for path in sorted(it for part in PARTS for it in (self.folder(one) / part).rglob("*") if it.is_file()):
+                found.update(repr((str(path.relative_to(self.top)), path.read_bytes())).encode())
+        return found.hexdigest()
+
+    @functools.lru_cache(maxsize=None)
+    def sum_of_kit(self) -> str:
+        """A sum of the toolchain and of these scripts."""
+        scripts = [path.read_bytes() for path in sorted(pathlib.Path(__file__).parent.glob("*.py"))]
+        version = subprocess.run(["rt", "version"], capture_output=True, check=True).stdout
+        return hashlib.sha256(repr((version, (kit() / "WHAT").read_bytes(), scripts)).encode()).hexdigest()
+
+    def cost(self, crate: str) -> int:
+        """How much a check of the crate has to do, roughly, by lines."""
+        lines = {one: sum(path.read_bytes().count(b"\n") for path in (self.folder(one) / "src").rglob("*.rt"))
+                 for one in (*self.below(crate), crate)}
+        return lines[crate] + sum(lines.values()) // 20
+
+
+class Check(NamedTuple):
+    """How a check ended, and what it said."""
+    status: int
+    lines: List[str]
+
+
+class Trial:
+    """The mutants of a crate, and what is found of them: by name why one isn't refused, or None."""
+
+    def __init__(self, repository: Repository, crate: str):
+        self.repository, self.crate = repository, crate
+        self.mutants: List[Mutant] = []
+        self.found: Dict[str, Optional[str]] = {}
+        self.kept = self.checks = 0
+        self.seconds = 0.0
+        for path in sorted((repository.folder(crate) / "wrong").iterdir()):
+            try:
+                self.mutants.append(Mutant(path))
+            except (Unusable, OSError, UnicodeDecodeError) as error:
+                self.found["%s/%s" % (crate, path.name)] = "BAD: %s" % error
+
+    def count(self) -> int:
+        return len(self.found) + sum(one.name not in self.found for one in self.mutants)
+
+    def check(self, mutants: List[Mutant], only: List[str], work: pathlib.Path) -> Check:
+        """Checks a copy of the crate with these mutants, over the work that is kept, and keeps there what it proved."""
+        with tempfile.TemporaryDirectory(prefix="tcc-wrong-") as name:
+            copy = pathlib.Path(name)
+            for part in PARTS:
+                if (self.repository.folder(self.crate) / part).is_dir():
+                    shutil.copytree(self.repository.folder(self.crate) / part, copy / part)
+            for one in mutants:
+                one.write(copy)
+            asked = [word for function in only for word in ("--only", function)]
+            words = [*self.repository.words(self.crate), "--incremental", str(work), *asked]
+            with tempfile.TemporaryFile("w+", errors="replace") as log:
+                running = subprocess.Popen(words, cwd=copy, stdin=subprocess.DEVNULL, stdout=log, stderr=subprocess.STDOUT)
+                _, status, used = os.wait4(running.pid, 0)
+                running.returncode = os.waitstatus_to_exitcode(status)
+                log.seek(0)
+                lines = log.read().rstrip("\n").split("\n")
+        self.checks, self.seconds = self.checks + 1, self.seconds + used.ru_utime + used.ru_stime
+        if running.returncode == -signal.SIGKILL:
+            raise Killed()
+        return Check(running.returncode, lines)
+
+    def run(self, after_gate: bool) -> None:
+        """Tries all mutants of which nothing is known yet."""
+        left = [one for one in self.mutants if one.name not in self.found]
+        if not left:
+            return
+        if not (self.repository.folder(self.crate) / "src/lib.rt").is_file():
+            self.found.update((one.name, "BAD: mutants are tried in libraries alone") for one in left)
+            return
+        try:
+            self.repository.build(self.crate, after_gate)
+        except Unproved as error:
+            self.found.update((one.name, "NOT TRIED: %s" % error) for one in left)
+            return
+        with tempfile.TemporaryDirectory(prefix="tcc-kept-") as name:
+            work = pathlib.Path(name, "work")
+            work.mkdir()
+            rounds, alone = rounds_of(left)
+            for one in rounds:
+                alone += self.round(one, work)
+            for one in alone:
+                self.alone(one, work)
+
+    def round(self, mutants: List[Mutant], work: pathlib.Path) -> List[Mutant]:
+        """Tries one mutant for each of several functions, and gives those that have to be tried alone."""
+        tried = mutants
+        while True:
+            done = self.check(tried, sorted(one.function for one in tried), work)
+            unknown = [one for one in tried if UNKNOWN + one.function + "`" in "\n".join(done.lines)]
+            if done.status != 2 or not unknown or unknown == tried:
+                break
+            # (a function with nothing to prove is none for the check)
+            tried = [one for one in tried if one not in unknown]
+        said = judged(done.lines, {one.function for one in tried})
+        if said.fault:
+            say("%s: a round counts for nothing, its mutants are tried alone: %s" % (self.crate, said.fault[:300]))
+            return mutants
+        for one in tried:
+            if one.function in said.refused:
+                self.found[one.name] = None
+                say("%s: refused: %s" % (one.name, said.refused[one.function][:160]))
+        return [one for one in mutants if one.name not in self.found]
+
+    def alone(self, mutant: Mutant, work: pathlib.Path) -> None:
+        """Tries one mutant with the whole crate, over links to the work that is kept."""
+        own = work.with_name("own")
+        shutil.copytree(work, own, copy_function=os.link)
+        try:
+            done = self.check([mutant], [], own)
+        finally:
+            shutil.rmtree(own)
+        wrong = judged_alone(done.status, done.lines, {pair.file for pair in mutant.pairs})
+        self.found[mutant.name] = wrong
+        if not wrong:
+            say("%s: refused, alone" % mutant.name)
+
+
+class Memory:
+    """What was refused before, by crate and sums, in a folder."""
+
+    def __init__(self, folder: pathlib.Path, anew: bool):
+        self.folder, self.anew = folder, anew
+
+    def sums(self, trial: Trial) -> Dict[str, str]:
+        """By name of a mutant the sum of all that its answer rests on."""
+        sum_of_crate = trial.repository.sum_of(trial.crate)
+        return {one.name: hashlib.sha256((sum_of_crate + repr(one.pairs)).encode()).hexdigest() for one in trial.mutants}
+
+    def read(self, trial: Trial) -> None:
+        """Takes what is kept of the same sums."""
+        path = self.folder / (trial.crate + ".json")
+        kept = json.loads(path.read_text()) if path.is_file() and not self.anew else []
+        for name, key in self.sums(trial).items():
+            if key in kept:
+                trial.found[name] = None
+                trial.kept += 1
+
+    def write(self, trial: Trial, before: Dict[str, str]) -> None:
+        """Keeps the sums of what was refused, if they are what they were before."""
+        if self.sums(trial) != before:
+            return
+        self.folder.mkdir(parents=True, exist_ok=True)
+        half = self.folder / ("%s.%d" % (trial.crate, os.getpid()))
+        half.write_text(json.dumps([key for name, key in before.items() if trial.found.get(name, "") is None]))
+        half.replace(self.folder / (trial.crate + ".json"))
+
+
+def tried(trial: Trial, memory: Memory, after_gate: bool) -> Trial:
+    """Tries the mutants of a crate that aren't known to be refused."""
+    before = memory.sums(trial)
+    trial.run(after_gate)
+    memory.write(trial, before)
+    say("== %s: %d mutants, %d of them refused in an earlier run; %d checks, %.0f s of processor time"
+        % (trial.crate, trial.count(), trial.kept, trial.checks, trial.seconds))
+    return trial
+
+
+def ended(trials: List[Trial], memory: Memory, after_gate: bool, lanes: int) -> Iterator[Trial]:
+    """The trials as they end, the dearest begun first. One whose check was killed is begun again after all others, by itself."""
+    again = []
+    with concurrent.futures.ThreadPoolExecutor(lanes) as pool:
+        running = {pool.submit(tried, one, memory, after_gate): one for one in trials}
+        for one in concurrent.futures.as_completed(running):
+            try:
+                yield one.result()
+            except Killed:
+                say("%s: a check was killed, most likely for memory: once more, after the others" % running[one].crate)
+                again.append(running[one])
+    for one in again:
+        try:
+            yield tried(one, memory, after_gate)
+        except Killed:
+            one.found.update((it.name, "NOT TRIED: its check was killed") for it in one.mutants if it.name not in one.found)
+            yield one
+
+
+def outcomes(asked: argparse.Namespace) -> Iterator[Outcome]:
+    """What each mutant came to."""
+    began, repository = time.time(), Repository(asked.top.resolve())
+    memory = Memory(asked.kept or repository.top / "out/wrong", asked.anew)
+    trials = [Trial(repository, one) for one in repository.libraries
+              if (repository.folder(one) / "wrong").is_dir() and (not asked.crates or one in asked.crates)]
+    for one in sorted(set(asked.crates) - {it.crate for it in trials}):
+        yield one, "it has no mutants"
+    for one in trials:
+        memory.read(one)
+    trials.sort(key=lambda one: -repository.cost(one.crate))
+    lanes = asked.lanes or max(min(processors(), int(0.85 * free_memory()) // MEMORY), 1)
+    for one in ended(trials, memory, asked.after_gate, lanes):
+        yield from sorted(one.found.items())
+    used = resource.getrusage(resource.RUSAGE_CHILDREN)
+    print("%d mutants of %d crates, %d of them refused in an earlier run; %d checks, %.1f minutes of processor time, %.1f by the clock"
+          % (sum(one.count() for one in trials), len(trials), sum(one.kept for one in trials), sum(one.checks for one in trials),
+             (used.ru_utime + used.ru_stime) / 60, (time.time() - began) / 60))
+
+
+def main() -> int:
+    reader = argparse.ArgumentParser(description="Tries the mutants of the crates: the check has to refuse each.")
+    reader.add_argument("--after-gate", action="store_true", help="`rt ci` has just passed on these sources")
+    reader.add_argument("--lanes", type=int, help="so many crates at a time, by default by processors and memory")
+    reader.add_argument("--anew", action="store_true", help="also those that an earlier run refused")
+    reader.add_argument("--kept", type=pathlib.Path, metavar="FOLDER", help="where sums of what was refused are kept, by default out/wrong")
+    reader.add_argument("--top", type=pathlib.Path, default=TOP, metavar="FOLDER", help="another repository than this one")
+    reader.add_argument("crates", nargs="*", metavar="CRATE", help="these crates alone")
+    asked = reader.parse_args()
+    if asked.after_gate:
+        # (what runs beside then has limits of time)
+        os.nice(10)
+    return status_of(outcomes(asked))
+
+
+if __name__ == "__main__":
+    sys.exit(main())
