@@ -8,7 +8,7 @@ import subprocess
 import sys
 import tempfile
 from dataclasses import dataclass
-from typing import Callable, Dict, List, Optional
+from typing import Callable, Dict, List, Optional, Sequence
 
 RECIPES = pathlib.Path(__file__).resolve().parent
 BUILT = RECIPES.parent / "crates/tcc/out/tcc"
@@ -72,12 +72,12 @@ def answer(tcc: str, recorder: List[str], folder: pathlib.Path, name: str) -> di
     return found
 
 
-def report(tcc: str, folder: pathlib.Path, name: str, reports: pathlib.Path) -> None:
+def report(tcc: str, folder: pathlib.Path, name: str, reports: pathlib.Path, more: Sequence[str] = ()) -> None:
     """Makes the page of a history, and says where it is."""
     reports.mkdir(parents=True, exist_ok=True)
     page = reports / (name + ".html")
     words = [sys.executable, str(RECIPES / "report.py"), str(folder / (name + ".csv")), "--notes", str(folder / (name + "-notes.csv"))]
-    shown(run([*words, "--tcc", tcc, "-o", str(page)], most=UNRESOLVED))
+    shown(run([*words, *more, "--tcc", tcc, "-o", str(page)], most=UNRESOLVED))
 
 
 @dataclass(frozen=True)

@@ -1,6 +1,7 @@
 """Records what clients of a store see, and asks `tcc` whether it kept transactional causal consistency."""
-from tcc.recording import Busy, NoRecord, Recorder, Session, Transaction
+from tcc.looking import Asking, Looking, look, seal, snapshot
+from tcc.recording import Busy, Call, NoRecord, Read, Recorder, Session, Transaction, Write
 from tcc.runner import Answer, Anomaly, Consistent, Fault, NoAnswer, Step, Unresolved, explain
 
-__all__ = ["Answer", "Anomaly", "Busy", "Consistent", "Fault", "NoAnswer", "NoRecord", "Recorder", "Session", "Step", "Transaction",
-           "Unresolved", "explain"]
+__all__ = ["Answer", "Anomaly", "Asking", "Busy", "Call", "Consistent", "Fault", "Looking", "NoAnswer", "NoRecord", "Read", "Recorder",
+           "Session", "Step", "Transaction", "Unresolved", "Write", "explain", "look", "seal", "snapshot"]

@@ -18,6 +18,13 @@ Each anomaly has a line; in the end there is a line for each name with how many 
   divergent writes      two sessions see two writes of a key in opposite orders
   circular reads        transactions that read from one another in a circle (G1c)
 
+A read that no promise lets be is an anomaly by itself:
+
+  aborted read (G1a)        a value whose transaction aborted
+  intermediate read (G1b)   a value that its transaction wrote over before it committed
+  internal                  not the transaction's own last write of the key
+  future read               a value that the transaction wrote only later
+
 Where reads are unresolved what needs them can't be judged. With --strike-faults the reads at fault are left out, and the rest is
 judged; of a value that was written twice, each later write and all its reads.
 
@@ -33,13 +40,13 @@ from collections import Counter
 from dataclasses import dataclass, field
 from typing import Counter as Count, Dict, Iterable, Iterator, List, NamedTuple, Set, TextIO, Tuple
 
-from tcc.answers import Link, cycle_of, usual_name
-from tcc.contradicted import Contradicted, Fault, Survey, surveyed
+from tcc.answers import VIOLATIONS, Link, cycle_of, usual_name
+from tcc.contradicted import Fault, Survey, surveyed
 from tcc.notes import NoNotes, Note, read_notes
-from tcc.program import NoAnswer, Program
+from tcc.program import NoAnswer, Program, program_at
 from tcc.progress import INTERRUPTED, Doing, status_of
 from tcc.rows import History, Json, Operation, Transaction, Unfit, history_of, read_places
-from tcc.words import command_line, count
+from tcc.words import add_tcc, command_line, count
 
 EXAMPLE = """example: session a doesn't see its own write, and b sees one write of a transaction and not the other
   $ cat records.csv
@@ -131,14 +138,6 @@ def faulty_rows(records: Records, faults: List[Fault]) -> Set[int]:
         one.row for every in records.transactions.values() for one in every.operations if one.does == "r" and (one.key, one.value) in twice}
 
 
-def together(found: Iterable[Contradicted]) -> List[List[Contradicted]]:
-    """Contradicted reads, those of one transaction, key and value together."""
-    groups: Dict[Tuple[str, str, str], List[Contradicted]] = {}
-    for one in found:
-        groups.setdefault((one.reader, one.operation.key, one.operation.value), []).append(one)
-    return list(groups.values())
-
-
 @dataclass
 class Search:
     """What was found so far."""
@@ -178,6 +177,7 @@ class Search:
     def lines(self, most: int) -> Iterator[str]:
         """A line for each contradicted read, up to so many, then for each anomaly of what is left, and in the end for that."""
         found = self.surveyed()
+        yield from self.violations(found.faults, most)
         if found.faults and self.strikes_faults:
             self.records.struck |= faulty_rows(self.records, found.faults)
             yield "left out: %d operations at fault" % len(self.records.struck)
@@ -192,11 +192,25 @@ class Search:
             answer = self.answer()
         yield from self.end(answer)
 
+    def violations(self, faults: List[Fault], most: int) -> Iterator[str]:
+        """A line for each read that no promise lets be, up to so many; they stay where they are."""
+        more = 0
+        for one in (one for one in faults if one.kind in VIOLATIONS):
+            self.found += 1
+            self.names[VIOLATIONS[one.kind]] += 1
+            if self.found <= most:
+                yield "%d: %s: %s read %s = %s, row %d" % (
+                    self.found, VIOLATIONS[one.kind], self.named(one.label), one.operation.key, one.operation.value, one.operation.row)
+            else:
+                more += 1
+        if more:
+            yield "and %d such reads more; --most N shows N" % more
+
     def contradicted(self, found: Survey, most: int) -> Iterator[str]:
         """A line for each contradicted read, up to so many; all are struck."""
         more = 0
-        for group in together(found.contradicted):
-            one, rows = group[0], [each.operation.row for each in group]
+        for one in found.contradicted:
+            rows = list(one.rows)
             self.records.struck.update(rows)
             self.struck += len(rows)
             self.found += 1
@@ -249,7 +263,7 @@ def arguments() -> argparse.Namespace:
                      "labels are those of the whole history, rows those of the slice")
     ask.add_argument("--notes", metavar="FILE", help="annotations: node, time, index and note of each transaction; those of a slice by "
                      "the labels of the whole history")
-    ask.add_argument("--tcc", default="tcc", metavar="PATH", help="the program, by default the one on the path")
+    add_tcc(ask)
     return ask.parse_args()
 
 
@@ -260,7 +274,7 @@ def run(asked: argparse.Namespace, doing: Doing, out: TextIO) -> int:
     places = {}
     if asked.places:
         places = read_places(asked.places)
-    tcc = Program(asked.tcc, asked.level, asked.large, asked.workers)
+    tcc = Program(program_at(asked.tcc), asked.level, asked.large, asked.workers)
     notes = read_notes(asked.notes) if asked.notes else {}
     search = Search(tcc, records, places, notes, asked.strike_faults, doing)
     try:

@@ -1,15 +1,17 @@
-"""Answers of `tcc explain --json` as the scripts take them: the links of an anomaly, its usual name, and what it says in a sentence."""
+"""Answers of `tcc explain --json` as the scripts take them: the links of an anomaly, and its usual name."""
 import json
 import re
 from dataclasses import dataclass
-from typing import Any, Dict, Iterable, Iterator, List, Optional, Tuple
+from typing import Any, Dict, Iterable, List, Optional, Tuple
 
-from tcc.rows import History, Json, Transaction, Unfit
+from tcc.rows import Json, Transaction, Unfit
 
 NAME = re.compile(r"[A-Za-z0-9_.-]{1,32}")
 LABEL = re.compile(r"init|(%s)/([1-9][0-9]*)" % NAME.pattern)
 # The names of kinds of faults, and of shapes, that the field has.
 FIELD_NAMES = {"Aborted": "G1a", "Intermediate": "G1b", "BrokenInternal": "internal", "cyclic-causality": "G1c"}
+# The kinds of faults that no promise lets be, by their names: others may be those of the records.
+VIOLATIONS = {"Aborted": "aborted read (G1a)", "Intermediate": "intermediate read (G1b)", "BrokenInternal": "internal", "Future": "future read"}
 
 
 @dataclass(frozen=True)
@@ -157,57 +159,6 @@ def said(value: str) -> str:
 def row_of(one: Transaction, does: str, key_read: str, value: str) -> int:
     """The row of the transaction's first operation that is so."""
     return next((each.row for each in one.operations if (each.does, each.key, each.value) == (does, key_read, value)), one.first)
-
-
-def sentence_of(one: Link, history: History) -> str:
-    """What a derived link says: who wrote, who knew of it, and what that one read instead."""
-    write, value = history.find(one.source).written(one.key), history.value_read(one.target, one.reader, one.key)
-    if write is None:
-        raise Unfit("%s doesn't write %s in the history: is it that of the answer?" % (one.source, one.key))
-    read = "%s = %s in %s (row %d)" % (one.key, said(value), one.reader, row_of(history.find(one.reader), "r", one.key, value))
-    wrote = "%s wrote %s = %s in %s" % (session_of(one.source), one.key, write.value, one.source)
-    if session_of(one.source) == session_of(one.reader):
-        return "%s and read %s." % (wrote, read)
-    return "%s; %s knew of that, %s, and read %s." % (wrote, session_of(one.reader), known_by(one), read)
-
-
-def known_by(one: Link) -> str:
-    """By which way the reader of a derived link knew of its source."""
-    steps = joined(one.walk)
-    read = steps[-1] if steps[-1].kind == "reads" else None
-    if len(steps) == 1 and read:
-        return "since it read %s from %s" % (read.key, read.source)
-    if [each.kind for each in steps] == ["reads", "session"]:
-        return "since it had read %s from %s in %s" % (steps[0].key, steps[0].source, steps[0].target)
-    if [each.kind for each in steps] == ["session", "reads"] and read:
-        return "since it read %s from %s, which stands behind that" % (read.key, read.source)
-    if read and steps[0].kind == "reads" and [each.kind for each in steps[1:-1]] in ([], ["session"]):
-        return "since it read %s from %s, whose session had read %s from %s" % (read.key, read.source, steps[0].key, steps[0].source)
-    return "by a chain of %d steps" % len(one.walk)
-
-
-def circle_sentence(reads: List[Link], history: History) -> str:
-    """What a cycle of sessions and reads says: its first reads, and what follows."""
-    told = []
-    for one in reads[:4]:
-        value = history.value_read(one.source, one.target, one.key)
-        row = row_of(history.find(one.target), "r", one.key, value)
-        told.append("%s read %s = %s from %s (row %d)" % (one.target, one.key, said(value), one.source, row))
-    more = ", and %d more such reads" % (len(reads) - 4) if len(reads) > 4 else ""
-    return "%s%s: so a transaction would have come before itself." % (", ".join(told), more)
-
-
-def sentences(cycle: List[Link], history: History) -> Iterator[str]:
-    """What an anomaly says, in plain sentences."""
-    derived = [one for one in cycle if one.kind == "derived"]
-    if not derived:
-        yield circle_sentence([one for one in cycle if one.kind == "reads"], history)
-    for one in derived[:3]:
-        yield sentence_of(one, history)
-    if len(derived) > 3:
-        yield "And so on: %d reads in all, which no one order of the writes explains together." % len(derived)
-    elif len(derived) > 1:
-        yield "No one order of the writes explains these reads together."
 
 
 def read_answer(lines: Iterable[str], number: Optional[int] = None) -> Tuple[Json, int]:

@@ -3,6 +3,7 @@ work there, and how what these noted goes out."""
 import abc
 import argparse
 import contextlib
+import os
 import random
 import signal
 import socket
@@ -11,10 +12,11 @@ import sys
 import threading
 import time
 from dataclasses import dataclass, field
-from typing import Any, Callable, ContextManager, Iterator, List, NamedTuple, Optional, Sequence, Tuple, Type
+from typing import Any, Callable, ContextManager, Iterator, List, NamedTuple, Optional, Sequence, TextIO, Tuple, Type
 
-from tcc.noted import Transaction, annotations, records, session_name, settle, summary, warnings
-from tcc.notes import write_notes
+from tcc.noted import Transaction, annotations, records, session_name, summary, warnings
+from tcc.notes import Event, write_notes
+from tcc.whole import written_whole
 from tcc.words import count_within
 
 MOST_TRANSACTIONS = 1048575
@@ -45,6 +47,8 @@ def arguments(ask: argparse.ArgumentParser) -> argparse.Namespace:
     ask.add_argument("--keep-sessions", action="store_true",
                      help="behind a broken connection a client's session goes on, where all its outcomes are known; so writes that "
                      "the store said were committed, and then lost, show")
+    ask.add_argument("-o", "--output", metavar="FILE", help="the file for the records, by default standard output; it gets its name "
+                     "once it is whole")
     ask.add_argument("--notes", metavar="FILE", help="the file for annotations: of each transaction the node, the time, and why "
                      "it didn't commit")
     asked = ask.parse_args()
@@ -229,10 +233,17 @@ class Statements(NamedTuple):
 
 @dataclass
 class Recorded:
-    """What all clients did, and what ended some of them before their time."""
+    """What all clients did, what ended some of them before their time, and what happened meanwhile."""
 
     done: List[Transaction]
     failures: List[str] = field(default_factory=list)
+    begun: float = 0.0
+    events: List[Event] = field(default_factory=list)
+
+    def with_events(self, happened: List[Event]) -> "Recorded":
+        """Events whose times are those of the clock; what was before clients began was at their beginning."""
+        self.events = [Event(one.what, max(0.0, one.time - self.begun), one.node) for one in happened]
+        return self
 
 
 def run_clients(store: Store, asked: argparse.Namespace) -> Recorded:
@@ -246,7 +257,18 @@ def run_clients(store: Store, asked: argparse.Namespace) -> Recorded:
         thread.start()
     for thread in working:
         thread.join()
-    return Recorded([one for client in clients for one in client.done], [one.failed for one in clients if one.failed])
+    return Recorded([one for client in clients for one in client.done], [one.failed for one in clients if one.failed], begun)
+
+
+@contextlib.contextmanager
+def printed() -> Iterator[TextIO]:
+    """Standard output, to its last byte; where that fails, nothing more is written there."""
+    try:
+        yield sys.stdout
+        sys.stdout.flush()
+    except OSError:
+        os.dup2(os.open(os.devnull, os.O_WRONLY), sys.stdout.fileno())
+        raise
 
 
 def write_records(recorded: Callable[[argparse.Namespace], Recorded], asked: argparse.Namespace, library: str,
@@ -263,10 +285,14 @@ def write_records(recorded: Callable[[argparse.Namespace], Recorded], asked: arg
         print("record.py: %s" % error, file=sys.stderr)
         return 1
     done = all_of_them.done
-    unknown = settle(done)
-    sys.stdout.writelines(record + "\n" for record in records(done))
-    if asked.notes:
-        write_notes(asked.notes, annotations(done))
-    for line in (*warnings(done), *all_of_them.failures, summary(done, unknown)):
+    try:
+        with written_whole(asked.output) if asked.output else printed() as out:
+            out.writelines(record + "\n" for record in records(done))
+        if asked.notes:
+            write_notes(asked.notes, [*annotations(done), *(one.row() for one in all_of_them.events)])
+    except OSError as error:
+        print("record.py: the records can't be written: %s" % error, file=sys.stderr)
+        return 1
+    for line in (*warnings(done), *all_of_them.failures, summary(done)):
         print("record.py: " + line, file=sys.stderr)
     return 1 if all_of_them.failures else 0

@@ -37,13 +37,15 @@ class Read(NamedTuple):
 
 @dataclass(frozen=True)
 class Contradicted:
-    """A contradicted read: who read, from whom, which other writer it knew of, and how that is usually called."""
+    """A contradicted read: who read, from whom, which other writer it knew of, and how that is usually called. What a transaction reads
+    of a key from another is one read, however often it does so; the operation is the first."""
 
     reader: str
     operation: Operation
     source: str
     writer: str
     name: str
+    rows: Tuple[int, ...] = ()
 
 
 class Fault(NamedTuple):
@@ -314,19 +316,36 @@ def survey(history: History, level: str, doing: Callable[[str], None]) -> Tuple[
     found = _behind(graph, order, position, known)
     found.sort(key=lambda one: (one.reader, one.read.operation.row))
     names = Names(graph, found)
-    told = [Contradicted(graph.transactions[one.reader].label, one.read.operation,
-                         "init" if one.read.source == INIT else graph.transactions[one.read.source].label,
-                         graph.transactions[min(one.writers)].label, names.name(one.reader, one.read, min(one.writers)))
-            for one in found]
-    return Survey(told, graph.faults, sum(map(len, graph.reads)), circular), graph
+    told = []
+    for one in found:
+        if is_first(graph, one):
+            name, writer = names.first(one)
+            told.append(Contradicted(
+                graph.transactions[one.reader].label, one.read.operation,
+                "init" if one.read.source == INIT else graph.transactions[one.read.source].label,
+                graph.transactions[writer].label, name,
+                tuple(read.operation.row for read in graph.reads[one.reader]
+                      if read.source == one.read.source and read.operation.key == one.read.operation.key)))
+    reads = sum(len({(read.source, read.operation.key) for read in reads}) for reads in graph.reads)
+    return Survey(told, graph.faults, reads, circular), graph
+
+
+def is_first(graph: Graph, one: _Candidate) -> bool:
+    """Whether a read is the first of its key from its source in its transaction."""
+    return one.read == next(read for read in graph.reads[one.reader]
+                            if read.source == one.read.source and read.operation.key == one.read.operation.key)
+
+
+NAMES = ("read your writes", "fractured read", "monotonic reads", "monotonic writes", "writes follow reads", "causal chain")
 
 
 class Names:
-    """How contradicted reads are usually called."""
+    """How contradicted reads are usually called: the first name that fits any writer that contradicts them."""
 
     def __init__(self, graph: Graph, found: List[_Candidate]):
         self.graph = graph
-        self.readers: Dict[Tuple[int, str], List[int]] = {(min(one.writers), one.read.operation.key): [] for one in found}
+        self.readers: Dict[Tuple[int, str], List[int]] = {
+            (writer, one.read.operation.key): [] for one in found for writer in one.writers}
         for number, reads in enumerate(graph.reads):
             for operation, source in reads:
                 if (source, operation.key) in self.readers:
@@ -348,7 +367,13 @@ class Names:
         self.next = reader + 1
         return self.seen
 
+    def first(self, one: _Candidate) -> Tuple[str, int]:
+        """The first name that fits any of the writers, and the least of these that it fits."""
+        rank, writer = min((NAMES.index(self.name(one.reader, one.read, writer)), writer) for writer in one.writers)
+        return NAMES[rank], writer
+
     def name(self, reader: int, read: Read, writer: int) -> str:
+        """The first name that fits one writer."""
         sessions = self.graph.sessions
         if sessions[writer] == sessions[reader]:
             return "read your writes"
@@ -428,8 +453,8 @@ def told_by_program(text: str, history: History) -> Optional[Survey]:
     reads = [same_reads(history.find(one["contradicted"]), one["op"]) for one in told]
     writes = history.writes_of({(one.key, one.value) for one, *_ in reads})
     sources = ["init" if one.value == "0" else writes[one.key, one.value][0][0] for one, *_ in reads]
-    contradicted = [Contradicted(one["contradicted"], operation, source, one["writer"], one["name"])
-                    for one, every, source in zip(told, reads, sources) for operation in every]
+    contradicted = [Contradicted(one["contradicted"], every[0], source, one["writer"], one["name"], tuple(each.row for each in every))
+                    for one, every, source in zip(told, reads, sources)]
     faults = []
     for one in (one for line in lines for one in line.get("faults", ())):
         label = "%s/%d" % (one["session"], one["place"])

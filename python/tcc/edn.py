@@ -6,7 +6,8 @@ number with a point becomes JSON's, and a ratio, which JSON doesn't have, a text
 text of their JSON. Of a tagged value the tag is left out, and of a value with metadata the metadata; standard error says so.
 
 Where the input is no EDN, or has ##NaN, ##Inf or ##-Inf, which no JSON has, nothing is printed, but the line where that
-shows, and the status is 1.
+shows, and the status is 1. The same holds of a map that has a key twice, of a number with a point that is too great for JSON's,
+and of a whole number of more than 4,300 digits.
 """
 import argparse
 import itertools
@@ -25,15 +26,17 @@ EXAMPLE = """example:
   $ echo '{:type :ok, :process 3, :f :txn, :value [[:r :x nil] [:w :y 5]]}' | edn.py
   {"type": "ok", "process": 3, "f": "txn", "value": [["r", "x", null], ["w", "y", 5]]}
 """
-# Between tokens: whitespace, commas, comments. A token: a text, a character, a mark, or a word.
-GAP = re.compile(r"(?:[\s,]|;[^\n]*)*")
+# Between tokens: whitespace and commas, and comments. A token: a text, a character, a mark, or a word.
+BLANK = re.compile(r"[\s,]*")
 TOKEN = re.compile(r'"(?:[^"\\]|\\.)*"|\\(?:u[0-9a-fA-F]{4}|[a-z]+|.)|#_|#\{|\^|#[A-Za-z][^\s,;"(){}\[\]\\]*|[(){}\[\]]'
-                   r"|[^\s,;\"(){}\[\]\\#]+[^\s,;\"(){}\[\]\\]*|\#\#(?:-?Inf|NaN)", re.DOTALL)
+                   r"|[^\s,;\"(){}\[\]\\#][^\s,;\"(){}\[\]\\]*|\#\#(?:-?Inf|NaN)", re.DOTALL)
 PULLED = 64  # lines at a time
 CLOSING = {"(": ")", "[": "]", "{": "}", "#{": "}"}
 WORDS = {"nil": None, "true": True, "false": False}
 WHOLE = re.compile(r"([+-]?[0-9]+)N?")
 POINTED = re.compile(r"[+-]?[0-9]+(?:\.[0-9]*)?(?:[eE][+-]?[0-9]+)?M?")
+ESCAPED = re.compile(r"\\(u[0-9a-fA-F]{4}|.)", re.DOTALL)
+MOST_DIGITS = 4300  # of a whole number: some hundred thousand would take minutes to turn into another base
 ESCAPES = {"t": "\t", "r": "\r", "n": "\n", "b": "\b", "f": "\f", '"': '"', "\\": "\\"}
 CHARACTERS = {"newline": "\n", "return": "\r", "space": " ", "tab": "\t", "backspace": "\b", "formfeed": "\f"}
 
@@ -65,8 +68,14 @@ class Reader:
 
     def past_gap(self) -> int:
         """Where behind what stands between tokens something else does."""
-        found = GAP.match(self.text, self.at)
-        return found.end() if found else self.at
+        at = self.at
+        while True:
+            found = BLANK.match(self.text, at)
+            at = found.end() if found else at
+            if self.text[at:at + 1] != ";":
+                return at
+            end = self.text.find("\n", at)
+            at = len(self.text) if end < 0 else end
 
     def drop(self) -> None:
         """Lets go of the text where it was read to its end: nothing in it can be told any more."""
@@ -146,7 +155,10 @@ class Reader:
         if token[0] == "#":
             self.left_out["the tag %s" % token[1:]] += 1
             return self.value(self.token())
-        return atom(token)
+        try:
+            return atom(token)
+        except NoEdn as error:
+            raise self.fails(str(error), self.at) from error
 
     def behind_metadata(self) -> Any:
         """The value to which the metadata belongs that comes next."""
@@ -157,8 +169,12 @@ class Reader:
     def map_of(self, inner: List[Any]) -> Json:
         if len(inner) % 2:
             raise self.fails("a map with a key that has no value", self.at - 1)
-        pairs = zip(inner[::2], inner[1::2])
-        return {key if isinstance(key, str) else json.dumps(key): value for key, value in pairs}
+        keys = [key if isinstance(key, str) else json.dumps(key) for key in inner[::2]]
+        found = dict(zip(keys, inner[1::2]))
+        if len(found) < len(keys):
+            twice = next(key for number, key in enumerate(keys) if key in keys[:number])
+            raise self.fails("a map that has the key %s twice" % json.dumps(twice), self.at - 1)
+        return found
 
     def string(self, inner: str) -> str:
         def plain(found: "re.Match[str]") -> str:
@@ -169,7 +185,7 @@ class Reader:
                 raise self.fails("a text with the unknown escape \\%s" % one, self.at)
             return ESCAPES[one]
 
-        return re.sub(r"\\(u[0-9a-fA-F]{4}|.)", plain, inner, flags=re.DOTALL)
+        return ESCAPED.sub(plain, inner)
 
 
 def character(name: str) -> str:
@@ -184,9 +200,14 @@ def atom(word: str) -> Any:
         return WORDS[word]
     whole = WHOLE.fullmatch(word)
     if whole:
+        if len(whole.group(1)) > MOST_DIGITS:
+            raise NoEdn("a whole number of %d digits; at most %d are read" % (len(whole.group(1).lstrip("+-")), MOST_DIGITS))
         return int(whole.group(1))
     if POINTED.fullmatch(word):
-        return float(word.rstrip("M"))
+        number = float(word.rstrip("M"))
+        if number in (float("inf"), float("-inf")):
+            raise NoEdn("%s is too great for a number of JSON" % word[:20])
+        return number
     return word[1:] if word[0] == ":" else word
 
 

@@ -10,17 +10,23 @@ or one array of such objects:
   invoke  passed over, once its process has the line that says how it went
   ok      a transaction that committed; a nil that it read is the initial value 0
   fail    a transaction that aborted
-  info    its outcome is unknown: it committed where an `ok` read a value of it, else it counts as aborted;
-          an invoke that nothing follows is the same
+  info    its outcome is unknown, and so it is recorded: it committed where an `ok` read a value of it, else it counts as
+          aborted; an invoke that nothing follows is the same
 
 What a `fail` or an `info` read is left out. A line whose process is no number and whose `f` is none of "txn", "read" and
 "write" (those of the nemesis) is passed over. Without an `f` an operation of a client is a "txn". A "read" or a "write" is of
 one register, the key `register`. Where keys are independent, a value is a pair [k, v]: then the key x of a "txn" is k.x, and
 that of a "read" or "write" is k.
 
-Where transactions append to lists, an append of v is a write of v, a read of a list is one of its last value, and a read of an
-empty list one of the initial value. The read of a list that has a value twice is named and left out. docs/RECORDING.md says what
-of lists isn't looked for.
+Where transactions append to lists, the records say by two encodings all that the lists show: a register K.E for each element E of
+a list K, which is 1 where the list has it, and a register K for the last element, with sessions of their own, o.N, that say which
+of two elements came first. docs/RECORDING.md tells why the answer for these records is that for the lists. What a list shows by
+itself to be wrong is named, and is an anomaly of the records too. report.py tells an answer in the words of lists. With --log each
+list has to be the beginning of one log.
+
+With --versions each value is a pair of its version and itself, [:r x [7 5]], as a test of etcd has them: the order of a key's writes
+then has to be that of the versions. Where that isn't so already, the records say it by sessions o.N, which read a key's values in that
+order, and by keys K.vN for reads that are older than what their readers knew of.
 
 Keys that are names, and values that are whole numbers from 1, stand for themselves. Others get a name or a number that
 nothing else has; --table says into which file the list of these goes. --map says into which file goes, for each transaction
@@ -32,6 +38,8 @@ Where something can't be told, there are no records, but its line, and the statu
 """
 import argparse
 import csv
+import gc
+import io
 import itertools
 import json
 import re
@@ -41,10 +49,13 @@ from typing import Any, BinaryIO, Counter as Count, Iterable, Iterator, Tuple
 
 from tcc.edn import NoEdn, Reader
 from tcc.imported import Imported, Nemesis
+from tcc.inputs import FIRST, foreign, opened
 from tcc.notes import write_notes
 from tcc.operations import USUAL, Untold, is_number, operation, spelled
+from tcc.outputs import check_apart
 from tcc.progress import INTERRUPTED, Doing
-from tcc.rows import Json
+from tcc.rows import Json, read_history
+from tcc.versions import NoVersions, Versioned
 from tcc.words import add_files, command_line, count
 
 EXAMPLE = """example: session p1 doesn't see its own write
@@ -53,7 +64,7 @@ EXAMPLE = """example: session p1 doesn't see its own write
   {"type":"ok","process":1,"f":"txn","value":[["w","x",5]]}
   {"type":"invoke","process":1,"f":"txn","value":[["r","x",null]]}
   {"type":"ok","process":1,"f":"txn","value":[["r","x",null]]}
-  $ jepsen.py history.jsonl | tcc explain
+  $ jepsen.py history.jsonl > records.csv && tcc explain --require 1 records.csv
   anomaly: 3 steps, stale-initial-read
   session init -> p1/1
   derived p1/1 -> init by x, read by p1/2
@@ -62,7 +73,7 @@ EXAMPLE = """example: session p1 doesn't see its own write
 """
 GAP = re.compile(r"[\s,]*")
 # How JSON begins: in an object the first text has a colon behind it.
-FORM = re.compile(r"[\s,]*(\[?)[\s,]*")
+FORM = re.compile(r"[\s,]*(?:\[[\s,]*)?")
 JSON_OBJECT = re.compile(r'\{\s*(?:\}|"(?:[^"\\]|\\.)*"\s*:)')
 EDN_BEGINS = ("{", "#", "(", "^", ";", ":", "\\")
 
@@ -71,7 +82,14 @@ def no_constant(word: str) -> Any:
     raise ValueError("it has no %s" % word)
 
 
-DECODER = json.JSONDecoder(parse_constant=no_constant)
+def finite(word: str) -> float:
+    number = float(word)
+    if number in (float("inf"), float("-inf")):
+        raise ValueError("%s is too great a number" % word[:20])
+    return number
+
+
+DECODER = json.JSONDecoder(parse_constant=no_constant, parse_float=finite)
 
 
 def past_gap(text: str, at: int) -> int:
@@ -102,13 +120,19 @@ class Reading:
             if line.strip(b" \t\r\n,["):
                 break
         text = b"".join(first)
+        what = foreign(text[:FIRST])
+        if what:
+            raise Untold(1, what)
         lines = itertools.chain(first, self.file)
-        if is_edn(text.decode(errors="replace")):
-            self.edn(lines)
-        elif text.lstrip()[:1] == b"[":
-            self.array(b"".join(lines))
-        else:
-            self.json_lines(lines)
+        try:
+            if is_edn(text.decode(errors="replace")):
+                self.edn(lines)
+            elif text.lstrip()[:1] == b"[":
+                self.array(b"".join(lines))
+            else:
+                self.json_lines(lines)
+        except RecursionError as error:
+            raise Untold(self.line, "a value within too many others") from error
 
     def decoded(self, lines: Iterable[bytes]) -> Iterator[str]:
         for number, line in enumerate(lines, 1):
@@ -192,7 +216,7 @@ class Reading:
         """Takes an operation, or passes it over."""
         if self.into.usual_object(line, told):
             return
-        one = operation(line, told)
+        one = operation(line, told, self.into.has_versions)
         if one is not None:
             self.into.unusual(one)
             return
@@ -240,7 +264,8 @@ def json_text(word: str) -> str:
 
 def arguments() -> argparse.Namespace:
     ask = command_line(__doc__, EXAMPLE)
-    ask.add_argument("history", nargs="?", metavar="HISTORY", help="the file of the operations, by default standard input")
+    ask.add_argument("history", nargs="?", metavar="HISTORY", help="the file of the operations, packed by gzip or not, by default "
+                     "standard input")
     add_files(ask, table="writes what isn't itself in the records, a line each: kind, what stands for it, and how JSON spells it",
               map="writes a line for each transaction of the records: its label, the index of the operation that ended it, where it "
                   "has one, and its line",
@@ -248,29 +273,44 @@ def arguments() -> argparse.Namespace:
                     "that ended it, as far as the history has them")
     ask.add_argument("--initial", metavar="JSON", type=json_text, default="null", help="a value, as JSON, that a key has "
                      "before it is written; nil always is one")
+    ask.add_argument("--log", action="store_true", help="each list has to be the beginning of one log of its key: what is appended, "
+                     "and read by nobody, came after all that somebody read")
+    ask.add_argument("--versions", action="store_true", help="each value is a pair [version value], where a greater version was written later")
     ask.add_argument("--seal-every", metavar="N", type=count, help="puts a seal behind each N transactions, in the order in which "
                      "they ended, so that there is an answer for what was finished by then")
     return ask.parse_args()
 
 
 def run(asked: argparse.Namespace, doing: Doing) -> None:
-    with open(asked.history, "rb") if asked.history else sys.stdin.buffer as file:
-        reading = Reading(file, Imported({"null", asked.initial}), doing, asked.history or "standard input")
+    for path in (one for one in (asked.table, asked.map, asked.notes) if one):
+        check_apart(path, [asked.history] if asked.history else [])
+    with opened(asked.history or "-") as file:
+        into = Imported({"null", asked.initial}, is_log=asked.log, has_versions=asked.versions)
+        reading = Reading(file, into, doing, asked.history or "standard input")
         try:
             told = imported(reading, asked.table is not None)
         except KeyboardInterrupt as error:
             raise Interrupted("interrupted at line %d: there are no records" % reading.line) from error
+    if told.of_lists is not None and asked.seal_every:
+        raise Untold(1, "lists have no seals: what is told of them needs the whole history")
+    if asked.versions and asked.seal_every:
+        raise Untold(1, "versions have no seals: what is told of them needs the whole history")
+    doing.now("writes the records")
+    records = told.records(asked.seal_every) if told.of_lists is None and not asked.versions else list(told.records())
+    if asked.versions:
+        versioned = Versioned(read_history(io.StringIO("".join(records))), told.versions())
+        records = list(versioned.records())
+        told.made = {"sessions": len(versioned.observers), "transactions": versioned.made, "keys": len(versioned.marks)}
     for line in told.warnings(asked.seal_every):
         doing.say("jepsen.py: " + line, sys.stderr)
-    doing.now("writes the records")
     if asked.table is not None:
         write_rows(asked.table, told.table())
     if asked.map is not None:
         write_rows(asked.map, told.places())
     if asked.notes is not None:
-        write_notes(asked.notes, told.notes())
+        write_notes(asked.notes, told.notes(True))
     try:
-        sys.stdout.writelines(told.records(asked.seal_every))
+        sys.stdout.writelines(records)
         sys.stdout.flush()
     except KeyboardInterrupt as error:
         raise Interrupted("interrupted while it wrote the records: they aren't whole") from error
@@ -286,13 +326,14 @@ class Interrupted(Exception):
 
 def main() -> int:
     asked = arguments()
+    gc.disable()  # as of report.py
     try:
         with Doing("reads the history") as doing:
             run(asked, doing)
     except (KeyboardInterrupt, Interrupted) as error:
         print("jepsen.py: %s" % (error or "interrupted"), file=sys.stderr)
         return INTERRUPTED
-    except (Untold, OSError) as error:
+    except (Untold, NoVersions, OSError, EOFError) as error:
         print("jepsen.py: %s" % error, file=sys.stderr)
         return 1
     return 0

@@ -8,21 +8,21 @@ from dataclasses import dataclass, field, replace
 from html import escape
 from typing import Dict, Iterable, List, NamedTuple, Sequence, Set, Tuple
 
-from tcc.answers import Link, joined, place, said, session_of
+from tcc.answers import Link, joined, place, session_of
 from tcc.notes import Note
-from tcc.rows import History, Operation
+from tcc.terms import Terms
 
 MOST_STEPS = 6  # of a walk that are drawn one by one
 MOST_DERIVED, MOST_COLUMNS = 6, 6  # derived links that are drawn, and columns, where there is more than one
-MOST_OPERATIONS = 6  # of a transaction that are drawn
 MORE = ".."
+GAP, CORNER = 4.4, 8.0  # between rows of boxes, in heights of letters; and of a round corner
 
 
 @dataclass
 class Edge:
     """A line of the picture: what it is, its ends, what stands at it, and what is said of it."""
 
-    kind: str  # session, reads, walk, derived, against or fault
+    kind: str  # session, reads, version, walk, derived, against, fault or breach
     source: str
     target: str
     label: str
@@ -51,58 +51,23 @@ class Scene:
             self.edges.append(one)
 
 
-def rows_of(history: History, *labels: str) -> str:
-    """The rows of transactions, for the end of a sentence."""
-    told = ["%s is in rows %d to %d" % (name, history.find(name).first, history.find(name).last)
-            for name in dict.fromkeys(labels) if name != "init"]
-    return "; ".join(told)
-
-
-def walk_edge(steps: List[Link], history: History) -> Edge:
-    first, last = steps[0].source, steps[-1].target
-    reads = sum(one.kind == "reads" for one in steps)
-    return Edge("walk", first, last, "%d steps" % len(steps), "%s comes before %s by %d steps, %d of them reads; all are listed below. %s." % (
-        first, last, len(steps), reads, rows_of(history, first, last)))
-
-
-def pair_edge(one: Link, history: History) -> Edge:
-    if one.kind == "session":
-        if one.source == "init":
-            return Edge("session", "init", one.target, "", "The initial state is before all transactions, also before %s. %s." % (
-                one.target, rows_of(history, one.target)))
-        between = place(one.target)[1] - place(one.source)[1] - 1
-        label = "%d between" % between if between else ""
-        return Edge("session", one.source, one.target, label, "%s comes before %s in session %s. %s." % (
-            one.source, one.target, session_of(one.source), rows_of(history, one.source, one.target)))
-    value = history.value_read(one.source, one.target, one.key)
-    return Edge("reads", one.source, one.target, "%s = %s" % (one.key, said(value)), "%s read %s = %s, which %s wrote, so it comes behind it. %s." % (
-        one.target, one.key, said(value), one.source, rows_of(history, one.source, one.target)))
-
-
-def drawn(steps: Iterable[Link], scene: Scene, history: History) -> None:
+def drawn(steps: Iterable[Link], scene: Scene, terms: Terms) -> None:
     """Draws a walk, as one line where it is long."""
     steps = list(steps)
     few = joined(steps)
     if len(few) > MOST_STEPS:
-        scene.add(walk_edge(steps, history))
+        scene.add(Edge("walk", steps[0].source, steps[-1].target, *terms.of_walk(steps)))
         return
     for one in few:
-        scene.add(pair_edge(one, history), *([one.key] if one.key else []))
+        told = {"session": terms.of_session, "version": terms.of_version}.get(one.kind, terms.of_read)(one)
+        scene.add(Edge(one.kind, one.source, one.target, *told), *([one.key] if one.key else []))
 
 
-def draw_derived(one: Link, scene: Scene, history: History) -> None:
+def draw_derived(one: Link, scene: Scene, terms: Terms) -> None:
     """Draws a derived link: its walk, the read that it contradicts, and itself."""
-    drawn(one.walk, scene, history)
-    value = said(history.value_read(one.target, one.reader, one.key))
-    write = history.find(one.source).written(one.key)
-    newer = write.value if write else ""
-    source = "the initial state" if one.target == "init" else one.target
-    scene.add(Edge("against", one.target, one.reader, "%s = %s" % (one.key, value),
-                   "%s read %s = %s from %s, though it knew of %s, which wrote %s = %s. %s." % (
-                       one.reader, one.key, value, source, one.source, one.key, newer, rows_of(history, one.reader, one.source))), one.key)
-    scene.add(Edge("derived", one.source, one.target, "would come first",
-                   "%s would have to come before %s: else %s would have read its %s = %s, of which it knew. %s." % (
-                       one.source, source, one.reader, one.key, newer, rows_of(history, one.source, one.target, one.reader))), one.key)
+    drawn(one.walk, scene, terms)
+    scene.add(Edge("against", one.target, one.reader, *terms.of_contradicted(one)), one.key)
+    scene.add(Edge("derived", one.source, one.target, *terms.of_derived(one)), one.key)
 
 
 def columns_with(scene: Scene, one: Link) -> Set[str]:
@@ -111,7 +76,7 @@ def columns_with(scene: Scene, one: Link) -> Set[str]:
     return {session_of(name) for name in [*scene.labels(), one.source, one.target, one.reader, *names] if name != "init"}
 
 
-def scene_of(cycle: List[Link], history: History) -> Scene:
+def scene_of(cycle: List[Link], terms: Terms) -> Scene:
     """What is drawn of an anomaly."""
     scene = Scene()
     derived = [one for one in cycle if one.kind == "derived"]
@@ -125,16 +90,15 @@ def scene_of(cycle: List[Link], history: History) -> Scene:
         if count == MOST_DERIVED or count > 1 and len(columns_with(scene, one)) > MOST_COLUMNS:
             break
         if run:
-            drawn(run, scene, history)
+            drawn(run, scene, terms)
         run = []
         count += 1
-        draw_derived(one, scene, history)
+        draw_derived(one, scene, terms)
     if run and count == len(derived):
-        drawn(run, scene, history)
+        drawn(run, scene, terms)
     scene.hidden = 0 if count == len(derived) else len(derived) - count
     if len(derived) == 1:
-        one = derived[0]
-        scene.parts = {one.target: "wrote what was read", one.source: "wrote over it", one.reader: "knew that, read the old"}
+        scene.parts = terms.parts(derived[0])
     return scene
 
 
@@ -196,35 +160,30 @@ def folded(text: str, letters: int) -> List[str]:
     return lines
 
 
-def lines_of(name: str, scene: Scene, history: History, notes: Dict[str, Note], letters: int) -> Tuple[Tuple[str, str], ...]:
+def lines_of(name: str, scene: Scene, terms: Terms, letters: int) -> Tuple[Tuple[str, str], ...]:
     """The lines of a transaction's box."""
     part = [("part", line) for line in folded(scene.parts.get(name, ""), letters)]
     if name == "init":
-        keys = sorted(scene.keys.get(name, ()))
-        told = ", ".join("%s = nil" % key for key in keys[:3]) + (" .." if len(keys) > 3 else "")
+        told = terms.initial(scene.keys.get(name, ()))
         return (("name", "before all transactions"), ("meta", short(told or "nothing is written", 60)),
                 *([("part", scene.parts[name])] if name in scene.parts else []))
-    one = history.find(name)
-    note = notes.get(name, Note())
-    meta = folded("rows %d to %d" % (one.first, one.last), letters)
+    note = terms.notes.get(name, Note())
+    meta = folded(terms.found(name), letters)
     known = [form % part for form, part in (("index %s", note.index), ("%s s", shortened(note.time)), ("at %s", note.node)) if part]
-    meta += folded(", ".join(known), letters)
+    meta += folded(", ".join(one for one in known if one != terms.found(name)), letters)
     meta += folded(note.note, letters)[:2]
-    if not one.committed:
+    if not terms.is_committed(name):
         meta.append("aborted")
-    shown = [each for each in one.operations if each.key in scene.keys.get(name, ())]
-    hidden = len(one.operations) - len(shown[:MOST_OPERATIONS])
-    done = [("operation", operation_text(each, letters)) for each in shown[:MOST_OPERATIONS]]
+    shown, hidden = terms.operations(name, scene.keys.get(name, ()))
     more = [("meta", "and %d more" % hidden)] if hidden else []
     return (("name", short(name, letters)), *[("meta", line) for line in meta],
-            *[(kind, short(line, letters)) for kind, line in done], *more, *part)
+            *[("operation", short(fitting(line, letters), letters)) for line in shown], *more, *part)
 
 
-def operation_text(one: Operation, letters: int) -> str:
+def fitting(operation: str, letters: int) -> str:
     """What a transaction did, in one letter where there is no room for the word."""
-    what = "%s = %s" % (one.key, said(one.value) if one.does == "r" else one.value)
-    words = ("wrote " if one.does == "w" else "read ") + what
-    return words if len(words) <= letters else "%s %s" % (one.does, what)
+    word, _, what = operation.partition(" ")
+    return operation if len(operation) <= letters else "%s %s" % (word[0], what)
 
 
 def shortened(time: str) -> str:
@@ -243,7 +202,7 @@ def depths(scene: Scene) -> Dict[str, int]:
         if session_of(one) == session_of(other):
             before[other].add(one)
     for edge in scene.edges:
-        if edge.kind in ("session", "reads", "walk", "against", "fault") and edge.source != "init" and edge.source != edge.target:
+        if edge.kind in ("session", "reads", "version", "walk", "against", "fault", "breach") and edge.source != "init" and edge.source != edge.target:
             before[edge.target].add(edge.source)
     depth: Dict[str, int] = {}
     left = list(labels)
@@ -366,7 +325,19 @@ class Picture:
             x, high = other.middle, one.middle
             ways.append(((high, one.y), (high, end[1]), (high, end[1]), end))
             ways.append((begin, (x, begin[1]), (x, begin[1]), (x, other.y + other.height)))
-        return curve(*min(ways, key=lambda way: self.covered(way, one, other)))
+        best = min(ways, key=lambda way: self.covered(way, one, other))
+        if self.covered(best, one, other) == 0:
+            return curve(*best)
+        return self.path_around(edge, begin, end, side, other)
+
+    def path_around(self, edge: Edge, begin: Point, end: Point, side: int, other: Box) -> Tuple[str, List[Point]]:
+        """Between the columns and between the rows, where no box is."""
+        room = {"derived": 0.55, "against": 0.35}.get(edge.kind, 0.2)
+        gap = GAP * self.size.font
+        across = other.y - gap * room if begin[1] < other.y else other.y + other.height + gap * room
+        first, last = begin[0] + side * self.size.gutter * room, end[0] - side * self.size.gutter * room
+        points = [begin, (first, begin[1]), (first, across), (last, across), (last, end[1]), end]
+        return rounded(points), [(first + (last - first) * part, across) for part in (0.5, 0.35, 0.65, 0.2, 0.8)]
 
     def covered(self, way: Sequence[Point], one: Box, other: Box) -> int:
         """How many points of a curve lie in another box than those two."""
@@ -416,28 +387,44 @@ def at(points: Sequence[Point], t: float) -> Point:
     return x, y
 
 
+def rounded(points: Sequence[Point]) -> str:
+    """A line by some points, with round corners."""
+    out = ["M%.1f %.1f" % points[0]]
+    for before, corner, after in zip(points, points[1:], points[2:]):
+        (x1, y1), (x2, y2) = (toward(corner, other) for other in (before, after))
+        out.append("L%.1f %.1fQ%.1f %.1f %.1f %.1f" % (x1, y1, *corner, x2, y2))
+    return "".join(out) + "L%.1f %.1f" % points[-1]
+
+
+def toward(one: Point, other: Point) -> Point:
+    """A point near one, on the way to another."""
+    far = max(abs(other[0] - one[0]), abs(other[1] - one[1]))
+    part = min(CORNER, far / 2) / far if far else 0.0
+    return one[0] + (other[0] - one[0]) * part, one[1] + (other[1] - one[1]) * part
+
+
 def curve(*points: Point) -> Tuple[str, List[Point]]:
     """A curve of Bezier, and points on it from its middle outwards."""
     text = "M%.1f %.1fC%.1f %.1f %.1f %.1f %.1f %.1f" % tuple(one for point in points for one in point)
     return text, [at(points, t) for t in (0.5, 0.42, 0.58, 0.34, 0.66, 0.26, 0.74, 0.18, 0.82)]
 
 
-KINDS = ("session", "reads", "walk", "derived", "against", "fault")
+KINDS = ("session", "reads", "version", "walk", "derived", "against", "fault", "breach")
 MARKERS = "<defs>%s</defs>" % "".join(
     '<marker id="%%(name)s-%s" class="%s" viewBox="0 0 10 10" refX="9" refY="5" markerUnits="userSpaceOnUse" markerWidth="11" '
     'markerHeight="11" orient="auto"><path d="M0 1L10 5L0 9%s"/></marker>' % (kind, kind, "z" if kind != "derived" else "") for kind in KINDS)
 
 
-def picture(scene: Scene, history: History, notes: Dict[str, Note], size: Size) -> Picture:
+def picture(scene: Scene, terms: Terms, size: Size) -> Picture:
     """Lays a scene out."""
     labels = scene.labels()
     depth = depths(scene)
     sessions = list(dict.fromkeys(session_of(name) for name in sorted(depth, key=lambda name: (depth[name], place(name)))))
     size = size.for_columns(len(sessions))
-    lines = {name: lines_of(name, scene, history, notes, 60 if name == "init" else size.letters) for name in labels}
+    lines = {name: lines_of(name, scene, terms, 60 if name == "init" else size.letters) for name in labels}
     step = size.font * 1.32
     heights = {name: len(told) * step + 2 * size.pad for name, told in lines.items()}
-    gap = 4.4 * size.font
+    gap = GAP * size.font
     width = 2 * size.margin + size.box * len(sessions) + size.gutter * (len(sessions) - 1)
     y = 2.4 * size.font
     boxes: Dict[str, Box] = {}

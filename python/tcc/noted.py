@@ -43,17 +43,7 @@ def session_name(client: int, session: int) -> str:
     return "c%d" % client if session == 1 else "c%d.%d" % (client, session)
 
 
-def settle(transactions: List[Transaction]) -> Dict[str, int]:
-    """Says of each transaction of unknown outcome that it committed where somebody read a value of it, else not."""
-    seen = {(key, value) for one in transactions for does, key, value in one.operations if does == "r"}
-    counts = {"read, so committed": 0, "unread, so aborted": 0}
-    for one in transactions:
-        if one.committed is None:
-            one.committed = any(pair in seen for pair in one.writes())
-            what = "read, so committed" if one.committed else "unread, so aborted"
-            one.note = "; ".join(filter(None, (one.note, "unknown outcome: " + what)))
-            counts[what] += 1
-    return counts
+ENDS = {True: "commit", False: "abort", None: "unknown"}
 
 
 def records(transactions: List[Transaction]) -> Iterator[str]:
@@ -61,7 +51,7 @@ def records(transactions: List[Transaction]) -> Iterator[str]:
         yield "%s,begin" % one.session
         for does, key, value in one.operations:
             yield "%s,%s,%s,%d" % (one.session, does, key, value)
-        yield "%s,%s" % (one.session, "commit" if one.committed else "abort")
+        yield "%s,%s" % (one.session, ENDS[one.committed])
 
 
 def annotations(transactions: Iterable[Transaction]) -> Iterator[Tuple[str, Note]]:
@@ -70,7 +60,8 @@ def annotations(transactions: Iterable[Transaction]) -> Iterator[Tuple[str, Note
     for one in transactions:
         places[one.session] += 1
         time = "" if one.time is None else "%.6f" % one.time
-        yield "%s/%d" % (one.session, places[one.session]), Note(node=one.node, time=time, note=one.note)
+        said = "; ".join(filter(None, (one.note, "" if one.committed is not None else "unknown outcome")))
+        yield "%s/%d" % (one.session, places[one.session]), Note(node=one.node, time=time, note=said)
 
 
 def warnings(transactions: List[Transaction]) -> Iterator[str]:
@@ -84,6 +75,5 @@ def warnings(transactions: List[Transaction]) -> Iterator[str]:
             yield "%d %s: tcc explain takes at most %d, so say --large" % (number, what, LIMITS[what])
 
 
-def summary(transactions: List[Transaction], unknown: Dict[str, int]) -> str:
-    return "%d transactions; of unknown outcome %s" % (
-        len(transactions), ", ".join("%d %s" % (number, what) for what, number in unknown.items()))
+def summary(transactions: List[Transaction]) -> str:
+    return "%d transactions; %d of unknown outcome" % (len(transactions), sum(one.committed is None for one in transactions))

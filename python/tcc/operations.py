@@ -10,16 +10,25 @@ TYPES = ("invoke", "ok", "fail", "info")
 STEPS = {"read": "r", "write": "w"}  # what one operation of a register does
 DOES = ("r", "w", "append")
 REGISTER = "register"
-# A map of EDN as Jepsen writes it: its fields in any order, and a transaction whose steps are [:does key value].
+# A map of EDN as Jepsen writes it: its fields in any order, and a transaction whose steps are [:does key value]. No text can be
+# matched in two ways, so that none takes more than one pass.
 ATOM = r'[^\s,;"(){}\[\]\\#^]+'
-VALUE = r"(?:%s|\[(?:%s[ ,]*)*\])" % (ATOM, ATOM)
-USUAL = re.compile(
-    r"(?:#jepsen\.history\.Op ?)?\{(?:(?:"
-    r":type :(invoke|ok|fail|info)|:process (0|[1-9][0-9]*)|:f :(%s)"
-    r"|:value (nil|\[(?:\[:(?:r|w|append) %s %s\][ ,]*)*\])|:index (0|[1-9][0-9]*)|:time (0|[1-9][0-9]*)"
-    r'|:node (nil|"[^"\\]*"|:[A-Za-z0-9_.-]+)'
-    r'|:(?!(?:type|process|f|value|index|time|node)[ ,])[A-Za-z0-9_.*+!?<>=/-]+ (?:%s|"[^"\\]*")'
-    r")(?=[ ,}])[ ,]*)+\}" % (ATOM, ATOM, VALUE, ATOM))
+FLAT = r'\[[^\t-\r\x1c-\x1f\x85;"(){}\[\]\\#^]*\]'  # words in a line, between brackets
+VALUE = r"(?:%s|%s)" % (ATOM, FLAT)
+NUMBER = r"0|[1-9][0-9]{0,18}"
+
+
+def once(group: int, field: str) -> str:
+    """A field that a map has at most once: where its group was matched before, nothing is."""
+    return r"(?(%d)(?!)|%s)" % (group, field)
+
+
+OTHER = r":(?!(?:type|process|f|value|index|time|node)[ ,])%s([A-Za-z0-9_.*+!?<>=/-]+) (?:" + ATOM + r'|"[^"\\]*")'
+USUAL = re.compile(r"(?:#jepsen\.history\.Op ?)?\{(?:(?:%s)(?=[ ,}])[ ,]*)+\}" % "|".join((
+    once(1, r":type :(invoke|ok|fail|info)"), once(2, r":process (%s)" % NUMBER), once(3, r":f :(%s)" % ATOM),
+    once(4, r":value (nil|\[(?:\[:(?:r|w|append) %s %s\][ ,]*)*\])" % (ATOM, VALUE)), once(5, r":index (%s)" % NUMBER),
+    once(6, r":time (%s)" % NUMBER), once(7, r':node (nil|"[^"\\]*"|:[A-Za-z0-9_.-]+)'),
+    once(8, OTHER % ""), once(9, r"(?(8)%s|(?!))" % (OTHER % r"(?!\8 )")))))
 # A step of its transaction: what it does, its key, and its value as digits, the items of a list, or another word.
 STEP = re.compile(r"\[:(r|w|append) (%s) (?:([1-9][0-9]{0,18})|\[([^\[\]]*)\]|(%s))\]" % (ATOM, ATOM))
 WRITE = re.compile(r"\[:(?:w|append) (%s) (%s)\]" % (ATOM, VALUE))
@@ -93,13 +102,13 @@ def step(line: int, value: Any, named: Callable[[Any], Any]) -> Step:
     return Step(does, spelled(named(key)), spelled(what))
 
 
-def one_step(does: str, value: Any) -> Tuple[Step, ...]:
-    """What an operation on one register does."""
-    key, what = value if is_pair(value, lambda _: True) else (REGISTER, value)
+def one_step(does: str, value: Any, has_version: bool) -> Tuple[Step, ...]:
+    """What an operation on one register does; where values have versions, a pair of two words is one of these."""
+    key, what = value if is_pair(value, lambda inner: not has_version or inner is None or isinstance(inner, list)) else (REGISTER, value)
     return (Step(does, spelled(key), spelled(what)),)
 
 
-def operation(line: int, told: Json) -> Optional[Operation]:
+def operation(line: int, told: Json, has_version: bool = False) -> Optional[Operation]:
     """The operation that an object tells, none where it isn't about a transaction."""
     process = told.get("process")
     does = told.get("f", "txn" if is_number(process) else None)
@@ -112,7 +121,7 @@ def operation(line: int, told: Json) -> Optional[Operation]:
     if told.get("type") not in TYPES:
         raise Untold(line, "the type is %s, none of %s" % (spelled(told.get("type")), ", ".join(TYPES)))
     value = told.get("value")
-    mine = steps(line, value) if does == "txn" else one_step(STEPS[does], value)
+    mine = steps(line, value) if does == "txn" else one_step(STEPS[does], value, has_version)
     index, time, node = told.get("index"), told.get("time"), told.get("node")
     return Operation(line, told["type"], spelled(process), mine, index if isinstance(index, int) else None,
                      time if is_number(time) else None, node if isinstance(node, str) else None)

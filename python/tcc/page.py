@@ -36,30 +36,32 @@ td.count { text-align: right; font-variant-numeric: tabular-nums; white-space: n
 td.share { width: 30%; min-width: 3.5rem; padding-top: .55rem; } td.share div { height: .7rem; background: var(--bad); border-radius: 2px; min-width: 2px; }
 td small, th small { display: block; color: var(--faint); font-size: .85rem; }
 .wide-only { display: block; } .narrow-only { display: none; }
-@media (max-width: 46rem) { .wide-only { display: none; } .narrow-only { display: block; } main, header, footer { padding: 0 .7rem; } .verdict strong { font-size: 1.25rem; } }
+@media (max-width: 46rem) { .wide-only { display: none; } .narrow-only { display: block; } main, header, footer { padding-left: .7rem; padding-right: .7rem; } .verdict strong { font-size: 1.25rem; } }
 .scroll { overflow: auto; max-width: 100%; max-height: 85vh; border: 1px solid var(--line); border-radius: .4rem; background: var(--raised); margin: .6rem 0; }
 .scroll.plain { border: 0; background: none; max-height: none; }
 svg { display: block; } svg text { font-family: ui-monospace, SFMono-Regular, Menlo, Consolas, "DejaVu Sans Mono", "Liberation Mono", monospace; fill: var(--ink); }
 .chart { max-width: 100%; height: auto; } .chart .grid { stroke: var(--line); } .chart .axis { stroke: var(--faint); } .chart .tick, .chart .span-name { fill: var(--faint); font-size: 11px; }
 .chart .bar { fill: var(--bad); } .chart .bar-faults { stroke: var(--doubt); } .hatch-dot { fill: var(--doubt); } .hatch-ground { fill: var(--raised); } .hatch-line { stroke: var(--faint); stroke-width: 1.2; opacity: .55; }
+.chart .span-name { paint-order: stroke; stroke: var(--ground); stroke-width: 3px; stroke-linejoin: round; }
 .chart .span { stroke: var(--faint); stroke-width: .5; opacity: .8; } .chart .event { stroke: var(--faint); stroke-dasharray: 2 3; } .chart path.first { stroke: var(--ink); stroke-width: 1.2; } .chart text.first { font-size: 11px; }
 .lanes { margin: 0 auto; } .lanes .rail { stroke: var(--line); stroke-width: 1.2; } .lanes .head { text-anchor: middle; font-weight: 700; }
 .lanes .box rect { fill: var(--ground); stroke: var(--session); stroke-width: 1.2; } .lanes .name { font-weight: 700; } .lanes .meta { fill: var(--faint); }
 .lanes .part { font-style: italic; fill: var(--ink); }
 .lanes .link path { fill: none; } .lanes .link .wide { stroke: transparent; stroke-width: 14; pointer-events: stroke; cursor: pointer; }
 .lanes .session path:not(.wide) { stroke: var(--session); stroke-width: 3; } .lanes .walk path:not(.wide) { stroke: var(--session); stroke-width: 3; stroke-dasharray: 1 6; stroke-linecap: round; }
-.lanes .reads path:not(.wide) { stroke: var(--reads); stroke-width: 2; stroke-dasharray: 7 4; } .lanes .against path:not(.wide), .lanes .fault path:not(.wide) { stroke: var(--bad); stroke-width: 2.4; stroke-dasharray: 12 3 3 3; }
+.lanes .reads path:not(.wide) { stroke: var(--reads); stroke-width: 2; stroke-dasharray: 7 4; } .lanes .against path:not(.wide), .lanes .fault path:not(.wide), .lanes .breach path:not(.wide) { stroke: var(--bad); stroke-width: 2.4; stroke-dasharray: 12 3 3 3; }
+.lanes .version path:not(.wide) { stroke: var(--doubt); stroke-width: 2.4; stroke-dasharray: 2 3; }
 .lanes .derived .outer { stroke: var(--derived); stroke-width: 5; } .lanes .derived .inner { stroke: var(--raised); stroke-width: 1.8; }
-.lanes marker path { fill: currentColor; stroke: currentColor; stroke-width: 1; } .lanes marker.session, .lanes marker.walk { color: var(--session); } .lanes marker.reads { color: var(--reads); }
-.lanes marker.against, .lanes marker.fault { color: var(--bad); } .lanes marker.derived { color: var(--derived); } .lanes marker.derived path { fill: none; stroke-width: 2; }
+.lanes marker path { fill: currentColor; stroke: currentColor; stroke-width: 1; } .lanes marker.session, .lanes marker.walk { color: var(--session); } .lanes marker.reads { color: var(--reads); } .lanes marker.version { color: var(--doubt); }
+.lanes marker.against, .lanes marker.fault, .lanes marker.breach { color: var(--bad); } .lanes marker.derived { color: var(--derived); } .lanes marker.derived path { fill: none; stroke-width: 2; }
 .lanes .label { cursor: pointer; outline: none; } .lanes .label rect { fill: var(--ground); stroke: var(--line); } .lanes .label text { text-anchor: middle; }
-.lanes .label.reads text { fill: var(--reads); } .lanes .label.against text, .lanes .label.fault text { fill: var(--bad); font-weight: 700; } .lanes .label.derived text { fill: var(--derived); }
+.lanes .label.reads text { fill: var(--reads); } .lanes .label.against text, .lanes .label.fault text, .lanes .label.breach text { fill: var(--bad); font-weight: 700; } .lanes .label.derived text { fill: var(--derived); } .lanes .label.version text { fill: var(--doubt); }
 .lanes .label:focus-visible rect, .lanes .label.on rect { stroke: var(--focus); stroke-width: 2.5; } .lanes .link.on path:not(.wide):not(.inner) { filter: drop-shadow(0 0 2px currentColor); stroke-width: 5; }
 .told { min-height: 3em; border-left: .25rem solid var(--line); padding: .2rem .8rem; margin: .4rem 0; } .told.on { border-color: var(--focus); }
 .says { font-size: 1.05rem; }
 ol.links { padding-left: 1.9rem; margin: .4rem 0; max-width: 50rem; } ol.links li { margin: .25rem 0; padding: .1rem .3rem; border-radius: .2rem; overflow-wrap: anywhere; } ol.links li.on { background: var(--raised); outline: 2px solid var(--focus); }
-.legend { display: flex; flex-wrap: wrap; gap: .2rem 1.4rem; color: var(--faint); margin: .5rem 0; font-size: .95rem; } .legend span { display: inline-flex; align-items: center; gap: .5rem; }
-.kind { display: inline-block; min-width: 6.4em; font-weight: 600; } details { margin: .5rem 0; } summary { cursor: pointer; }
+.legend { display: flex; flex-wrap: wrap; gap: .2rem 1.4rem; color: var(--faint); margin: .5rem 0; font-size: .95rem; } .legend span { display: inline-flex; align-items: flex-start; gap: .5rem; } .legend svg { flex: none; margin-top: .25rem; }
+.kind { display: inline-block; min-width: 7.8em; font-weight: 600; } details { margin: .5rem 0; } summary { cursor: pointer; }
 pre { background: var(--raised); border: 1px solid var(--line); border-radius: .3rem; padding: .6rem .8rem; overflow: auto; max-width: 100%; max-height: 60vh; white-space: pre-wrap; overflow-wrap: anywhere; font-size: .85rem; }
 footer { color: var(--faint); font-size: .9rem; padding-top: 1rem; padding-bottom: 2.5rem; }
 @media print { .scroll { max-height: none; } }

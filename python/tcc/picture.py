@@ -26,10 +26,10 @@ import sys
 from dataclasses import dataclass, field
 from typing import Dict, Iterable, Iterator, List, Optional, TextIO, Tuple
 
-from tcc.answers import (Link, anomaly_head, columns, cycle_of, key, label, order_head, place, read_answer, sentences,
-                     transactions_of)
+from tcc.answers import (Link, anomaly_head, columns, cycle_of, key, label, order_head, place, read_answer, transactions_of)
 from tcc.progress import Doing, status_of
 from tcc.rows import History, Json, Operation, Transaction, Unfit, open_records, read_history, read_places
+from tcc.terms import Terms
 from tcc.words import add_files, command_line
 
 EXAMPLE = """example: draw the anomaly of a history, then show the records that it speaks of
@@ -198,7 +198,7 @@ def draw_anomaly(answer: Json, links_of_cycle: List[Link], history: Optional[His
     below = [pair for session in columns(labels).values() for pair in zip(session, session[1:])]
     drawn = (line for one, marks in links.items() for line in edges(one, marks, link_text(one, history, with_reasons)))
     legend = [*LEGEND, *([LEGEND_OF_WALKS] if any(one.kind == "walk" for one in links) else [])]
-    told = list(sentences(links_of_cycle, history)) if history else []
+    told = list(Terms(history).sentences(links_of_cycle)) if history else []
     return graph([anomaly_head(answer), *told, *legend], nodes, below, drawn)
 
 
@@ -228,7 +228,7 @@ def list_answer(answer: Json, links: List[Link], history: History) -> Iterator[s
     kind = answer["answer"]
     if kind == "anomaly":
         yield anomaly_head(answer)
-        yield from sentences(links, history)
+        yield from Terms(history).sentences(links)
         names = transactions_of(links)
     elif kind == "consistent":
         yield order_head(answer)

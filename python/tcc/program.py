@@ -1,11 +1,16 @@
 """The program `tcc` as the scripts run it: which words, and what it answered."""
 import json
+import os
+import pathlib
+import shutil
 import subprocess
 from dataclasses import dataclass
 from typing import List, Optional
 
 from tcc.rows import Json
 
+NO_PROGRAM = 127
+BESIDE = pathlib.Path(__file__).resolve().parent.parent.parent / "tcc"  # where the archive has the program
 ANSWERS = ("anomaly", "consistent", "unresolved")
 
 
@@ -15,6 +20,16 @@ class NoAnswer(Exception):
     def __init__(self, status: int, why: str):
         super().__init__(why)
         self.status = status
+
+
+def program_at(path: Optional[str]) -> str:
+    """The program, wherever it is run: at the path, or what the variable TCC names, or the one on the path of programs, or that of the
+    archive in which this script is."""
+    wanted = path or os.environ.get("TCC")
+    found = shutil.which(wanted or "tcc") or (None if wanted else shutil.which(str(BESIDE)))
+    if found is None:
+        raise NoAnswer(NO_PROGRAM, "there is no program %s; --tcc PATH or the variable TCC says where it is" % (wanted or "tcc"))
+    return os.path.abspath(found)
 
 
 @dataclass(frozen=True)

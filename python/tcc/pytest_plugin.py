@@ -15,7 +15,7 @@ from typing import Any, Iterator, Optional, Union
 import pytest
 
 from tcc.recording import Recorder
-from tcc.runner import Anomaly, Consistent, NoAnswer, Path, Unresolved, explain
+from tcc.runner import Anomaly, Consistent, NoAnswer, Path, Unresolved, contradicted, explain
 
 
 def pytest_addoption(parser: Any) -> None:
@@ -47,7 +47,8 @@ class AssertCausal:
         except NoAnswer as error:
             pytest.fail("nothing was judged: %s (records: %s)" % (error, records), pytrace=False)
         if isinstance(answer, (Anomaly, Unresolved)):
-            what = "the store broke its promise" if isinstance(answer, Anomaly) else "reads can't be traced, so nothing was judged"
+            is_broken = isinstance(answer, Anomaly) or bool(answer.violations()) or contradicted(records, level=level, large=large, tcc=self.tcc) > 0
+            what = "the store broke its promise" if is_broken else "reads can't be traced, so nothing was judged"
             pytest.fail("%s (records: %s)\n%s" % (what, records, answer.text()), pytrace=False)
         return answer
 

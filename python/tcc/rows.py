@@ -25,7 +25,8 @@ class Operation(NamedTuple):
 
 @dataclass
 class Transaction:
-    """A transaction of the history; its last row is 0 while it isn't finished. Its note is what annotations say of it."""
+    """A transaction of the history; its last row is 0 while it isn't finished. One of unknown outcome has what it wrote alone, and
+    committed where a committed one read a value of it. Its note is what annotations say of it."""
 
     label: str
     first: int
@@ -33,6 +34,7 @@ class Transaction:
     committed: bool = False
     operations: List[Operation] = field(default_factory=list)
     note: str = ""
+    is_unknown: bool = False
 
     @property
     def session(self) -> str:
@@ -117,13 +119,27 @@ def history_of(lines: Iterable[Tuple[int, List[str]]]) -> History:
         elif count == 2 and fields[1] == "begin" and session not in open_ones:
             places[session] = places.get(session, 0) + 1
             open_ones[session] = Transaction("%s/%d" % (session, places[session]), row)
-        elif count == 2 and fields[1] in ("commit", "abort") and session in open_ones:
+        elif count == 2 and fields[1] in ("commit", "abort", "unknown") and session in open_ones:
             done = open_ones.pop(session)
-            done.last, done.committed = row, fields[1] == "commit"
+            done.last, done.committed, done.is_unknown = row, fields[1] == "commit", fields[1] == "unknown"
             finished[done.label] = done
         elif fields != ["seal"]:
-            return History(finished, row)
-    return History(finished, None)
+            return settled(finished, row)
+    return settled(finished, None)
+
+
+def settled(finished: Dict[str, Transaction], wrong_row: Optional[int]) -> History:
+    """The history, with those of unknown outcome settled."""
+    unknown = [one for one in finished.values() if one.is_unknown]
+    for one in unknown:
+        one.operations = [each for each in one.operations if each.does == "w"]
+    wanted = {(each.key, each.value) for one in unknown for each in one.operations}
+    if wanted:
+        seen = {(each.key, each.value) for one in finished.values() if one.committed for each in one.operations
+                if each.does == "r" and (each.key, each.value) in wanted}
+        for one in unknown:
+            one.committed = any((each.key, each.value) in seen for each in one.operations)
+    return History(finished, wrong_row)
 
 
 def read_history(file: TextIO) -> History:

@@ -11,9 +11,17 @@ import subprocess
 from dataclasses import dataclass, fields
 from typing import Any, Callable, Dict, Iterator, List, Mapping, Optional, Tuple, Union
 
+from tcc.sessions import judged_by
+from tcc.versions import judged_with
+
 Path = Union[str, "os.PathLike[str]"]
+Begun = Callable[["subprocess.Popen[str]"], None]
 CONSISTENT, ANOMALY, UNRESOLVED = 0, 1, 2
+BESIDE = os.path.join(os.path.dirname(os.path.abspath(__file__)), "..", "..", "tcc")
 LEVELS = ("causal", "atomic")
+# Kinds of faults: a read of an aborted transaction, of a value that was written over in its own, of another value than the own last
+# one, and of one's own later write. The others may be those of the records.
+VIOLATIONS = ("Aborted", "Intermediate", "BrokenInternal", "Future")
 
 
 class NoAnswer(Exception):
@@ -101,6 +109,10 @@ class Unresolved:
 
     faults: Tuple[Fault, ...]
 
+    def violations(self) -> Tuple[Fault, ...]:
+        """The reads among them that no promise lets be, whatever the order: so the store broke it."""
+        return tuple(one for one in self.faults if one.kind in VIOLATIONS)
+
     def text(self) -> str:
         """The answer as `tcc` prints it."""
         return "".join(line + "\n" for line in ("unresolved: %d faults" % len(self.faults), *(one.line() for one in self.faults)))
@@ -110,30 +122,58 @@ Answer = Union[Consistent, Anomaly, Unresolved]
 
 
 def program(path: Optional[Path] = None) -> str:
-    """The program: that of the path, else that which the variable TCC names, else the one on the path of programs."""
-    wanted = os.fspath(path or os.environ.get("TCC") or "tcc")
-    found = shutil.which(wanted)
+    """The program: that of the path, else that which the variable TCC names, else the one on the path of programs, or that of the
+    archive in which this package is."""
+    wanted = os.fspath(path or os.environ.get("TCC") or "")
+    found = shutil.which(wanted or "tcc") or (None if wanted else shutil.which(BESIDE))
     if not found:
-        raise NoAnswer("there is no program %s: `make dist` makes an archive with it; name it, or set TCC" % wanted)
+        raise NoAnswer("there is no program %s: `make dist` makes an archive with it; name it, or set TCC" % (wanted or "tcc"))
     return found
 
 
 def explain(records: Path, *, level: str = "causal", large: bool = False, workers: int = 1, require: int = 1,
-            seconds: Optional[float] = None, tcc: Optional[Path] = None) -> Answer:
+            seconds: Optional[float] = None, tcc: Optional[Path] = None, begun: Optional[Begun] = None,
+            sessions: str = "client", notes: Optional[Path] = None, versions: Optional[Path] = None) -> Answer:
     """The last answer for a file of records. Fewer transactions than are required are no answer, and so is an empty file, unless
-    none are required. NoAnswer says why there is none, also where it isn't there after so many seconds."""
-    words = [program(tcc), "explain", "--json", "--level", level, *(["--large"] if large else []), "--workers", str(workers),
-             *(["--require", str(require)] if require else []), os.fspath(records)]
-    return answer_of(run(words, seconds).stdout.splitlines()[-1])
+    none are required. NoAnswer says why there is none, also where it isn't there after so many seconds. `begun` is called with the
+    process that works it out. Sessions are those of the clients, as they were recorded; with `sessions="node"` each client has one
+    at each node where `notes`, the annotations, say that it was, such as c1.n0. `versions` is a file of versions: then the order of a
+    key's writes has to be that of theirs, and an anomaly is of a history with observers, o.1 and so on, which `tcc.versions` explains."""
+    with judged_by(sessions, records, notes) as every, judged_with(versions, every, level) as (path, versioned):
+        require += versioned.made if require and versioned else 0
+        words = [program(tcc), "explain", "--json", "--level", level, *(["--large"] if large else []), "--workers", str(workers),
+                 *(["--require", str(require)] if require else []), os.fspath(path)]
+        ended = run(words, seconds, begun)
+    answer = answer_of((ended.stdout.splitlines() or [""])[-1])
+    if versioned and isinstance(answer, Consistent):
+        order = tuple(one for one in answer.order if not versioned.is_made(one))
+        return Consistent(answer.transactions - versioned.made, answer.sessions - len(versioned.observers), order)
+    return answer
 
 
-def run(words: List[str], seconds: Optional[float]) -> "subprocess.CompletedProcess[str]":
+def contradicted(records: Path, *, level: str = "causal", large: bool = False, seconds: Optional[float] = None,
+                 tcc: Optional[Path] = None) -> int:
+    """How many reads of a file of records are contradicted by what their sessions knew, as `tcc survey` counts them; none where it
+    can't list them all."""
+    words = [program(tcc), "survey", "--json", "--level", level, *(["--large"] if large else []), os.fspath(records)]
+    lines = run(words, seconds).stdout.splitlines()
+    told = json.loads(lines[-1]) if lines else {}
+    return int(told["contradicted"]) if told.get("answer") == "survey" else 0
+
+
+def run(words: List[str], seconds: Optional[float], begun: Optional[Begun] = None) -> "subprocess.CompletedProcess[str]":
     """A run that answered."""
-    try:
-        ended = subprocess.run(words, stdin=subprocess.DEVNULL, capture_output=True, text=True, encoding="utf-8", errors="replace",
-                               timeout=seconds, check=False)
-    except subprocess.TimeoutExpired as error:
-        raise NoAnswer("no answer after %s seconds" % seconds) from error
+    with subprocess.Popen(words, stdin=subprocess.DEVNULL, stdout=subprocess.PIPE, stderr=subprocess.PIPE, text=True,
+                          encoding="utf-8", errors="replace") as running:
+        if begun:
+            begun(running)
+        try:
+            out, errors = running.communicate(timeout=seconds)
+        except subprocess.TimeoutExpired as error:
+            raise NoAnswer("no answer after %s seconds" % seconds) from error
+        finally:
+            running.kill()
+        ended = subprocess.CompletedProcess(words, running.returncode, out, errors)
     if ended.returncode not in (CONSISTENT, ANOMALY, UNRESOLVED):
         said = (ended.stdout.splitlines() or [""])[-1][:200]
         raise NoAnswer("tcc ended with %d: %s" % (ended.returncode, "; ".join(filter(None, (said, ended.stderr.strip())))),

@@ -3,6 +3,8 @@ import argparse
 import re
 from typing import Callable, Optional
 
+NUMBER = re.compile("[1-9][0-9]{0,8}")
+
 
 def command_line(about: Optional[str], example: str) -> argparse.ArgumentParser:
     return argparse.ArgumentParser(description=about, epilog=example, formatter_class=argparse.RawDescriptionHelpFormatter)
@@ -14,9 +16,15 @@ def add_files(ask: argparse.ArgumentParser, **told: str) -> None:
         ask.add_argument("--" + name, metavar="FILE", help=text)
 
 
+def add_tcc(ask: argparse.ArgumentParser) -> None:
+    """The option that names the program."""
+    ask.add_argument("--tcc", metavar="PATH", help="the program, by default what the variable TCC names, or else the one on the path, or "
+                     "beside this script's folder, as in the archive")
+
+
 def count(word: str) -> int:
     """A number from 1."""
-    if not re.fullmatch("[1-9][0-9]{0,8}", word):
+    if not NUMBER.fullmatch(word):
         raise argparse.ArgumentTypeError("%s is no number from 1" % word)
     return int(word)
 

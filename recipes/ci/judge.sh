@@ -2,8 +2,12 @@
 # Judges what the clients of a test recorded, as a step of continuous integration.
 #
 #     judge.sh FOLDER [OPTION ..]
+#     judge.sh HISTORY [OPTION ..]
 #
-# Joins the files FOLDER/*.csv, and asks `tcc explain` for them, with the options: --large, say, or --level atomic. What TCC names
+# A history, such as Jepsen's store/latest/history.edn, is judged by report.py, or by tcc-report where this file is without it, with
+# the options. The page causal.html lies beside the history then. The status is 0, 1, 2 and others as below.
+#
+# Of a folder it joins the files FOLDER/*.csv, and asks `tcc explain` for them, with the options: --large, say, or --level atomic. What TCC names
 # is the program, by default `tcc`. FOLDER/judged keeps the records, the answer, and what standard error had.
 #
 # The status is that of `tcc`, and no pipe hides it: 0 the store kept its promise; 1 it broke it; 2 reads can't be traced to a
@@ -22,6 +26,18 @@ case ${1:---help} in
 esac
 folder=$1
 shift
+
+if [ -f "$folder" ]; then
+    page=$(dirname "$folder")/causal.html
+    script=$(dirname "$0")/../report.py
+    if [ -f "$script" ]; then
+        python3 "$script" "$folder" -o "$page" "$@"
+    else
+        tcc-report "$folder" -o "$page" "$@"
+    fi
+    exit
+fi
+
 judged=$folder/judged
 mkdir -p "$judged" || exit 6
 

@@ -28,8 +28,9 @@ import signal
 import sys
 import tempfile
 import threading
-from dataclasses import dataclass
-from typing import Any, Callable, Dict, Iterator, List, Sequence, Tuple
+import time
+from dataclasses import dataclass, field
+from typing import Any, Callable, Dict, Iterator, List, Optional, Sequence, Tuple
 
 HERE = pathlib.Path(__file__).resolve().parent
 sys.path[:0] = [str(HERE), str(HERE.parents[1] / "python")]
@@ -37,6 +38,7 @@ import cluster  # noqa: E402
 from cluster import NODES, Cluster  # noqa: E402
 from tcc import clients  # noqa: E402
 from tcc.clients import Client, Failures, Recorded, Statements, Store, run_clients  # noqa: E402
+from tcc.notes import Event  # noqa: E402
 from tcc.words import command_line, count_within  # noqa: E402
 
 EXAMPLE = """example: clients that read at another node than they wrote at, and the rows of what they saw
@@ -134,10 +136,15 @@ def refusals(driver: Any) -> Iterator[None]:
 
 @dataclass
 class Troubles:
-    """What happens to a cluster while clients work; `over` is set when they have done."""
+    """What happens to a cluster while clients work; `over` is set when they have done. Each trouble is noted as it begins and ends."""
 
     nodes: Cluster
     over: threading.Event
+    events: List[Event] = field(default_factory=list)
+
+    def now(self, what: str, number: Optional[int] = None) -> None:
+        node = "" if number is None else "n%d" % number
+        self.events.append(Event(" ".join(filter(None, (what, node))), time.monotonic(), node))
 
     def lag(self, seconds: float) -> None:
         """The last node applies nothing for so long, and then goes on for as long."""
@@ -145,25 +152,33 @@ class Troubles:
             with contextlib.closing(self.nodes.connect(NODES - 1)) as server, server.cursor() as cursor:
                 cursor.execute("SET GLOBAL wsrep_desync = ON")
                 cursor.execute("FLUSH TABLES WITH READ LOCK")
+                self.now("start-lag", NODES - 1)
                 self.over.wait(seconds)
                 cursor.execute("UNLOCK TABLES")
+                self.now("stop-lag", NODES - 1)
                 cursor.execute("SET GLOBAL wsrep_desync = OFF")
 
     def stop(self, times: int) -> None:
         for number in self.turns(times):
+            self.now("start-pause", number)
             self.nodes.nodes[number].send(signal.SIGSTOP)
             self.over.wait(STOPPED_SECONDS)
             self.nodes.nodes[number].send(signal.SIGCONT)
+            self.now("stop-pause", number)
             self.nodes.wait_for_all()
 
     def kill(self, times: int) -> None:
         for number in self.turns(times):
+            self.now("start-kill", number)
             self.nodes.kill(number)
             self.nodes.restart(number)
+            self.now("stop-kill", number)
 
     def crash(self, times: int) -> None:
         for _ in self.turns(times):
+            self.now("start-crash")
             self.nodes.crash()
+            self.now("stop-crash")
 
     def turns(self, times: int) -> Iterator[int]:
         """A node for each time, a second after the one before, while clients work."""
@@ -174,8 +189,8 @@ class Troubles:
 
 
 @contextlib.contextmanager
-def meanwhile(nodes: Cluster, asked: argparse.Namespace) -> Iterator[List[str]]:
-    """Meanwhile the troubles that are asked for happen, each kind in a thread; gives a list of those that failed, and why."""
+def meanwhile(nodes: Cluster, asked: argparse.Namespace) -> Iterator[Tuple[List[Event], List[str]]]:
+    """Meanwhile the troubles that are asked for happen, each kind in a thread; gives them, and a list of those that failed, and why."""
     troubles, failed = Troubles(nodes, threading.Event()), []  # type: Troubles, List[str]
     kinds = [(troubles.lag, asked.lag / 1000), (troubles.stop, asked.stop), (troubles.kill, asked.kill), (troubles.crash, asked.crash)]
 
@@ -189,7 +204,7 @@ def meanwhile(nodes: Cluster, asked: argparse.Namespace) -> Iterator[List[str]]:
     for thread in working:
         thread.start()
     try:
-        yield failed
+        yield troubles.events, failed
     finally:
         troubles.over.set()
         for thread in working:
@@ -213,9 +228,10 @@ def recorded(asked: argparse.Namespace) -> Recorded:
     """Lets the clients work at the nodes."""
     import pymysql
     with nodes_of(asked) as nodes:
-        with meanwhile(nodes, asked) as failed:
+        with meanwhile(nodes, asked) as (events, failed):
             found = run_clients(Nodes(pymysql, nodes, asked), asked)
-        return Recorded(found.done, found.failures + failed)
+        found.failures += failed
+        return found.with_events(events)
 
 
 def main() -> int:
