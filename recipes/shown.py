@@ -1,14 +1,16 @@
 """What the demos of redis/, postgres/ and galera/ share: they run commands as they would be typed, show the answers for what their
 recorder wrote, and end with a report of the first history that isn't consistent."""
 import argparse
+import contextlib
 import json
 import pathlib
 import shutil
+import signal
 import subprocess
 import sys
 import tempfile
 from dataclasses import dataclass
-from typing import Callable, Dict, List, Optional, Sequence
+from typing import Callable, Dict, List, Optional, Sequence, Tuple, TypeVar
 
 RECIPES = pathlib.Path(__file__).resolve().parent
 BUILT = RECIPES.parent / "crates/tcc/out/tcc"
@@ -17,11 +19,23 @@ EXAMPLE = """example:
 """
 UNRESOLVED = 2  # the greatest status of an answer
 WITHOUT_SERVER = 77
-SECONDS = 90
+# A round that couldn't be played, as where a server didn't come up in time, is played again, so often in all.
+TURNS = 3
+# No command of a demo takes so long, on whatever machine: one that does hangs. Asked to end it has so many to clear up.
+SECONDS, END_SECONDS = 1800, 60
+
+sys.path.insert(0, str(RECIPES.parent / "python"))
+from tcc.clients import UNPLAYED, stop  # noqa: E402
+
+Played = TypeVar("Played")
 
 
 class Failed(Exception):
     """A command that did not do its part."""
+
+
+class Unplayed(Exception):
+    """A round that couldn't be played, however often; so nothing is known of the answer."""
 
 
 def program(path: Optional[str]) -> str:
@@ -47,12 +61,37 @@ def run(words: List[str], given: Optional[pathlib.Path] = None, into: Optional[p
     above `most` is a failure."""
     said = [pathlib.Path(word).name if word.startswith("/") else word for word in words]
     print("$ " + " ".join(said) + (" < " + given.name if given else "") + (" > " + into.name if into else ""), flush=True)
-    done = subprocess.run(words, input=given.read_bytes() if given else b"", stdout=subprocess.PIPE, timeout=SECONDS, check=False)
-    if not 0 <= done.returncode <= most:
-        raise Failed("%s: status %d" % (" ".join(said), done.returncode))
+    status, printed, errors = ended(words, given.read_bytes() if given else b"")
+    print(errors, end="", file=sys.stderr, flush=True)
+    if status == UNPLAYED:
+        raise Unplayed("not played in %d turns, at last: %s" % (TURNS, (errors.splitlines() or ["no word why"])[-1]))
+    if not 0 <= status <= most:
+        raise Failed("%s: status %d" % (" ".join(said), status))
     if into:
-        into.write_bytes(done.stdout)
-    return done.stdout
+        into.write_bytes(printed)
+    return printed
+
+
+def ended(words: List[str], given: bytes) -> Tuple[int, bytes, str]:
+    """Runs a command to its end: its status, and what it printed on both streams. One that hangs is asked to end, so that it stops its
+    servers."""
+    with subprocess.Popen(words, stdin=subprocess.PIPE, stdout=subprocess.PIPE, stderr=subprocess.PIPE) as running:
+        try:
+            printed, errors = running.communicate(given, SECONDS)
+        except subprocess.TimeoutExpired as error:
+            raise Failed("%s: no end within %d seconds" % (words[0], SECONDS)) from error
+        finally:
+            stop(running, signal.SIGTERM, END_SECONDS)
+        return running.returncode, printed, errors.decode(errors="replace")
+
+
+def in_turns(play: Callable[[int], Played]) -> Played:
+    """What a round gives that is played again where it couldn't be played, with the number of the turn; Unplayed where it never could."""
+    for turn in range(1, TURNS):
+        with contextlib.suppress(Unplayed):
+            return play(turn)
+        print("not played, so once more", flush=True)
+    return play(TURNS)
 
 
 def shown(text: bytes, most: int = 160) -> None:
@@ -105,7 +144,10 @@ class Demo:
             return WITHOUT_SERVER
         try:
             found = self.is_expected(self.answers(python, program(asked.tcc), asked.reports))
-        except (Failed, OSError, subprocess.TimeoutExpired) as error:
+        except Unplayed as error:
+            print("demo.py: %s" % error, file=sys.stderr)
+            return WITHOUT_SERVER
+        except (Failed, OSError) as error:
             print("demo.py: %s" % error, file=sys.stderr)
             return 1
         print(self.said if found else "NOT what was expected")
@@ -117,7 +159,7 @@ class Demo:
         with tempfile.TemporaryDirectory() as given:
             folder = pathlib.Path(given)
             for name, words in self.rounds.items():
-                found[name] = answer(tcc, [python, str(self.recorder), *words], folder, name)
+                found[name] = in_turns(lambda _: answer(tcc, [python, str(self.recorder), *words], folder, name))
                 print()
             name = next((name for name, one in found.items() if one["answer"] != "consistent"), next(iter(found)))
             report(tcc, folder, name, reports or pathlib.Path(tempfile.mkdtemp(prefix="tcc-report-")))

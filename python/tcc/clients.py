@@ -28,11 +28,18 @@ LOOPBACK = "127.0.0.1"
 PAUSE_SECONDS = 0.05
 STATEMENT_SECONDS = 0.002
 
+# The status of a recorder whose round wasn't played, as where a server didn't answer in time; played again it may be.
+UNPLAYED = 75
+
 Failures = Tuple[Type[Exception], ...]
 
 
 class NoServer(Exception):
-    """A server that can't be had."""
+    """A server that can't be had, or not in time."""
+
+
+class Unplayed(NoServer):
+    """A round that didn't come to what it has to show."""
 
 
 def arguments(ask: argparse.ArgumentParser) -> argparse.Namespace:
@@ -283,7 +290,7 @@ def write_records(recorded: Callable[[argparse.Namespace], Recorded], asked: arg
         return 1
     except (NoServer, OSError, subprocess.SubprocessError) as error:
         print("record.py: %s" % error, file=sys.stderr)
-        return 1
+        return 1 if isinstance(error, OSError) else UNPLAYED
     done = all_of_them.done
     try:
         with written_whole(asked.output) if asked.output else printed() as out:

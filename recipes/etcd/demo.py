@@ -4,7 +4,9 @@
 record.py starts and stops the nodes, and reckons from etcd's own revisions which reads are stale. Clients that have each node answer
 from what it has (serializable reads) see old values: the answer has to be an anomaly, and the reads that `tcc survey` lists for the
 history with versions have to be those, no more and no less. With linearizable reads there are none, though nodes are stopped and
-killed and the leader is moved: that has to be consistent. Then the status is 0, else 1. Where etcd isn't there, the status is 77.
+killed and the leader is moved: that has to be consistent. Then the status is 0, else 1. A round that can't be played, as where a node
+doesn't come up in time or no read is stale, is played again with more time. Where etcd isn't there, or a round was never played, the
+status is 77: nothing was shown.
 """
 import argparse
 import json
@@ -13,20 +15,36 @@ import shutil
 import signal
 import sys
 import tempfile
+from dataclasses import dataclass
 from typing import List, Optional, Set, Tuple
 
 HERE = pathlib.Path(__file__).resolve().parent
 sys.path[:0] = [str(HERE.parent), str(HERE.parents[1] / "python")]
-from shown import UNRESOLVED, WITHOUT_SERVER, Failed, program, report, run, shown  # noqa: E402
+from shown import UNRESOLVED, WITHOUT_SERVER, Failed, Unplayed, in_turns, program, report, run, shown  # noqa: E402
 from tcc.versions import NoVersions, Versioned, write_versioned  # noqa: E402
 
 EXAMPLE = """example:
   $ demo.py --tcc crates/tcc/out/tcc --reports .
 """
 TROUBLE = ["--stop", "2", "--kill", "1", "--move", "2"]
-ROUNDS = {"serializable": ["--reads", "serializable", "--seconds", "5"], "troubled": ["--reads", "serializable", "--seconds", "9", *TROUBLE],
-          "linearizable": ["--reads", "linearizable", "--seconds", "9", *TROUBLE]}
+STALE = ["--reads", "serializable", "--until-stale", "--at-least", "200"]
+ROUNDS = {"serializable": [*STALE, "--seconds", "5"], "troubled": [*STALE, "--seconds", "9", *TROUBLE],
+          "linearizable": ["--reads", "linearizable", "--at-least", "200", "--seconds", "9", *TROUBLE]}
 Stale = Set[Tuple[str, str]]
+
+
+@dataclass
+class Round:
+    """What a round left in its folder: records, versions, annotations, and the reads that are stale by revisions."""
+
+    name: str
+    folder: pathlib.Path
+
+    def path(self, end: str) -> pathlib.Path:
+        return self.folder / (self.name + end)
+
+    def stale(self) -> Stale:
+        return {(label, key) for label, key in map(str.split, self.path("-stale.txt").read_text().splitlines())}
 
 
 def surveyed(tcc: str, path: pathlib.Path) -> List[dict]:
@@ -40,28 +58,37 @@ def found_by(told: Versioned, listed: List[dict]) -> Stale:
     return {(one["contradicted"], told.marks.get(one["key"], one["key"])) for one in listed if not told.is_made(one["contradicted"])}
 
 
-def is_expected(tcc: str, folder: pathlib.Path, name: str) -> bool:
-    """Plays a round, shows its answers, and says whether they are what they have to be."""
-    records, versions, notes, old, judged = (folder / (name + end) for end in (".csv", "-versions.csv", "-notes.csv", "-stale.txt", "-judged.csv"))
-    run([sys.executable, str(HERE / "record.py"), *ROUNDS[name], "-o", str(records), "--versions", str(versions), "--notes", str(notes),
-         "--stale", str(old)])
-    told = write_versioned(records, versions, judged)
-    stale = {tuple(line.split()) for line in old.read_text().splitlines()}
-    answer = run([tcc, "explain", "--large", "--quiet", str(judged)], most=UNRESOLVED).decode()
+def played(top: pathlib.Path, name: str, turn: int) -> Round:
+    """Plays a round, in the first turn with the least patience."""
+    one = Round(name, pathlib.Path(tempfile.mkdtemp(dir=top)))
+    run([sys.executable, str(HERE / "record.py"), *ROUNDS[name], "--patience", str(turn * turn), "-o", str(one.path(".csv")), "--versions",
+         str(one.path("-versions.csv")), "--notes", str(one.path("-notes.csv")), "--stale", str(one.path("-stale.txt"))])
+    return one
+
+
+def is_expected(tcc: str, one: Round) -> bool:
+    """Shows the answers for a round, and says whether they are what they have to be."""
+    told, stale = write_versioned(one.path(".csv"), one.path("-versions.csv"), one.path("-judged.csv")), one.stale()
+    answer = run([tcc, "explain", "--large", "--quiet", str(one.path("-judged.csv"))], most=UNRESOLVED).decode()
     shown(answer.encode())
-    found, without = found_by(told, surveyed(tcc, judged)), surveyed(tcc, records)
+    found, without = found_by(told, surveyed(tcc, one.path("-judged.csv"))), surveyed(tcc, one.path(".csv"))
     print("%s: by etcd's revisions %d reads are stale; with versions tcc finds %d of them and %d others, without versions %d\n" % (
-        name, len(stale), len(found & stale), len(found - stale), len(without)))
-    is_right = answer.startswith("consistent" if name == "linearizable" else "anomaly")
-    return is_right and found == stale and (not stale if name == "linearizable" else len(stale) > 0)
+        one.name, len(stale), len(found & stale), len(found - stale), len(without)))
+    is_linearizable = one.name == "linearizable"
+    is_right = answer.startswith("consistent" if is_linearizable else "anomaly")
+    return is_right and found == stale and bool(stale) != is_linearizable
 
 
 def shown_all(tcc: str, reports: Optional[pathlib.Path]) -> bool:
     with tempfile.TemporaryDirectory() as name:
-        folder = pathlib.Path(name)
-        are_right = [is_expected(tcc, folder, each) for each in ROUNDS]
-        report(tcc, folder, "serializable", reports or pathlib.Path(tempfile.mkdtemp(prefix="tcc-report-")),
-               ["--versions", str(folder / "serializable-versions.csv")])
+        top = pathlib.Path(name)
+        are_right = []
+        for each in ROUNDS:
+            one = in_turns(lambda turn: played(top, each, turn))
+            are_right.append(is_expected(tcc, one))
+            if each == "serializable":
+                report(tcc, one.folder, each, reports or pathlib.Path(tempfile.mkdtemp(prefix="tcc-report-")),
+                       ["--versions", str(one.path("-versions.csv"))])
         return all(are_right)
 
 
@@ -76,6 +103,9 @@ def main() -> int:
         return WITHOUT_SERVER
     try:
         is_right = shown_all(program(asked.tcc), asked.reports)
+    except Unplayed as error:
+        print("demo.py: %s" % error, file=sys.stderr)
+        return WITHOUT_SERVER
     except (Failed, NoVersions, OSError) as error:
         print("demo.py: %s" % error, file=sys.stderr)
         return 1

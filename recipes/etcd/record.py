@@ -9,6 +9,10 @@ saw, and each write its own, so that the order of a key's writes is known.
 Meanwhile, where that is asked for: --stop and --kill stop a node for a second (SIGSTOP), or kill it (SIGKILL) and start it again, one
 after the other; --move has another node lead. A request that isn't answered in time is of unknown outcome.
 
+The clients work for --seconds, and on until all troubles have happened and --at-least transactions were answered; with --until-stale
+also until a client read something older than what its session had seen, for which nodes are stopped too. A round that doesn't come so
+far, as on a busy machine, wasn't played: the status is 75. Played again with --patience it has more time for everything.
+
 Writes the records into the file of -o, the versions into that of --versions, and into that of --stale which reads are stale by etcd's
 own revisions: those older than a write of the key that their client knew of, by its session or by what it read. This is reckoned from
 the answers alone, beside `tcc`. The nodes are stopped and their folders go in the end, whatever comes. Needs etcd on the path (in Debian
@@ -33,7 +37,7 @@ from typing import Any, Dict, Iterator, List, Optional, Tuple
 
 sys.path.insert(0, str(pathlib.Path(__file__).resolve().parents[2] / "python"))
 from tcc import Recorder, Session  # noqa: E402
-from tcc.clients import LOOPBACK, NoServer, free_ports, wait_until  # noqa: E402
+from tcc.clients import LOOPBACK, UNPLAYED, NoServer, Unplayed, free_ports, wait_until  # noqa: E402
 from tcc.words import command_line, count_within  # noqa: E402
 
 EXAMPLE = """example: clients that read at any node from what it has, and the reads that are stale
@@ -42,7 +46,9 @@ EXAMPLE = """example: clients that read at any node from what it has, and the re
   $ tcc explain --large versioned.csv
 """
 NODES = 3
-ANSWER_SECONDS, START_SECONDS, STOPPED_SECONDS, PAUSE_SECONDS = 1.0, 20, 1.0, 0.05
+# Each but the last two is multiplied by --patience.
+ANSWER_SECONDS, START_SECONDS, LONGEST_SECONDS, HEARTBEAT_MILLISECONDS = 1.0, 30.0, 60.0, 50
+STOPPED_SECONDS, PAUSE_SECONDS = 1.0, 0.05
 
 
 def coded(text: str) -> str:
@@ -60,8 +66,8 @@ class Found:
 class Connection:
     """One to a node, over its gateway for JSON."""
 
-    def __init__(self, port: int):
-        self.http = http.client.HTTPConnection(LOOPBACK, port, timeout=ANSWER_SECONDS)
+    def __init__(self, port: int, seconds: float):
+        self.http = http.client.HTTPConnection(LOOPBACK, port, timeout=seconds)
 
     def ask(self, path: str, body: Dict[str, Any]) -> Dict[str, Any]:
         """The answer; an error of the system where there is none."""
@@ -80,11 +86,14 @@ class Connection:
         steps: List[Dict[str, Any]] = [{"request_put": {"key": coded(key), "value": coded(str(value))}} for key, value in puts.items()]
         steps += [{"request_range": {"key": coded(key), "serializable": is_serializable}} for key in gets]
         told = self.ask("kv/txn", {"success": steps})
-        found = []
-        for one in told["responses"][len(puts):]:
-            values = one["response_range"].get("kvs", [])
-            found.append(Found(int(base64.b64decode(values[0]["value"])), int(values[0]["mod_revision"])) if values else Found())
-        return int(told["header"]["revision"]), found
+        try:
+            return int(told["header"]["revision"]), [self.found(one["response_range"]) for one in told["responses"][len(puts):]]
+        except (KeyError, ValueError) as error:
+            raise OSError("an answer of another form: %s" % told) from error
+
+    def found(self, told: Dict[str, Any]) -> Found:
+        values = told.get("kvs", [])
+        return Found(int(base64.b64decode(values[0]["value"])), int(values[0]["mod_revision"])) if values else Found()
 
 
 @dataclass
@@ -92,6 +101,7 @@ class Cluster:
     """Three nodes, each with its ports for clients and for the others."""
 
     folder: pathlib.Path
+    patience: int
     ports: List[int] = field(default_factory=lambda: free_ports(2 * NODES))
     running: Dict[int, "subprocess.Popen[bytes]"] = field(default_factory=dict)
 
@@ -103,7 +113,8 @@ class Cluster:
         group = ",".join("n%d=%s" % (each, self.url(self.ports[2 * each + 1])) for each in range(NODES))
         words = ["etcd", "--name", "n%d" % number, "--data-dir", str(self.folder / ("n%d" % number)), "--listen-client-urls", client,
                  "--advertise-client-urls", client, "--listen-peer-urls", peer, "--initial-advertise-peer-urls", peer,
-                 "--initial-cluster", group, "--heartbeat-interval", "50", "--election-timeout", "500"]
+                 "--initial-cluster", group, "--heartbeat-interval", str(HEARTBEAT_MILLISECONDS * self.patience),
+                 "--election-timeout", str(10 * HEARTBEAT_MILLISECONDS * self.patience)]
         self.running[number] = subprocess.Popen(words, stdin=subprocess.DEVNULL, stdout=subprocess.DEVNULL, stderr=subprocess.DEVNULL)
 
     def kill(self, number: int) -> None:
@@ -115,31 +126,37 @@ class Cluster:
             self.kill(number)
 
     def connect(self, number: int) -> Connection:
-        return Connection(self.ports[2 * number])
+        return Connection(self.ports[2 * number], ANSWER_SECONDS * self.patience)
 
     def answers(self, number: int) -> bool:
-        """Whether a node is in step with the group."""
+        """Whether a node is in step with the group; it may have ended, as where somebody else has taken its port."""
+        if self.running[number].poll() is not None:
+            raise NoServer("n%d ended with status %d" % (number, self.running[number].returncode))
         self.connect(number).transaction({}, ["ready"], False)
         return True
 
     def wait_for(self, number: int) -> None:
-        wait_until(lambda: self.answers(number), (OSError, KeyError), START_SECONDS, "n%d didn't answer" % number)
+        wait_until(lambda: self.answers(number), (OSError,), START_SECONDS * self.patience, "n%d didn't answer" % number)
 
-    def move(self) -> None:
-        """Has the node after the one that leads lead."""
+    def moves(self) -> bool:
+        """Has the node after the one that leads lead; while they elect one, nobody does."""
         told = [self.connect(number).ask("maintenance/status", {}) for number in range(NODES)]
         members = [one["header"]["member_id"] for one in told]
         leader = members.index(told[0]["leader"])
         self.connect(leader).ask("maintenance/transfer-leadership", {"targetID": members[(leader + 1) % NODES]})
+        return True
+
+    def move(self) -> None:
+        wait_until(self.moves, (OSError, KeyError, ValueError), START_SECONDS * self.patience, "leadership couldn't be moved")
 
 
 @contextlib.contextmanager
-def cluster() -> Iterator[Cluster]:
+def cluster(patience: int) -> Iterator[Cluster]:
     """A cluster that runs meanwhile."""
     if not shutil.which("etcd"):
         raise NoServer("no etcd on the path (in Debian the package etcd-server)")
     with tempfile.TemporaryDirectory() as name:
-        nodes = Cluster(pathlib.Path(name))
+        nodes = Cluster(pathlib.Path(name), patience)
         try:
             for number in range(NODES):
                 nodes.start(number)
@@ -162,13 +179,18 @@ class Seen:
 
 @dataclass
 class Client:
-    """A client: what it asks for follows from its number and the seed."""
+    """A client: what it asks for follows from its number and the seed. `saw` has the greatest revision of each key that its session
+    saw or wrote."""
 
     nodes: Cluster
     recorder: Recorder
     asked: argparse.Namespace
     number: int
     seen: List[Seen] = field(default_factory=list)
+    answered: int = 0
+    saw: Dict[str, int] = field(default_factory=dict)
+    has_read_stale: bool = False
+    failed: Optional[str] = None
 
     def __post_init__(self) -> None:
         self.chance = random.Random("%d %d" % (self.asked.seed, self.number))
@@ -179,18 +201,37 @@ class Client:
     def connection(self, number: int) -> Connection:
         return self.open.setdefault(number, self.nodes.connect(number))
 
-    def work(self, until: float) -> None:
-        while time.monotonic() < until:
+    def run(self, over: threading.Event) -> None:
+        """Works; of what nobody expected it is kept why the client ended."""
+        try:
+            self.work(over)
+        except Exception as error:
+            self.failed = "client %d ended early, %s: %s" % (self.number, type(error).__name__, error)
+
+    def work(self, over: threading.Event) -> None:
+        while not over.is_set():
             number = self.chance.randrange(NODES)
             keys = ["k%d" % one for one in self.chance.sample(range(self.asked.keys), 2)]
             writes = keys[:1] if self.chance.random() < 0.4 else []
+            name = self.session.name
             try:
-                self.transact(number, writes, keys[len(writes):])
+                self.see(self.transact(number, writes, keys[len(writes):]))
+                self.answered += 1
             except OSError:
                 self.open.pop(number, None)
-                time.sleep(PAUSE_SECONDS)
+                over.wait(PAUSE_SECONDS)
+            if self.session.name != name:
+                self.saw = {}
 
-    def transact(self, number: int, writes: List[str], reads: List[str]) -> None:
+    def see(self, one: Seen) -> None:
+        """Keeps what a transaction saw, and whether that is older than what was seen before."""
+        for key, found in one.reads.items():
+            self.has_read_stale = self.has_read_stale or found.revision < self.saw.get(key, 0)
+            self.saw[key] = max(self.saw.get(key, 0), found.revision)
+        for key in one.writes:
+            self.saw[key] = max(self.saw.get(key, 0), one.revision)
+
+    def transact(self, number: int, writes: List[str], reads: List[str]) -> Seen:
         """One transaction at a node, recorded and noted."""
         name = self.session.name
         mine = Seen("%s/%d" % (name, self.place.get(name, 0) + 1), {key: self.recorder.new_value() for key in writes})
@@ -213,6 +254,7 @@ class Client:
         if not writes:
             self.place[name] = self.place.get(name, 0) + 1
             self.seen.append(mine)
+        return mine
 
 
 def stale(seen: List[Seen]) -> Iterator[Tuple[str, str]]:
@@ -246,60 +288,108 @@ def stale(seen: List[Seen]) -> Iterator[Tuple[str, str]]:
         raise ValueError("transactions read from one another in a circle")
 
 
-@contextlib.contextmanager
-def meanwhile(nodes: Cluster, recorder: Recorder, asked: argparse.Namespace) -> Iterator[List[str]]:
-    """Meanwhile the troubles that are asked for happen, one after the other; gives those that failed, and why."""
-    over, failed = threading.Event(), []  # type: threading.Event, List[str]
-    kinds = [kind for turn in range(max(asked.stop, asked.kill, asked.move)) for kind in ("stop", "kill", "move") if turn < getattr(asked, kind)]
+@dataclass
+class Troubles:
+    """What happens to the nodes while clients work, one after the other; `over` is set when they have done, `failed` says what didn't
+    happen."""
 
-    def trouble(kind: str, number: int) -> None:
+    nodes: Cluster
+    recorder: Recorder
+    kinds: List[str]
+    over: threading.Event = field(default_factory=threading.Event)
+    has_happened: threading.Event = field(default_factory=threading.Event)
+    failed: Optional[Exception] = None
+
+    def happen(self, kind: str, number: int) -> None:
         if kind == "move":
-            recorder.event("move-leader")
-            nodes.move()
+            self.recorder.event("move-leader")
+            self.nodes.move()
         elif kind == "stop":
-            recorder.event("start-pause n%d" % number, "n%d" % number)
-            nodes.running[number].send_signal(signal.SIGSTOP)
-            over.wait(STOPPED_SECONDS)
-            nodes.running[number].send_signal(signal.SIGCONT)
-            recorder.event("stop-pause n%d" % number, "n%d" % number)
+            self.recorder.event("start-pause n%d" % number, "n%d" % number)
+            self.nodes.running[number].send_signal(signal.SIGSTOP)
+            self.over.wait(STOPPED_SECONDS)
+            self.nodes.running[number].send_signal(signal.SIGCONT)
+            self.recorder.event("stop-pause n%d" % number, "n%d" % number)
         else:
-            recorder.event("start-kill n%d" % number, "n%d" % number)
-            nodes.kill(number)
-            over.wait(STOPPED_SECONDS)
-            nodes.start(number)
-            nodes.wait_for(number)
-            recorder.event("stop-kill n%d" % number, "n%d" % number)
+            self.recorder.event("start-kill n%d" % number, "n%d" % number)
+            self.nodes.kill(number)
+            self.over.wait(STOPPED_SECONDS)
+            self.nodes.start(number)
+            self.nodes.wait_for(number)
+            self.recorder.event("stop-kill n%d" % number, "n%d" % number)
 
-    def run() -> None:
-        for turn, kind in enumerate(kinds):
-            if over.wait(0.3):
-                return
-            try:
-                trouble(kind, turn % NODES)
-            except (OSError, KeyError, ValueError, NoServer) as error:
-                failed.append("--%s: %s" % (kind, error))
+    def run(self, goes_on: bool, seconds: float) -> None:
+        """Those that are asked for; then, where it goes on, a node is stopped again and again, from so many seconds on."""
+        begun = time.monotonic()
+        try:
+            for turn, kind in enumerate(self.kinds):
+                if self.over.wait(0.3):
+                    return
+                self.happen(kind, turn % NODES)
+            self.has_happened.set()
+            turn = 0
+            while goes_on and not self.over.wait(max(0.3, begun + seconds - time.monotonic())):
+                self.happen("stop", turn % NODES)
+                turn += 1
+        except Exception as error:
+            self.failed = error
 
-    thread = threading.Thread(target=run)
+
+@contextlib.contextmanager
+def meanwhile(nodes: Cluster, recorder: Recorder, asked: argparse.Namespace) -> Iterator[Troubles]:
+    """Meanwhile the troubles that are asked for happen."""
+    kinds = [kind for turn in range(max(asked.stop, asked.kill, asked.move)) for kind in ("stop", "kill", "move") if turn < getattr(asked, kind)]
+    troubles = Troubles(nodes, recorder, kinds)
+    thread = threading.Thread(target=troubles.run, args=(asked.until_stale, asked.seconds))
     thread.start()
     try:
-        yield failed
+        yield troubles
     finally:
-        over.set()
+        troubles.over.set()
         thread.join()
 
 
-def played(asked: argparse.Namespace) -> Tuple[List[Seen], int, List[str]]:
-    """Lets the clients work: what they heard, how many outcomes were unknown, and what failed."""
-    with cluster() as nodes, Recorder(asked.output, notes=asked.notes, versions=asked.versions) as recorder:
-        with meanwhile(nodes, recorder, asked) as failed:
-            until = time.monotonic() + asked.seconds
-            clients = [Client(nodes, recorder, asked, number) for number in range(1, asked.clients + 1)]
-            working = [threading.Thread(target=one.work, args=(until,)) for one in clients]
-            for thread in working:
-                thread.start()
-            for thread in working:
-                thread.join()
-        return [each for one in clients for each in one.seen], recorder.close(), failed
+def lacking(clients: List[Client], troubles: Troubles, asked: argparse.Namespace) -> Optional[str]:
+    """What a round has yet to come to, or nothing."""
+    answered = sum(one.answered for one in clients)
+    if not troubles.has_happened.is_set():
+        return "not all troubles had happened"
+    if answered < asked.at_least:
+        return "%d transactions were answered, and not %d" % (answered, asked.at_least)
+    if asked.until_stale and not any(one.has_read_stale for one in clients):
+        return "no client read anything older than what it had seen"
+    return None
+
+
+def work(clients: List[Client], troubles: Troubles, asked: argparse.Namespace) -> None:
+    """Lets the clients work until the round has come to all that it has to; Unplayed where it doesn't in time. A client that fails ends
+    it."""
+    begun = time.monotonic()
+    working = [threading.Thread(target=one.run, args=(troubles.over,)) for one in clients]
+    for thread in working:
+        thread.start()
+    try:
+        while time.monotonic() < begun + asked.seconds or lacking(clients, troubles, asked):
+            if troubles.failed or any(one.failed for one in clients):
+                break
+            if time.monotonic() > begun + asked.seconds + LONGEST_SECONDS * asked.patience:
+                raise Unplayed("%s within %d seconds" % (lacking(clients, troubles, asked), time.monotonic() - begun))
+            time.sleep(PAUSE_SECONDS)
+    finally:
+        troubles.over.set()
+        for thread in working:
+            thread.join()
+    if troubles.failed:
+        raise troubles.failed
+
+
+def played(asked: argparse.Namespace) -> Tuple[List[Client], int]:
+    """Plays the round: the clients, and how many outcomes were unknown."""
+    with cluster(asked.patience) as nodes, Recorder(asked.output, notes=asked.notes, versions=asked.versions) as recorder:
+        clients = [Client(nodes, recorder, asked, number) for number in range(1, asked.clients + 1)]
+        with meanwhile(nodes, recorder, asked) as troubles:
+            work(clients, troubles, asked)
+        return clients, recorder.close()
 
 
 def main() -> int:
@@ -310,7 +400,10 @@ def main() -> int:
         ask.add_argument("--" + kind, type=count_within(0, 100), default=0, metavar="N", help=what)
     ask.add_argument("--clients", type=count_within(1, 1000), default=6, metavar="N", help="so many clients, by default 6")
     ask.add_argument("--keys", type=count_within(2, 10000), default=6, metavar="N", help="so many keys, by default 6")
-    ask.add_argument("--seconds", type=count_within(1, 86400), default=5, metavar="N", help="clients stop after so many, by default 5")
+    ask.add_argument("--seconds", type=count_within(1, 86400), default=5, metavar="N", help="clients work for so many at least, by default 5")
+    ask.add_argument("--at-least", type=count_within(1, 1000000), default=1, metavar="N", help="and until so many transactions were answered")
+    ask.add_argument("--until-stale", action="store_true", help="and until a client read something older than what it had seen")
+    ask.add_argument("--patience", type=count_within(1, 100), default=1, metavar="N", help="N times as long is waited, for a busy machine")
     ask.add_argument("--seed", type=int, default=1, metavar="N", help="what clients ask for follows from it, by default 1")
     ask.add_argument("-o", "--output", metavar="FILE", required=True, help="the file for the records, which isn't there yet")
     ask.add_argument("--versions", metavar="FILE", required=True, help="the file for the versions")
@@ -321,11 +414,13 @@ def main() -> int:
         if pathlib.Path(path).exists():
             ask.error("%s is there" % path)
     try:
-        seen, unknown, failed = played(asked)
+        clients, unknown = played(asked)
+        seen = [each for one in clients for each in one.seen]
         old = sorted(set(stale(seen)))
     except (NoServer, OSError, ValueError) as error:
         print("record.py: %s" % error, file=sys.stderr)
-        return 1
+        return UNPLAYED if isinstance(error, NoServer) else 1
+    failed = [one.failed for one in clients if one.failed]
     if asked.stale:
         pathlib.Path(asked.stale).write_text("".join("%s %s\n" % one for one in old))
     for line in (*failed, "%d transactions, %d of unknown outcome; %d reads are stale by their revisions" % (len(seen), unknown, len(old))):

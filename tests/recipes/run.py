@@ -24,7 +24,8 @@ to write what they saw, also where their connections are cut at every call (`cli
 give the same records, a script that is interrupted to say what it has, and the lines of RECORDING for a large history to end
 with its status (`scripts.py`); the pages of report.py have to be whole, and right in a browser where Chromium is there
 (`pages.py`); and the demos of recipes/redis, recipes/postgres, recipes/galera and recipes/etcd have to find what they show;
-where their servers or their library for Python aren't there, they are passed over, which is said.
+where their servers or their library for Python aren't there, or a round couldn't be played on this machine, they are passed over,
+which is said.
 
 The wanted texts were worked out by hand from the definitions. Each difference is one line; the last line is
 `N passed, M failed`.
@@ -55,6 +56,8 @@ from counted import Outcome, guarded, status_of  # noqa: E402
 CASES = HERE / "cases"
 RECIPES = TOP / "recipes"
 SECONDS = 300
+# A demo plays on, and again, on a busy machine; asked to end it has so many to stop its servers.
+DEMO_SECONDS, END_SECONDS = 3600, 120
 WITHOUT_SERVER = 77
 
 
@@ -158,17 +161,24 @@ def demo(server: str, tcc: List[str]) -> Iterator[Outcome]:
     """The demo with real servers, where they are there: its status is 0 where each answer is what it has to be."""
     with tempfile.TemporaryDirectory() as folder:
         command = [sys.executable, str(RECIPES / server / "demo.py"), "--tcc", tcc[-1], "--reports", folder]
-        try:
-            ended = subprocess.run(command, capture_output=True, timeout=SECONDS, check=False)
-        except subprocess.TimeoutExpired as error:
-            yield "demo of " + server, str(error)
-            return
-        if ended.returncode == WITHOUT_SERVER:
-            print("demo of %s: passed over: its server or its library isn't here" % server)
+        status, output, errors = demonstrated(command)
+        if status == WITHOUT_SERVER:
+            print("demo of %s: passed over: %s" % (server, (errors.decode().splitlines() or ["it doesn't say why"])[-1]))
             return
         has_report = len(list(pathlib.Path(folder).glob("*.html"))) == 1
-        yield "demo of " + server, None if ended.returncode == 0 and has_report else "status %d, %s report, %r" % (
-            ended.returncode, "a" if has_report else "no", ended.stdout + ended.stderr)
+        yield "demo of " + server, None if status == 0 and has_report else "status %d, %s report, %r" % (
+            status, "a" if has_report else "no", output + errors)
+
+
+def demonstrated(command: List[str]) -> Tuple[int, bytes, bytes]:
+    """Runs a demo to its end: its status, and what it printed."""
+    with subprocess.Popen(command, stdin=subprocess.DEVNULL, stdout=subprocess.PIPE, stderr=subprocess.PIPE) as running:
+        try:
+            output, errors = running.communicate(timeout=DEMO_SECONDS)
+        except subprocess.TimeoutExpired:
+            running.terminate()
+            output, errors = running.communicate(timeout=END_SECONDS)
+        return running.returncode, output, errors
 
 
 def unknown_outcomes() -> Iterator[Outcome]:
