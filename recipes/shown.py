@@ -19,8 +19,9 @@ EXAMPLE = """example:
 """
 UNRESOLVED = 2  # the greatest status of an answer
 WITHOUT_SERVER = 77
-# A round that couldn't be played, as where a server didn't come up in time, is played again, so often in all.
-TURNS = 3
+# A round that couldn't be played, as where a server didn't come up in time, is played again, so often in all; the words of a recorder
+# may have the number of the turn.
+TURNS, TURN = 3, "{turn}"
 # No command of a demo takes so long, on whatever machine: one that does hangs. Asked to end it has so many to clear up.
 SECONDS, END_SECONDS = 1800, 60
 
@@ -153,13 +154,16 @@ class Demo:
         print(self.said if found else "NOT what was expected")
         return 0 if found else 1
 
+    def command(self, python: str, words: List[str], turn: int) -> List[str]:
+        return [python, str(self.recorder), *(word.replace(TURN, str(turn)) for word in words)]
+
     def answers(self, python: str, tcc: str, reports: Optional[pathlib.Path]) -> Dict[str, dict]:
         """The answer of each round, by its name."""
         found = {}
         with tempfile.TemporaryDirectory() as given:
             folder = pathlib.Path(given)
             for name, words in self.rounds.items():
-                found[name] = in_turns(lambda _: answer(tcc, [python, str(self.recorder), *words], folder, name))
+                found[name] = in_turns(lambda turn: answer(tcc, self.command(python, words, turn), folder, name))
                 print()
             name = next((name for name, one in found.items() if one["answer"] != "consistent"), next(iter(found)))
             report(tcc, folder, name, reports or pathlib.Path(tempfile.mkdtemp(prefix="tcc-report-")))

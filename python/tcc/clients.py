@@ -27,7 +27,8 @@ LOOPBACK = "127.0.0.1"
 # So long a client waits before it connects again, and behind each statement of a transaction.
 PAUSE_SECONDS = 0.05
 STATEMENT_SECONDS = 0.002
-
+# A client that has done too little when its seconds are over goes on for so many times as long, as on a busy machine.
+LONGER = 10
 # The status of a recorder whose round wasn't played, as where a server didn't answer in time; played again it may be.
 UNPLAYED = 75
 
@@ -50,6 +51,8 @@ def arguments(ask: argparse.ArgumentParser) -> argparse.Namespace:
     ask.add_argument("--keys", type=count_within(1, MOST_KEYS), default=8, metavar="N",
                      help="so many keys, 1 to %d, by default 8" % MOST_KEYS)
     ask.add_argument("--seconds", type=count_within(1, 86400), default=20, metavar="N", help="clients stop after so many, by default 20")
+    ask.add_argument("--at-least", type=count_within(0, MOST_TRANSACTIONS), default=0, metavar="N",
+                     help="but each goes on until it has done so many, for up to %d times as long; else the status is %d" % (LONGER, UNPLAYED))
     ask.add_argument("--seed", type=int, default=1, metavar="N", help="which keys are picked follows from it, by default 1")
     ask.add_argument("--keep-sessions", action="store_true",
                      help="behind a broken connection a client's session goes on, where all its outcomes are known; so writes that "
@@ -103,6 +106,23 @@ def wait_until(is_so: Callable[[], bool], failing: Failures, seconds: float, oth
     raise NoServer("%s within %d seconds" % (otherwise, seconds))
 
 
+@dataclass(frozen=True)
+class Much:
+    """How much a client does: `most` transactions, or fewer where the time is over; but fewer than `least` only where the longest time is."""
+
+    most: int
+    least: int
+    until: float
+    longest: float
+
+    @staticmethod
+    def of(asked: argparse.Namespace, begun: float) -> "Much":
+        return Much(asked.transactions, min(asked.at_least, asked.transactions), begun + asked.seconds, begun + LONGER * asked.seconds)
+
+    def is_enough(self, done: int) -> bool:
+        return done >= self.most or time.monotonic() >= (self.until if done >= self.least else self.longest)
+
+
 class Store(abc.ABC):
     """The servers as clients see them."""
 
@@ -117,6 +137,9 @@ class Store(abc.ABC):
     @abc.abstractmethod
     def turn(self, client: "Client", connections: Sequence[Any]) -> None:
         """The transactions of one turn, which the client notes."""
+
+    def end(self, clients: List["Client"]) -> None:
+        """What clients do once all have worked, one step after the other: so what a round has to show doesn't go by luck."""
 
 
 def told(error: Exception) -> str:
@@ -183,24 +206,30 @@ class Client:
             self.done.append(mine)
             self.has_session = self.has_session and mine.committed is not None
 
-    def work(self, transactions: int, until: float) -> None:
+    @contextlib.contextmanager
+    def connected(self) -> Iterator[Sequence[Any]]:
+        """Over new connections, in a session of its own unless the one that there is goes on."""
+        with contextlib.ExitStack() as held:
+            connections = self.store.connections(held)
+            if not (self.has_session and self.keeps_session):
+                self.sessions += 1
+                self.has_session = True
+            yield connections
+
+    def work(self, much: Much) -> None:
         """Makes so many transactions, over new connections behind each one that broke; those that are refused are asked for
         again, and use up no name of a session."""
-        while len(self.done) < transactions and time.monotonic() < until:
-            with contextlib.suppress(*self.store.broken()), contextlib.ExitStack() as held:
-                connections = self.store.connections(held)
-                if not (self.has_session and self.keeps_session):
-                    self.sessions += 1
-                    self.has_session = True
-                while len(self.done) < transactions and time.monotonic() < until:
+        while not much.is_enough(len(self.done)):
+            with contextlib.suppress(*self.store.broken()), self.connected() as connections:
+                while not much.is_enough(len(self.done)):
                     self.store.turn(self, connections)
                 return
             time.sleep(PAUSE_SECONDS)
 
-    def run(self, transactions: int, until: float) -> None:
+    def run(self, much: Much) -> None:
         """Works; of what nobody expected it is kept why the client ended."""
         try:
-            self.work(transactions, until)
+            self.work(much)
         except Exception as error:
             self.failed = "client %d ended early, %s: %s" % (self.number, told(error), error)
 
@@ -214,15 +243,19 @@ class Statements(NamedTuple):
     def execute(self, client: Client, mine: Transaction, cursor: Any, reads: List[str], writes: List[str]) -> None:
         """Reads and then writes in a transaction, noted as they go, with a pause behind each."""
         for key in reads:
-            cursor.execute(self.read, (key,))
-            found = cursor.fetchone()
-            mine.read(key, found[0] if found else 0)
+            self.read_key(mine, cursor, key)
             time.sleep(STATEMENT_SECONDS)
         for key in writes:
             value = client.new_value()
             mine.write(key, value)
             cursor.execute(self.write, (key, value))
             time.sleep(STATEMENT_SECONDS)
+
+    def read_key(self, mine: Transaction, cursor: Any, key: str) -> None:
+        """Reads a key in a transaction, and notes what it has."""
+        cursor.execute(self.read, (key,))
+        found = cursor.fetchone()
+        mine.read(key, found[0] if found else 0)
 
     def transact(self, client: Client, server: Any, node: str, reads: List[str], writes: List[str], refused: Failures,
                  refusals: ContextManager[None] = contextlib.nullcontext()) -> List[str]:
@@ -254,17 +287,25 @@ class Recorded:
 
 
 def run_clients(store: Store, asked: argparse.Namespace) -> Recorded:
-    """Lets clients work side by side, and gives all that they did."""
+    """Lets clients work side by side, and gives all that they did; Unplayed where one didn't come to do enough."""
     begun = time.monotonic()
+    much = Much.of(asked, begun)
     clients = [Client(store, number, asked.keys, random.Random("%d %d" % (asked.seed, number)), asked.keep_sessions, begun)
                for number in range(1, asked.clients + 1)]
-    until = begun + asked.seconds
-    working = [threading.Thread(target=one.run, args=(asked.transactions, until), daemon=True) for one in clients]
+    working = [threading.Thread(target=one.run, args=(much,), daemon=True) for one in clients]
     for thread in working:
         thread.start()
     for thread in working:
         thread.join()
-    return Recorded([one for client in clients for one in client.done], [one.failed for one in clients if one.failed], begun)
+    failures = [one.failed for one in clients if one.failed]
+    for one in clients:
+        if len(one.done) < much.least and not failures:
+            raise Unplayed("client %d did %d transactions, and not %d" % (one.number, len(one.done), much.least))
+    try:
+        store.end(clients)
+    except store.broken() as error:
+        raise Unplayed("what clients do in the end: %s" % error) from error
+    return Recorded([one for client in clients for one in client.done], failures, begun)
 
 
 @contextlib.contextmanager

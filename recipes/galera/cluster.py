@@ -27,7 +27,7 @@ from dataclasses import dataclass, field
 from typing import Any, Dict, List, Optional, Tuple
 
 sys.path.insert(0, str(pathlib.Path(__file__).resolve().parents[2] / "python"))
-from tcc.clients import LOOPBACK, NoServer, free_ports, wait_until  # noqa: E402
+from tcc.clients import LOOPBACK, UNPLAYED, NoServer, free_ports, wait_until  # noqa: E402
 from tcc.words import command_line  # noqa: E402
 
 EXAMPLE = """example: two rounds of clients on one cluster
@@ -43,8 +43,8 @@ PATH = os.pathsep.join((os.environ.get("PATH", ""), "/usr/sbin", "/usr/bin"))
 PROGRAMS = ("mariadbd", "mariadb-install-db", "rsync")
 # How often a node writes what was committed to its files; what none of them had written is lost where all are killed.
 FLUSH_SECONDS = 5
-START_SECONDS = 60
-STOP_SECONDS = 20
+START_SECONDS = 180
+STOP_SECONDS = 60
 SCHEMA = (
     "CREATE DATABASE tcc",
     "CREATE TABLE tcc.registers (name VARCHAR(32) CHARACTER SET ascii COLLATE ascii_bin PRIMARY KEY, value BIGINT NOT NULL)")
@@ -320,7 +320,7 @@ def main() -> int:
         return 1
     except (NoServer, OSError, subprocess.SubprocessError) as error:
         print("cluster.py: %s" % error, file=sys.stderr)
-        return 1
+        return 1 if isinstance(error, OSError) else UNPLAYED
     return 0
 
 

@@ -37,7 +37,7 @@ sys.path[:0] = [str(HERE), str(HERE.parents[1] / "python")]
 import cluster  # noqa: E402
 from cluster import NODES, Cluster  # noqa: E402
 from tcc import clients  # noqa: E402
-from tcc.clients import Client, Failures, Recorded, Statements, Store, run_clients  # noqa: E402
+from tcc.clients import Client, Failures, NoServer, Recorded, Statements, Store, Unplayed, run_clients  # noqa: E402
 from tcc.notes import Event  # noqa: E402
 from tcc.words import command_line, count_within  # noqa: E402
 
@@ -190,13 +190,16 @@ class Troubles:
 
 @contextlib.contextmanager
 def meanwhile(nodes: Cluster, asked: argparse.Namespace) -> Iterator[Tuple[List[Event], List[str]]]:
-    """Meanwhile the troubles that are asked for happen, each kind in a thread; gives them, and a list of those that failed, and why."""
-    troubles, failed = Troubles(nodes, threading.Event()), []  # type: Troubles, List[str]
+    """Meanwhile the troubles that are asked for happen, each kind in a thread; gives them, and a list of those that failed, and why.
+    Unplayed where a node didn't come up in time."""
+    troubles, failed, unplayed = Troubles(nodes, threading.Event()), [], []  # type: Troubles, List[str], List[str]
     kinds = [(troubles.lag, asked.lag / 1000), (troubles.stop, asked.stop), (troubles.kill, asked.kill), (troubles.crash, asked.crash)]
 
     def run(trouble: Callable[[Any], None], much: Any) -> None:
         try:
             trouble(much)
+        except NoServer as error:
+            unplayed.append("--%s: %s" % (trouble.__name__, error))
         except Exception as error:
             failed.append("--%s ended early: %s" % (trouble.__name__, error))
 
@@ -209,6 +212,8 @@ def meanwhile(nodes: Cluster, asked: argparse.Namespace) -> Iterator[Tuple[List[
         troubles.over.set()
         for thread in working:
             thread.join()
+    if unplayed:
+        raise Unplayed("; ".join(unplayed))
 
 
 @contextlib.contextmanager

@@ -29,9 +29,9 @@ DEMO = Demo(
     library="psycopg2",
     needs="PostgreSQL, or no psycopg2 (in Debian postgresql and python3-psycopg2)",
     rounds={
-        "read-committed": ["--isolation", "read-committed"],
-        "repeatable-read": ["--isolation", "repeatable-read"],
-        "replica": ["--isolation", "repeatable-read", "--read-at", "replica"],
+        "read-committed": ["--isolation", "read-committed", "--at-least", "20"],
+        "repeatable-read": ["--isolation", "repeatable-read", "--at-least", "20"],
+        "replica": ["--isolation", "repeatable-read", "--read-at", "replica", "--at-least", "20"],
     },
     is_expected=is_expected,
     said="READ COMMITTED and the lagging replica give an anomaly, REPEATABLE READ is consistent")

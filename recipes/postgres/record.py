@@ -4,7 +4,9 @@
 Starts a server of its own on the loopback, in a new folder, and clients whose transactions are several statements each: reads
 of some keys and writes of others, at the level of isolation that --isolation says. With `--read-at replica` there is a
 streaming replica too, which applies what the primary did half a second later: each transaction that writes is then followed
-by one that reads the same keys at the replica. With `--kill N` a client's backend is ended N times while they work.
+by one that reads the same keys at the replica. With `--kill N` a client's backend is ended N times while they work. In the end a
+client's transaction reads two keys, which another client writes between, and the replica is read while it applies nothing: so
+what a level or a place lets happen doesn't go by luck.
 
 A transaction that the server refuses (a conflict of two writers) is noted as aborted, and so is one that broke off before its
 COMMIT went out; one that broke off in its COMMIT is of unknown outcome. Then the client goes on in a new session with a
@@ -43,7 +45,7 @@ EXAMPLE = """example: reads of two states within one transaction, and the rows o
   $ tcc explain --json < records.csv > answer.json
   $ picture.py answer.json --history records.csv --text
 """
-START_SECONDS = 30
+START_SECONDS = 120
 STOP_SECONDS = 20
 DELAY_MILLISECONDS = 500
 LEVELS = {"read-committed": "READ COMMITTED", "repeatable-read": "REPEATABLE READ", "serializable": "SERIALIZABLE"}
@@ -160,7 +162,46 @@ class Servers(Store):
             self.transact(client, connections[1], "replica", keys, [])
 
     def transact(self, client: Client, server, node: str, reads: List[str], writes: List[str]) -> List[str]:
-        return REGISTERS.transact(client, server, node, reads, writes, (self.driver.extensions.TransactionRollbackError,))
+        return REGISTERS.transact(client, server, node, reads, writes, self.refused())
+
+    def refused(self) -> Tuple[Type[Exception], ...]:
+        return (self.driver.extensions.TransactionRollbackError,)
+
+    def end(self, clients: List[Client]) -> None:
+        if len(clients) > 1:
+            self.read_two_states(*clients[:2])
+        if self.replica is not None:
+            self.read_behind(clients[0])
+
+    def read_two_states(self, one: Client, other: Client) -> None:
+        """One reads two keys in a transaction, and between these the other one, which has read the first, writes both."""
+        with contextlib.suppress(*self.refused()), one.connected() as mine, other.connected() as its:
+            with one.transaction("primary", self.refused()) as reading, mine[0].cursor() as cursor:
+                REGISTERS.read_key(reading, cursor, "k0")
+                self.transact(other, its[0], "primary", ["k0"], ["k0", "k1"])
+                REGISTERS.read_key(reading, cursor, "k1")
+                reading.committing()
+                mine[0].commit()
+
+    def read_behind(self, client: Client) -> None:
+        """The replica, once it has all, applies nothing more; a client writes a key that it has read, and reads it there."""
+        with contextlib.closing(self.host.connect(self.driver, self.primary, "asking")) as primary, \
+                contextlib.closing(self.host.connect(self.driver, self.replica, "pausing")) as replica:
+            primary.autocommit = replica.autocommit = True
+            there = first_cell(primary, "SELECT pg_current_wal_lsn()")
+            clients.wait_until(lambda: first_cell(replica, "SELECT pg_last_wal_replay_lsn() >= %s::pg_lsn", there), (), START_SECONDS,
+                               "the replica wasn't in step")
+            first_cell(replica, "SELECT pg_wal_replay_pause()")
+            with client.connected() as connections:
+                self.transact(client, connections[0], "primary", ["k0"], ["k0"])
+                self.transact(client, connections[1], "replica", ["k0"], [])
+            first_cell(replica, "SELECT pg_wal_replay_resume()")
+
+
+def first_cell(server, statement: str, *given: str):
+    with server.cursor() as cursor:
+        cursor.execute(statement, given)
+        return cursor.fetchone()[0]
 
 
 @contextlib.contextmanager

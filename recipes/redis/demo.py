@@ -25,7 +25,7 @@ DEMO = Demo(
     recorder=HERE / "record.py",
     library="redis",
     needs="redis-server on the path, or no redis-py (in Debian redis-server and python3-redis)",
-    rounds={"primary": ["--read-at", "primary"], "replica": ["--read-at", "replica"]},
+    rounds={"primary": ["--read-at", "primary", "--at-least", "20"], "replica": ["--read-at", "replica", "--at-least", "20"]},
     is_expected=is_expected,
     said="the primary alone is consistent, the lagging replica gives a stale read")
 

@@ -4,16 +4,16 @@
 Starts two servers of its own on the loopback, a primary and a replica that follows it, and clients that take turns of two
 transactions: one writes a key at the primary, the next reads that key and others, each in a MULTI. With `--read-at
 primary` the second one reads at the primary, so every client sees all that it wrote. With `--read-at replica` it reads at
-the replica, whose link to the primary is held for the first second: so clients don't see what they wrote themselves.
+the replica, whose link to the primary is held for the first turns: so clients don't see what they wrote themselves.
 
-Standard output has the records, standard error what was left out. Both servers are stopped in the end, whatever comes, and
-the whole takes no more than the seconds of --seconds and those in which a server starts and stops.
+Standard output has the records, standard error what was left out. Both servers are stopped in the end, whatever comes.
 
 Needs redis-server on the path and the library redis-py (in Debian the packages redis-server and python3-redis), and the
 package in python/.
 """
 import argparse
 import contextlib
+import itertools
 import pathlib
 import shutil
 import signal
@@ -34,9 +34,10 @@ EXAMPLE = """example: clients that read at a replica, and the rows of what they 
   $ tcc explain --json < records.csv > answer.json
   $ picture.py answer.json --history records.csv --text
 """
-START_SECONDS = 10
+START_SECONDS = 60
 ANSWER_SECONDS = 5
-HELD_SECONDS = 1.0
+# So many turns of each client the link is held for.
+HELD_TURNS = 10
 
 
 @dataclass
@@ -96,11 +97,14 @@ def wait_for(redis, port: int, is_so: Callable[..., bool], otherwise: str) -> No
 
 @dataclass
 class Servers(Store):
-    """Where clients write, and where they read."""
+    """Where clients write, and where they read; the link between is held until there were so many turns."""
 
     redis: object
     write_at: int
     read_at: int
+    link: Link
+    held: int = 0
+    turns: "itertools.count[int]" = field(default_factory=lambda: itertools.count(1))
 
     def broken(self) -> Tuple[Type[Exception], ...]:
         return (self.redis.exceptions.RedisError,)
@@ -111,6 +115,8 @@ class Servers(Store):
     def turn(self, client: Client, connections: Sequence) -> None:
         write_at, read_at = connections
         read(client, read_at, write(client, write_at), "primary" if self.read_at == self.write_at else "replica")
+        if next(self.turns) >= self.held:
+            self.link.free.set()
 
 
 def write(client: Client, server) -> str:
@@ -148,12 +154,9 @@ def recorded(asked: argparse.Namespace) -> Recorded:
         wait_for(redis, replica, lambda server: server.info("replication")["master_link_status"] == "up",
                  "the replica didn't follow")
         if asked.read_at == "primary":
-            return run_clients(Servers(redis, primary, primary), asked)
+            return run_clients(Servers(redis, primary, primary, link), asked)
         link.free.clear()
-        timer = threading.Timer(HELD_SECONDS, link.free.set)
-        timer.start()
-        held.callback(timer.cancel)
-        return run_clients(Servers(redis, primary, replica), asked)
+        return run_clients(Servers(redis, primary, replica, link, HELD_TURNS * asked.clients), asked)
 
 
 def main() -> int:

@@ -7,7 +7,7 @@ from typing import Callable, Dict, List, Optional
 from counted import Outcome
 
 TOP = pathlib.Path(__file__).resolve().parent.parent.parent
-SECONDS = 300
+SECONDS = 1800
 
 
 def run(words: List[str], folder: str, more: Optional[Dict[str, str]] = None, cwd: Optional[pathlib.Path] = None):

@@ -177,7 +177,7 @@ def asked(folder: pathlib.Path, tcc: List[str]) -> Iterator[Outcome]:
             wait(lambda: told)
         yield differs("what is told with " + name, [NoAnswer], [type(one) for one in told])
     slow = folder / "slow.sh"
-    slow.write_text("#!/bin/sh\nexec sleep 60\n")
+    slow.write_text("#!/bin/sh\nexec sleep 3000\n")
     slow.chmod(0o755)
     told = []
     with Recorder(folder / "slow.csv", ask=Asking(told.append, least=1, tcc=slow)) as recorder:
@@ -185,7 +185,7 @@ def asked(folder: pathlib.Path, tcc: List[str]) -> Iterator[Outcome]:
         wait(lambda: recorder._looking._running is not None)
         begun = time.monotonic()
     took = time.monotonic() - begun
-    yield "an end while an answer is worked out", None if took < 10 and not told else "%.1f s, %s" % (took, told)
+    yield "an end while an answer is worked out", None if took < 600 and not told else "%.1f s, %s" % (took, told)
 
 
 def wait(what) -> None:
@@ -206,7 +206,7 @@ def seals(folder: pathlib.Path, library: str, tcc: List[str]) -> Iterator[Outcom
         with c.transaction() as one:
             one.write("z", 3)
             yield differs("a seal while a transaction is under way", False, recorder.seal(0.05))
-            sealing = threading.Thread(target=recorder.seal)
+            sealing = threading.Thread(target=recorder.seal, args=(SECONDS,))
             sealing.start()
             wait(lambda: recorder._is_held)
             late = threading.Thread(target=ended, args=(b, [("r", "z", 3)], None, True))
@@ -215,7 +215,7 @@ def seals(folder: pathlib.Path, library: str, tcc: List[str]) -> Iterator[Outcom
         sealing.join()
         late.join()
         ended(b, [("r", "y", 2)], None, True)
-        yield differs("a seal once it has ended", True, recorder.seal())
+        yield differs("a seal once it has ended", True, recorder.seal(SECONDS))
     wanted = ["a,begin", "a,w,x,1", "a,unknown", "a.2,begin", "a.2,w,y,2", "a.2,unknown", "b,begin", "b,r,x,1", "b,commit",
               "c,begin", "c,w,z,3", "c,commit", "seal", "b,begin", "b,r,z,3", "b,commit", "b,begin", "b,r,y,2", "b,commit", "seal"]
     yield differs("records with seals", wanted, path.read_text().split())
@@ -231,7 +231,7 @@ def seals(folder: pathlib.Path, library: str, tcc: List[str]) -> Iterator[Outcom
         made = []
         for _ in range(2):
             time.sleep(0.1)
-            made.append(seal([second, first]))
+            made.append(seal([second, first], SECONDS))
         for thread in working:
             thread.join()
     yield differs("seals of two recorders at work", [True] * 2, made)

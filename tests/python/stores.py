@@ -25,8 +25,11 @@ from counted import Outcome
 from helpers import SECONDS, TOP, differs
 
 LOOPBACK = "127.0.0.1"
+# What clients of a round wait for an answer, so that some outcomes are unknown; elsewhere a server has the time that it takes.
 ANSWER_SECONDS = 0.3
-WORK_SECONDS = 5.0
+# A round is over after so many seconds and so many unknown outcomes, or wasn't played after the longest time; a server that doesn't
+# come up in time is started anew, so often in all.
+WORK_SECONDS, LEAST_UNKNOWN, LONGEST_SECONDS, START_SECONDS, TURNS = 5.0, 4, 120.0, 120.0, 3
 
 
 def shown(name: str) -> Any:
@@ -61,17 +64,34 @@ class Server:
         self.running.wait()
 
 
-def waited(what) -> None:
+class Unplayed(Exception):
+    """A server didn't come up, or a round didn't come far enough, on this machine."""
+
+
+def waited(server: Server, what) -> None:
     """Waits until a server answers."""
-    until = time.monotonic() + 20
+    until = time.monotonic() + START_SECONDS
     while True:
         try:
             what()
             return
-        except OSError:
-            if time.monotonic() > until:
-                raise
+        except OSError as error:
+            if time.monotonic() > until or server.running.poll() is not None:
+                raise Unplayed("%s didn't come up: %s" % (server.words[0], error)) from error
             time.sleep(0.05)
+
+
+def in_turns(name: str, play, folder: pathlib.Path) -> Iterator[Outcome]:
+    """The outcomes of what is played again, in a folder of its own, where it couldn't be played; passed over where it never could."""
+    for turn in range(1, TURNS + 1):
+        place = folder / ("%s.%d" % (name, turn))
+        place.mkdir()
+        try:
+            yield from list(play(place))
+            return
+        except Unplayed as error:
+            print("%s: turn %d of %d: %s" % (name, turn, TURNS, error))
+    print("%s: passed over: it couldn't be played here" % name)
 
 
 class Range:
@@ -96,13 +116,13 @@ class Etcd:
         get=lambda key: {"request_range": {"key": coded(key)}},
         put=lambda key, value: {"request_put": {"key": coded(key), "value": coded(value)}})
 
-    def __init__(self, port: int):
-        self.url = "http://%s:%d/v3/kv/txn" % (LOOPBACK, port)
+    def __init__(self, port: int, seconds: float = SECONDS):
+        self.url, self.seconds = "http://%s:%d/v3/kv/txn" % (LOOPBACK, port), seconds
 
     def transaction(self, compare=(), success=(), failure=()):
         body = json.dumps({"compare": list(compare), "success": list(success), "failure": list(failure)}).encode()
         try:
-            with urllib.request.urlopen(self.url, body, timeout=ANSWER_SECONDS) as answer:
+            with urllib.request.urlopen(self.url, body, timeout=self.seconds) as answer:
                 told = json.load(answer)
         except (urllib.error.URLError, ValueError) as error:
             raise OSError(str(error)) from error
@@ -115,7 +135,7 @@ class Redis:
     """What redis-py has of MULTI, over a socket."""
 
     def __init__(self, port: int):
-        self.file = socket.create_connection((LOOPBACK, port), timeout=ANSWER_SECONDS).makefile("rwb")
+        self.file = socket.create_connection((LOOPBACK, port), timeout=SECONDS).makefile("rwb")
 
     def ask(self, *words: str) -> Any:
         self.file.write(b"*%d\r\n" % len(words) + b"".join(b"$%d\r\n%s\r\n" % (len(word), word.encode()) for word in words))
@@ -166,7 +186,7 @@ def etcd(folder: pathlib.Path) -> Iterator[Any]:
                   "--listen-peer-urls", urls[1], "--initial-advertise-peer-urls", urls[1], "--initial-cluster", "default=" + urls[1],
                   "--log-level", "error"], folder)
     try:
-        waited(lambda: Etcd(port).transaction())
+        waited(one, lambda: Etcd(port, 1.0).transaction())
         yield one, port
     finally:
         one.kill()
@@ -221,13 +241,10 @@ def of_sql(folder: pathlib.Path, tcc: List[str]) -> Iterator[Outcome]:
 
 def of_redis(folder: pathlib.Path, tcc: List[str]) -> Iterator[Outcome]:
     from tcc import Recorder
-    if not shutil.which("redis-server"):
-        print("calls of a Redis: passed over: no redis-server on the path")
-        return
     port, path = free_port(), folder / "redis.csv"
     one = Server(["redis-server", "--port", str(port), "--bind", LOOPBACK, "--save", "", "--appendonly", "no"], folder / "redis")
     try:
-        waited(lambda: Redis(port).ask("PING"))
+        waited(one, lambda: Redis(port).ask("PING"))
         with Recorder(path) as recorder:
             session = recorder.session("a")
             values = [recorder.new_value() for _ in range(2)]
@@ -240,10 +257,10 @@ def of_redis(folder: pathlib.Path, tcc: List[str]) -> Iterator[Outcome]:
     yield differs("records of MULTI", wanted, path.read_text().split())
 
 
-def client(etcd_at: Etcd, recorder, number: int, until: float) -> None:
+def client(etcd_at: Etcd, recorder, number: int, over: threading.Event) -> None:
     """Swaps and reads, over a connection of its own for each call; after what is unknown a new session."""
     do, session, turn = etcd_at.transactions, recorder.session("c%d.%d" % (recorder.number, number)), 0
-    while time.monotonic() < until:
+    while not over.is_set():
         turn += 1
         keys = ["k%d" % ((turn * (number + 3) + each) % 6) for each in range(2)]
         try:
@@ -259,58 +276,71 @@ def client(etcd_at: Etcd, recorder, number: int, until: float) -> None:
             time.sleep(0.01)
 
 
-def troubled(server: Server, until: float) -> None:
-    """The server is stopped for longer than clients wait, so that what they gave up happens later, and killed and started again."""
-    turn = 0
-    while time.monotonic() < until - 1:
-        time.sleep(0.4)
-        turn += 1
-        if turn % 3 == 0:
-            server.kill()
-            server.start()
-        else:
-            server.running.send_signal(signal.SIGSTOP)
-            time.sleep(1.5 * ANSWER_SECONDS)
-            server.running.send_signal(signal.SIGCONT)
+def trouble(server: Server, turn: int) -> None:
+    """The server is stopped for longer than clients wait, so that what they gave up happens later, or killed and started again."""
+    if turn % 3 == 0:
+        server.kill()
+        server.start()
+    else:
+        server.running.send_signal(signal.SIGSTOP)
+        time.sleep(1.5 * ANSWER_SECONDS)
+        server.running.send_signal(signal.SIGCONT)
+
+
+def committed(recorders: list) -> int:
+    return sum(pathlib.Path(one.path).read_text().count(",commit\n") for one in recorders)
 
 
 def played(folder: pathlib.Path, recorders: list) -> None:
-    """A round of four clients for each recorder."""
+    """A round of four clients for each recorder, at an etcd in trouble, until some outcomes are unknown and some transactions committed."""
+    over = threading.Event()
     with etcd(folder) as (server, port):
-        until = time.monotonic() + WORK_SECONDS
-        working = [threading.Thread(target=client, args=(Etcd(port), one, number, until)) for one in recorders for number in range(4)]
+        etcd_at, begun, turn = Etcd(port, ANSWER_SECONDS), time.monotonic(), 0
+        working = [threading.Thread(target=client, args=(etcd_at, one, number, over)) for one in recorders for number in range(4)]
         for thread in working:
             thread.start()
-        troubled(server, until)
-        for thread in working:
-            thread.join()
+        try:
+            while time.monotonic() < begun + WORK_SECONDS or sum(one.unknown for one in recorders) < LEAST_UNKNOWN or committed(recorders) < 10:
+                if time.monotonic() > begun + LONGEST_SECONDS:
+                    raise Unplayed("too few transactions in %d seconds" % LONGEST_SECONDS)
+                time.sleep(0.4)
+                turn += 1
+                trouble(server, turn)
+        finally:
+            over.set()
+            for thread in working:
+                thread.join()
 
 
-def of_etcd(folder: pathlib.Path, tcc: List[str]) -> Iterator[Outcome]:
-    from tcc import Recorder
-    if not shutil.which("etcd"):
-        print("calls of an etcd: passed over: no etcd on the path")
-        return
+def calls_of_etcd(folder: pathlib.Path, tcc: List[str]) -> Iterator[Outcome]:
     with etcd(folder / "etcd") as (_, port):
         compare_and_put = shown("compare_and_put")
         yield from comparisons("etcd", folder, tcc, lambda session, *told: compare_and_put(session, Etcd(port), *told))
-    path = folder / "round.csv"
-    with Recorder(path) as recorder:
-        played(folder / "etcd-round", [recorder])
-        unknown = recorder.close()
-    yield "a round at an etcd that is stopped and killed", None if unknown > 3 else "only %d of unknown outcome" % unknown
-    yield differs("the answer for it", 0, status(tcc, path))
-    print("round at etcd: %d transactions, %d of unknown outcome" % (path.read_text().count("begin"), unknown))
-    paths = [folder / "round.a.csv", folder / "round.b.csv"]
-    recorders = [Recorder(each, number=number) for number, each in enumerate(paths)]
-    played(folder / "etcd-two", recorders)
-    unknown = sum(one.close() for one in recorders)
-    yield differs("the answer for a round of two recorders", 0, status(tcc, *paths))
-    print("round of two recorders: %d transactions, %d of unknown outcome" % (
-        sum(each.read_text().count("begin") for each in paths), unknown))
+
+
+def round_at_etcd(folder: pathlib.Path, tcc: List[str], recorders: int) -> Iterator[Outcome]:
+    """A round of so many recorders, whose records make one history."""
+    from tcc import Recorder
+    with contextlib.ExitStack() as held:
+        every = [held.enter_context(Recorder(folder / ("round.%d.csv" % number), number=number)) for number in range(recorders)]
+        played(folder / "etcd", every)
+        unknown = sum(one.close() for one in every)
+    paths = [pathlib.Path(one.path) for one in every]
+    name = "a round of %d recorders at an etcd that is stopped and killed" % recorders
+    yield name, None if unknown >= LEAST_UNKNOWN else "only %d of unknown outcome" % unknown
+    yield differs("the answer for " + name, 0, status(tcc, *paths))
+    print("%s: %d transactions, %d of unknown outcome" % (name, sum(each.read_text().count("begin") for each in paths), unknown))
 
 
 def outcomes(folder: pathlib.Path, tcc: List[str]) -> Iterator[Outcome]:
     yield from of_sql(folder, tcc)
-    yield from of_redis(folder, tcc)
-    yield from of_etcd(folder, tcc)
+    if shutil.which("redis-server"):
+        yield from in_turns("calls of a Redis", lambda place: of_redis(place, tcc), folder)
+    else:
+        print("calls of a Redis: passed over: no redis-server on the path")
+    if not shutil.which("etcd"):
+        print("calls of an etcd: passed over: no etcd on the path")
+        return
+    yield from in_turns("calls of an etcd", lambda place: calls_of_etcd(place, tcc), folder)
+    for recorders in (1, 2):
+        yield from in_turns("round of %d" % recorders, lambda place, many=recorders: round_at_etcd(place, tcc, many), folder)

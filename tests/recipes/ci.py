@@ -15,7 +15,7 @@ sys.path.insert(0, str(TOP / "tests"))
 from counted import Outcome  # noqa: E402
 
 STEP = TOP / "recipes/ci/causal.yml"
-SECONDS = 300
+SECONDS = 1800
 STALE = "a,begin\na,w,x,1\na,commit\na,begin\na,r,x,0\na,commit\n"
 # The files of the folder, the status, and what the step prints.
 CASES = (

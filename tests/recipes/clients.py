@@ -23,7 +23,7 @@ sys.path.insert(0, str(TOP / "tests"))
 sys.path.insert(0, str(TOP / "python"))
 from counted import Outcome  # noqa: E402
 
-SECONDS = 300
+SECONDS = 1800
 WORK = [(["x"], ["x", "y"]), (["x", "y"], []), ([], ["y"]), (["z"], ["x"])]
 LAST = "read z"
 KINDS = ("before", "behind", "refused")
@@ -154,10 +154,10 @@ def recorded(cuts: Dict[int, str], keeps: bool) -> Tuple[Server, Done]:
                 mine.committing()
                 connections[0].commit()
 
-    both = []
+    both, until = [], time.monotonic() + SECONDS
     for number, work in ((1, WORK), (2, [(["x", "y"], [])])):
         both.append(clients.Client(Store(work), number, 2, random.Random(1), keeps))
-        both[-1].work(len(work), time.monotonic() + SECONDS)
+        both[-1].work(clients.Much(len(work), 0, until, until))
         server.cuts = {}
     ends = {True: "commit", False: "abort", None: "unknown"}
     return server, [(one.session, one.operations, ends[one.committed]) for client in both for one in client.done]

@@ -15,7 +15,7 @@ sys.path.insert(0, str(TOP / "tests"))
 sys.path.insert(0, str(TOP / "python"))
 from counted import Outcome  # noqa: E402
 
-SECONDS = 300
+SECONDS = 1800
 MOST_ORDERED = 7  # transactions of which all orders are tried
 
 

@@ -17,7 +17,7 @@ from counted import Outcome
 
 TOP = pathlib.Path(__file__).resolve().parent.parent.parent
 REPORT = TOP / "recipes/report.py"
-SECONDS = 300
+SECONDS = 1800
 VOID = {"meta", "link", "br", "img", "line", "rect", "path", "circle"}
 # What a browser is asked once the page stands: what happens at a click, how wide all is, and what is there.
 QUESTIONS = """

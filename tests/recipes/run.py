@@ -55,7 +55,7 @@ from counted import Outcome, guarded, status_of  # noqa: E402
 
 CASES = HERE / "cases"
 RECIPES = TOP / "recipes"
-SECONDS = 300
+SECONDS = 1800
 # A demo plays on, and again, on a busy machine; asked to end it has so many to stop its servers.
 DEMO_SECONDS, END_SECONDS = 3600, 120
 WITHOUT_SERVER = 77

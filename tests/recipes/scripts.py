@@ -22,7 +22,7 @@ from counted import Outcome
 
 TOP = pathlib.Path(__file__).resolve().parent.parent.parent
 RECIPES = TOP / "recipes"
-SECONDS = 300
+SECONDS = 1800
 INTERRUPTED = 130
 sys.path.insert(0, str(TOP / "python"))
 
@@ -274,7 +274,7 @@ def interruptions(tcc: List[str]) -> Iterator[Outcome]:
     yield "picture.py interrupted", interrupted(script("picture.py"), b"{", b"picture.py: interrupted", has_read)
     with tempfile.TemporaryDirectory() as folder:
         slow, records, begun = (pathlib.Path(folder, name) for name in ("tcc", "records.csv", "begun"))
-        slow.write_text("#!/bin/sh\ntest \"$1\" = explain && { : > '%s'; exec sleep 60; }\nexec %s \"$@\"\n" % (begun, os.path.abspath(tcc[-1])))
+        slow.write_text("#!/bin/sh\ntest \"$1\" = explain && { : > '%s'; exec sleep 3000; }\nexec %s \"$@\"\n" % (begun, os.path.abspath(tcc[-1])))
         slow.chmod(0o755)
         records.write_text((TOP / "examples/stale-read.csv").read_text())
         page = os.path.join(folder, "page.html")
