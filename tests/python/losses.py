@@ -148,6 +148,12 @@ def reopened(folder: pathlib.Path) -> Iterator[Outcome]:
             one.write("x", value)
     wanted = text.split() + ["a.2,begin", "a.2,w,y,4096", "a.2,w,x,%d" % value, "a.2,commit"]
     yield differs("records whose last one aborted", wanted, texts(path))
+    unknown = folder / "unknown.csv"
+    text = "a,begin\na,w,x,4096\na,commit\nb,begin\nb,w,x,8192\nb,unknown\n"
+    unknown.write_text(text)
+    with Recorder(unknown) as recorder:
+        ended(recorder.session("b"), [("r", "x", 8192)], None, True)
+    yield differs("records whose last one is of unknown outcome", text.split() + ["b.2,begin", "b.2,r,x,8192", "b.2,commit"], texts(unknown))
     many = folder / "many.csv"
     given = set()
     for _ in range(3):

@@ -78,6 +78,21 @@ def dead(folder: pathlib.Path, library: str, tcc: List[str]) -> Iterator[Outcome
     yield differs("the answer for it", 0, status(tcc, *paths))
 
 
+def settled(folder: pathlib.Path, library: str) -> Iterator[Outcome]:
+    """What one process left open: two whose values one transaction read, one that only an aborted transaction read, one that nobody
+    read."""
+    path = folder / "settled.csv"
+    read = "r,begin\nr,r,x,5\nr,r,y,6\nr,commit\nq,begin\nq,r,z,7\nq,abort\n"
+    path.write_text(read)
+    (folder / "settled.csv.pending").write_text("".join("%s,1,%s,%d,0.5,n0\n" % one for one in (("a", "x", 5), ("b", "y", 6), ("c", "z", 7), ("d", "x", 8))))
+    done = run([sys.executable, os.path.join(library, "bin/tcc-settle"), str(path)], library)
+    said = "tcc-settle: of unknown outcome 2 read, so committed, 2 unread, so aborted\n"
+    yield differs("tcc-settle of two that were read", (0, said), (done.returncode, done.stderr))
+    wanted = read + "".join("%s,begin\n%s,w,%s,%d\n%s,%s\n" % (one[0], *one[:3], one[0], one[3]) for one in (
+        ("a", "x", 5, "commit"), ("b", "y", 6, "commit"), ("c", "z", 7, "abort"), ("d", "x", 8, "abort")))
+    yield differs("records of two that were read", wanted.split(), path.read_text().split())
+
+
 def work(store: Store, recorder, number: int) -> None:
     """Swaps and reads; one answer in four gets lost, of what happened and of what didn't."""
     chance, session = random.Random(number), recorder.session("c%d.%d" % (recorder.number, number))
@@ -117,4 +132,5 @@ def at_work(folder: pathlib.Path, tcc: List[str]) -> Iterator[Outcome]:
 def outcomes(folder: pathlib.Path, library: str, tcc: List[str]) -> Iterator[Outcome]:
     yield from least(folder, tcc)
     yield from dead(folder, library, tcc)
+    yield from settled(folder, library)
     yield from at_work(folder, tcc)

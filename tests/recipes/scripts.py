@@ -2,6 +2,7 @@
 interrupted, at a terminal, and in the lines of RECORDING that answer for a large history."""
 import array
 import fcntl
+import importlib.util
 import io
 import json
 import os
@@ -16,6 +17,7 @@ import sys
 import tempfile
 import termios
 import time
+from collections import Counter
 from typing import Callable, Dict, Iterator, List, Optional, Tuple
 
 from counted import Outcome
@@ -231,6 +233,71 @@ def contradicted_reads() -> Iterator[Outcome]:
     yield "contradicted reads are there", None if told > 1000 else "only %d" % told
 
 
+def surveys_in_python() -> Iterator[Outcome]:
+    """The package's survey is that of tests/survey/definition.py, on its random histories: of more sessions than a block has room for, of
+    reads after own writes, of operations that can't be judged. Blocks of one session too, by searches and by clocks."""
+    from tcc import contradicted
+    from tcc.rows import read_history
+    definition, drawn = (module_of(TOP / "tests/survey" / name) for name in ("definition.py", "run.py"))
+    kept, counts = (contradicted.SEARCHED, contradicted.BLOCK), Counter()
+    dice, wrong = random.Random(7), None
+    for number in range(300):
+        records, level = with_own_reads(drawn.random_records(dice), dice), ("causal", "atomic")[number % 2]
+        wanted = definition.survey(records, level)
+        counts.update({"sessions": len({one.session for one in wanted.history.transactions}) > 65, "faults": bool(wanted.history.faults),
+                       "own": "BrokenInternal" in {one.kind for one in wanted.history.faults}, "circular": wanted.contradicted is None})
+        for contradicted.SEARCHED, contradicted.BLOCK in (kept, (0, kept[1]), (0, 1)):
+            wrong = wrong or difference(wanted, contradicted.survey(read_history(io.StringIO(records)), level, lambda what: None)[0], number)
+    contradicted.SEARCHED, contradicted.BLOCK = kept
+    yield "surveys in Python", wrong
+    yield "histories for them", None if min(counts[one] for one in ("sessions", "faults", "own", "circular")) > 3 else str(counts)
+
+
+def with_own_reads(records: str, dice: random.Random) -> str:
+    """The records with reads of what the transaction wrote itself: mostly of the last value, else of what it had written before, or of
+    nothing."""
+    lines: List[str] = []
+    wrote: Dict[Tuple[str, str], List[str]] = {}
+    for line in records.splitlines():
+        lines.append(line)
+        session, what, *rest = line.split(",")
+        if what == "begin":
+            wrote = {pair: values for pair, values in wrote.items() if pair[0] != session}
+        elif what == "w":
+            values = wrote.setdefault((session, rest[0]), [])
+            values.append(rest[1])
+            if dice.random() < 0.2:
+                lines.append("%s,r,%s,%s" % (session, rest[0], values[-1] if dice.random() < 0.8 else dice.choice(["0", values[0]])))
+    return "".join(line + "\n" for line in lines)
+
+
+def module_of(path: pathlib.Path):
+    """A module of another folder of tests, by a name of its own."""
+    sys.path.insert(0, str(path.parent))  # for what it imports
+    spec = importlib.util.spec_from_file_location("%s_%s" % (path.parent.name, path.stem), path)
+    assert spec and spec.loader
+    module = importlib.util.module_from_spec(spec)
+    sys.modules[spec.name] = module
+    spec.loader.exec_module(module)
+    sys.path.remove(str(path.parent))
+    return module
+
+
+def difference(wanted, got, number: int) -> Optional[str]:
+    """Where the package's survey of a history isn't that of the definition."""
+    history = wanted.history
+    faults = sorted((one.kind, one.label, one.operation.key, str(one.operation.value)) for one in history.faults)
+    found = sorted((one.kind, one.label, one.operation.key, one.operation.value) for one in got.faults)
+    if faults != found or (wanted.contradicted is None) != bool(got.circular):
+        return "history %d: wanted the faults %s, got %s" % (number, faults, found)
+    told = [(history.label(one.reader), one.read.key, str(one.read.value), history.label(one.read.source), history.label(one.writer), one.name)
+            for one in wanted.contradicted or ()]
+    listed = [(one.reader, one.operation.key, one.operation.value, one.source, one.writer, one.name) for one in got.contradicted]
+    if wanted.contradicted is not None and (sorted(told) != sorted(listed) or wanted.reads() != got.reads):
+        return "history %d: wanted %s of %d, got %s of %d" % (number, told, wanted.reads(), listed, got.reads)
+    return None
+
+
 def interrupted(words: List[str], given: bytes, wanted: bytes, is_at_it: Callable[["subprocess.Popen[bytes]"], bool]) -> Optional[str]:
     """What a script that is interrupted, once it is at its work, does otherwise than it should: it says what it has, without a
     traceback."""
@@ -372,6 +439,7 @@ def outcomes(tcc: List[str]) -> Iterator[Outcome]:
     yield from random_edn()
     yield from lines_of_edn_py()
     yield from contradicted_reads()
+    yield from surveys_in_python()
     yield from interruptions(tcc)
     yield from many_faults()
     yield from by_survey(tcc)
