@@ -17,8 +17,7 @@ use Rattle.tcc_txn.specs.Symbols.{IsNumber}
 use Rattle.tcc_txn.specs.declared.op.Op.{Op}
 use Rattle.tcc_txn.specs.declared.op.Op.TheVariants.{Get, Put}
 use Rattle.tcc_reads.specs.Sources.{name_cmp, puts_at}
-use Rattle.tcc_reads.specs.private.Numbers.{Numbered}
-use Rattle.tcc_reads.specs.private.KeyIndices.{indices_put, has_key, index_of, key_index, writes_key, AreKeysOf, AreKnownIn, AreKnown}
+use Rattle.tcc_reads.specs.private.KeyIndices.{indices_put, has_key, index_of, key_index, AreKnownIn}
 use Rattle.tcc_reads.proofs.Ties.{same_name, itself, numbers_same}
 
 -- ---- the first that passes
@@ -167,22 +166,25 @@ missed names x i sorted searched =
       | inr above ↦ untied_above (point.1 k d above h) tie
     ]))
 
--- ---- the keys of some transactions
+-- ---- the key at an index
 
-known_in : (keys : List (List ℕ)) (ops : List Op) → ((x : List ℕ) → list_any (puts_at x) ops ≡ true → has_key keys x ≡ true) → AreKnownIn keys ops
-known_in keys [] all = tt
-known_in keys (Get key value ∷ later) all = known_in keys later all
-known_in keys (Put key value ∷ later) all = (
-  all key (or_left (bytes_eq key key) (list_any (puts_at key) later) (itself key)),
-  known_in keys later (λ x e. all x (or_right (bytes_eq key x) (list_any (puts_at x) later) e)),
-)
+position_reached : {X : Type 0} (p : X → Bool) (from : ℕ) (xs : List X) (k : ℕ) → position_from p from xs ≡ Some k
+    → (j : ℕ) × (k ≡ from + j) × (j < length xs) × ((d : X) → p (get_or xs j d) ≡ true)
+position_reached p from [] k is = absurd cc
+position_reached {X} p from (x ∷ xs) k is = go (p x) refl is (position_reached p (from + 1) xs k)
+  where
+    go : (b : Bool) → p x ≡ b → cond b (Some from) (position_from p (from + 1) xs) ≡ Some k
+        → (position_from p (from + 1) xs ≡ Some k → (j : ℕ) × (k ≡ from + 1 + j) × (j < length xs) × ((d : X) → p (get_or xs j d) ≡ true))
+        → (j : ℕ) × (k ≡ from + j) × (j < length (x ∷ xs)) × ((d : X) → p (get_or (x ∷ xs) j d) ≡ true)
+    go true e is rest = let same : from ≡ k = cc in (0, omega (arith, same), omega arith, λ d. e)
+    go false e is rest = let w = rest is in (suc w.0, omega (arith, w.1), omega (arith, w.2), w.3)
 
-known : (keys : List (List ℕ)) (ns : List Numbered) → ((x : List ℕ) → list_any (writes_key x) ns ≡ true → has_key keys x ≡ true) → AreKnown keys ns
-known keys [] all = tt
-known keys (n ∷ later) all = (
-  known_in keys n.stand.txn.ops (λ x e. all x (or_left (writes_key x n) (list_any (writes_key x) later) e)),
-  known keys later (λ x e. all x (or_right (writes_key x n) (list_any (writes_key x) later) e)),
-)
-
-pub all_known : (ns : List Numbered) (keys : List (List ℕ)) → AreKeysOf ns keys → AreKnown keys ns
-all_known ns keys are = known keys ns (λ x e. are x ∙ e)
+-- a key that is there stands at its index
+pub stands_at : (keys : List (List ℕ)) (x : List ℕ) → has_key keys x ≡ true → IsNumber keys x (key_index keys x)
+stands_at keys x there =
+    let w = position_reached (bytes_eq x) 0 keys (key_index keys x) (index_is keys x there) in
+    let same : w.0 ≡ key_index keys x = omega (arith, w.1) in
+    record {
+      within = omega (arith, w.1, w.2);
+      named = sym (same_name x (get_or keys (key_index keys x) []) (ap (λ j. bytes_eq x (get_or keys j [])) (sym same) ∙ w.3 []));
+    }

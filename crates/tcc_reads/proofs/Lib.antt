@@ -1,6 +1,8 @@
 pub mod WorkedRows
 pub mod Ties
 pub mod Indices
+pub mod KeyNumbers
+pub mod Steps
 pub mod Tables
 pub mod Listed
 pub mod Groups

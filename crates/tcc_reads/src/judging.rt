@@ -1,7 +1,7 @@
 //! What each operation of a transaction is: a fault, an external read with its source, or neither.
-ghost use Rattle.std.specs.Prelude.{◌≡◌, ◌≤◌, length, true, [], ◌++◌, IfOk, OnOk, option_to_list, if◌then◌else◌, None};
+ghost use Rattle.std.specs.Prelude.{◌≡◌, ◌≤◌, length, true, [], ◌++◌, map, IfOk, OnOk, option_to_list, if◌then◌else◌, None};
 ghost use Rattle.std.specs.Option.{option_copied};
-ghost use Rattle.tcc_txn.specs.{declared.limits.TheConstants.MAX_OPERATIONS, Transactions.op_key, Transactions.op_value};
+ghost use Rattle.tcc_txn.specs.{KeyNumbers.AreNumbers, Symbols.IsNumber, declared.limits.TheConstants.MAX_OPERATIONS, Transactions.op_key, Transactions.op_value};
 ghost use Rattle.tcc_reads.specs.{Sources.visible_write, private.Tracings.is_outside, private.Tracings.sources_traced};
 ghost use Rattle.tcc_reads.specs.private.Verdicts.{writers_in, is_in, write_judgement, read_judgement, op_judgement, fault_in, source_in, IsOwn, AreOwnIn, faults_found, sources_found};
 
@@ -85,25 +85,27 @@ fn latest_write(ops: &[Op], key: &Name) -> Option<u64>
     None
 }
 
-/// Of an operation at a position of its transaction, from 1, after these. Where no value was written twice, writes need no
-/// look-up.
+/// Of an operation at a position of its transaction, from 1, after these, by the index of its key. Where no value was written
+/// twice, writes need no look-up.
 fn judgement_of(
     writers: &Writers,
     distinct: bool,
     standing: &Standing<'_>,
     position: u16,
     op: Op,
+    index: u32,
     before: &[Op],
 ) -> OpJudgement
-    requires { distinct ≡ true → IsOwn (writers_in writers.now) standing.now position op }
+    requires own { distinct ≡ true → IsOwn (writers_in writers.now) standing.now position op }
+    requires index { IsNumber writers.now.keys (op_key op) index }
     ensures { result ≡ op_judgement (writers_in writers.now) standing.now position op (visible_write (op_key op) before.now) }
 {
     match op {
-        Op::Put { key, value } => {
+        Op::Put { value, .. } => {
             if distinct {
                 OpJudgement::Silent
             } else {
-                write_judgement(standing, position, first_writer(writers, &key, value))
+                write_judgement(standing, position, first_writer(writers, index, value))
             }
         }
         Op::Get { key, value } => {
@@ -122,7 +124,7 @@ fn judgement_of(
                     if value == 0 {
                         OpJudgement::ReadsFrom(0)
                     } else {
-                        read_judgement(standing, first_writer(writers, &key, value))
+                        read_judgement(standing, first_writer(writers, index, value))
                     }
                 }
             }
@@ -181,17 +183,20 @@ fn note_traced(
     Ok(())
 }
 
-/// Judges these operations of a transaction: adds its faults, and gives its external reads with their sources.
+/// Judges these operations of a transaction, by the indices of their keys: adds its faults, and gives its external reads with
+/// their sources.
 pub(crate) fn judge(
     alloc: Global,
     writers: &Writers,
     distinct: bool,
     standing: &Standing<'_>,
     ops: &[Op],
+    indices: &[u32],
     faults: &mut Vec<ReadFault>,
 ) -> Result<Vec<(Name, u32)>, AllocError>
     requires ops { ops.now ≡ standing.now.stand.txn.ops }
     requires few { length ops.now ≤ MAX_OPERATIONS }
+    requires indices { AreNumbers writers.now.keys indices.now (map op_key ops.now) }
     requires own { distinct ≡ true → AreOwnIn (writers_in writers.now) standing.now [] ops.now }
     ensures faults { IfOk result (λ _. faults.new.items ≡ faults.old.items ++ faults_found (writers_in writers.now) standing.now) }
     ensures sources { IfOk result (λ reads. reads.items ≡ sources_found (writers_in writers.now) standing.now) }
@@ -199,28 +204,35 @@ pub(crate) fn judge(
     let mut reads = Vec::new(alloc);
     for (before, op) in ops.iter().enumerate() {
         let position = before as u16 + 1;
-        let judgement = judgement_of(writers, distinct, standing, position, *op, &ops[..before]);
+        let index = indices[before];
+        let earlier = &ops[..before];
+        let judgement = judgement_of(writers, distinct, standing, position, *op, index, earlier);
         note(standing, position, op, judgement, faults, &mut reads)?;
     }
     Ok(reads)
 }
 
-/// Traces the external reads of a transaction of these operations: gives those without a fault, with their sources, but none of these keys and values.
+/// Traces the external reads of a transaction of these operations, by the indices of their keys: gives those without a fault, with
+/// their sources, but none of these keys and values.
 pub(crate) fn trace(
     alloc: Global,
     writers: &Writers,
     rewrites: &BTreeSet<(Name, u64)>,
     standing: &Standing<'_>,
     ops: &[Op],
+    indices: &[u32],
 ) -> Result<Vec<(Name, u32)>, AllocError>
     requires ops { ops.now ≡ standing.now.stand.txn.ops }
     requires few { length ops.now ≤ MAX_OPERATIONS }
+    requires indices { AreNumbers writers.now.keys indices.now (map op_key ops.now) }
     ensures { IfOk result (λ reads. reads.items ≡ sources_traced (writers_in writers.now) (is_outside rewrites.now) standing.now) }
 {
     let mut reads = Vec::new(alloc);
     for (before, op) in ops.iter().enumerate() {
         let position = before as u16 + 1;
-        let judgement = judgement_of(writers, false, standing, position, *op, &ops[..before]);
+        let index = indices[before];
+        let earlier = &ops[..before];
+        let judgement = judgement_of(writers, false, standing, position, *op, index, earlier);
         note_traced(rewrites, op, judgement, &mut reads)?;
     }
     Ok(reads)

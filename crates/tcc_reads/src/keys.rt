@@ -1,18 +1,17 @@
-//! The keys that transactions write, each by its index. A look-up asks a cache of indices and compares one name; where that
-//! is another one it halves the names, in as many steps as the logarithm of their count.
-ghost use Rattle.std.specs.Prelude.{All, ◌≡◌, ◌<◌, ◌≤◌, ◌||◌, true, List, ℕ, length, IfOk, IfSome, OnOk};
-ghost use Rattle.std.specs.List.{list_any};
+//! The keys of a snapshot's operations, each by its index in byte order. Each name is looked up once, however many operations it
+//! has: a cache of indices is asked, and one name compared; where that is another one the names are halved, in as many steps as
+//! the logarithm of their count.
+ghost use Rattle.std.specs.Prelude.{All, ◌≡◌, ◌<◌, ◌≤◌, true, List, ℕ, length, map, slice_index_or, IfOk, IfSome};
+ghost use Rattle.std.specs.FinMap.{entries};
 ghost use Rattle.std.specs.List.Sorted.{IsStrictlySortedBy};
-ghost use Rattle.tcc_txn.specs.Symbols.{IsNumber};
-ghost use Rattle.tcc_reads.specs.{Sources.name_cmp, Sources.puts_at, private.Numbers.IsPlace, private.Numbers.numbered};
-ghost use Rattle.tcc_reads.specs.private.KeyIndices.{has_key, index_of, key_index, writes_key, AreKeysOf};
+ghost use Rattle.tcc_txn.specs.{KeyNumbers.AreNumbers, KeyNumbers.keys_in, Symbols.IsNumber};
+ghost use Rattle.tcc_reads.specs.Sources.{name_cmp};
+ghost use Rattle.tcc_reads.specs.private.KeyIndices.{has_key, index_of, key_index};
 
-use crate::numbering::visit;
 use crate::sorting::sorted_once;
-use crate::standing::Place;
 use std::alloc::Global;
 use std::marker::Model;
-use tcc_txn::{Bounds, Name, Nearby, NoMemory, Op, SnapshotWithin, SymbolTable};
+use tcc_txn::{Bounds, KeyNumbers, Name, Nearby, NoMemory, SnapshotWithin};
 
 /// Names of keys in byte order, each once.
 #[derive(Drop)]
@@ -35,44 +34,6 @@ impl Model for Keys {
     ghost invariant = { λ k. IsStrictlySortedBy name_cmp k.names.items × (length k.names.items ≤ MAX) };
 }
 
-/// Adds the key of a write.
-fn add_key(keys: &mut SymbolTable, op: &Op) -> Result<(), NoMemory>
-    ensures { OnOk result ((x : List ℕ) → has_key keys.new x ≡ (puts_at x op.now || has_key keys.old x)) }
-{
-    if let Op::Put { key, .. } = op {
-        keys.number(*key)?;
-    }
-    Ok(())
-}
-
-/// Adds the keys that some operations write.
-fn add_keys(keys: &mut SymbolTable, ops: &[Op]) -> Result<(), NoMemory>
-    ensures { OnOk result ((x : List ℕ) → has_key keys.new x ≡ (list_any (puts_at x) ops.now || has_key keys.old x)) }
-{
-    for op in ops {
-        add_key(keys, op)?;
-    }
-    Ok(())
-}
-
-/// The keys that these transactions write, each once.
-fn keys_written<B: Bounds>(
-    alloc: Global,
-    snapshot: &SnapshotWithin<B>,
-    places: &[Place],
-) -> Result<SymbolTable, NoMemory>
-    requires { All (IsPlace snapshot.now) places.now }
-    ensures { IfOk result (λ keys. (x : List ℕ) → has_key keys x ≡ list_any (writes_key x) (numbered snapshot.now places.now)) }
-{
-    let mut keys = SymbolTable::new(alloc);
-    let mut ops = Vec::new(alloc);
-    for place in places {
-        visit(snapshot, place, &mut ops)?;
-        add_keys(&mut keys, &ops)?;
-    }
-    Ok(keys)
-}
-
 /// These names, of their own.
 fn copied(alloc: Global, names: &[Name]) -> Result<Vec<Name>, NoMemory>
     ensures { IfOk result (λ copy. copy.items ≡ names.now) }
@@ -80,31 +41,34 @@ fn copied(alloc: Global, names: &[Name]) -> Result<Vec<Name>, NoMemory>
     Ok(names.iter().copied().collect(alloc)?)
 }
 
-/// The keys of a table in order.
-fn in_order(alloc: Global, keys: &SymbolTable) -> Result<Vec<Name>, NoMemory>
-    ensures same { IfOk result (λ names. (x : List ℕ) → has_key names.items x ≡ has_key keys.now x) }
-    ensures sorted { IfOk result (λ names. IsStrictlySortedBy name_cmp names.items) }
+/// Names in order, each once.
+fn in_order(alloc: Global, names: &[Name]) -> Result<Vec<Name>, NoMemory>
+    ensures same { IfOk result (λ keys. (x : List ℕ) → has_key keys.items x ≡ has_key names.now x) }
+    ensures sorted { IfOk result (λ keys. IsStrictlySortedBy name_cmp keys.items) }
 {
-    let names = copied(alloc, keys.names())?;
+    let names = copied(alloc, names)?;
     Ok(sorted_once(names))
 }
 
 impl Keys {
-    /// The keys that these transactions write. More than a number of 32 bits counts are answered as `NoMemory`.
-    pub fn of<B: Bounds>(
-        alloc: Global,
-        snapshot: &SnapshotWithin<B>,
-        places: &[Place],
-    ) -> Result<Keys, NoMemory>
-        requires { All (IsPlace snapshot.now) places.now }
-        ensures { IfOk result (λ keys. AreKeysOf (numbered snapshot.now places.now) keys) }
+    /// The keys of these names. More than a number of 32 bits counts are answered as `NoMemory`.
+    fn of(alloc: Global, names: &[Name]) -> Result<Keys, NoMemory>
+        ensures { IfOk result (λ keys. (x : List ℕ) → has_key keys x ≡ has_key names.now x) }
     {
-        let names = in_order(alloc, &keys_written(alloc, snapshot, places)?)?;
+        let names = in_order(alloc, names)?;
         if names.len() > u32::MAX as usize {
             return Err(NoMemory);
         }
         let nearby = Nearby::of(alloc, &names)?;
         Ok(Keys { names, nearby })
+    }
+
+    /// They are in byte order, each once.
+    pub fn are_sorted(&self)
+        ensures { IsStrictlySortedBy name_cmp self.now }
+    {
+        // The proof reads here that the names are in order.
+        let _ = &self.names;
     }
 
     /// How many there are.
@@ -127,7 +91,7 @@ impl Keys {
     }
 
     /// The index of a key; none where it isn't there.
-    pub fn find(&self, key: &Name) -> Option<u32>
+    fn find(&self, key: &Name) -> Option<u32>
         ensures value { result ≡ index_of self.now key.now }
         ensures within { IfSome result (λ k. k < length self.now) }
     {
@@ -143,10 +107,56 @@ impl Keys {
     }
 
     /// The index of a key that is there.
-    pub fn index(&self, key: &Name) -> u32
+    fn index(&self, key: &Name) -> u32
         requires { has_key self.now key.now ≡ true }
         ensures { result ≡ key_index self.now key.now }
     {
         self.find(key).unwrap()
     }
+}
+
+/// The index of each of these names.
+fn ranks(alloc: Global, keys: &Keys, names: &[Name]) -> Result<Vec<u32>, NoMemory>
+    requires { (x : List ℕ) → has_key keys.now x ≡ has_key names.now x }
+    ensures { IfOk result (λ ranks. AreNumbers keys.now ranks.items names.now) }
+{
+    let mut ranks = Vec::with_capacity(alloc, names.len())?;
+    for name in names {
+        ranks.push(keys.index(name))?;
+    }
+    Ok(ranks)
+}
+
+/// The ranks at these numbers.
+fn ranks_at(alloc: Global, ranks: &[u32], numbers: &[u32]) -> Result<Vec<u32>, NoMemory>
+    requires { All (λ n. n < length ranks.now) numbers.now }
+    ensures { IfOk result (λ found. found.items ≡ map (λ n. slice_index_or ranks.now n 0) numbers.now) }
+{
+    let mut found = Vec::with_capacity(alloc, numbers.len())?;
+    for number in numbers {
+        found.push(ranks[*number as usize])?;
+    }
+    Ok(found)
+}
+
+/// The keys of operations.
+#[derive(Drop)]
+pub(crate) struct KeyIndices {
+    pub keys: Keys,
+    /// The index of the key of each operation, in order.
+    pub indices: Vec<u32>,
+}
+
+/// The keys of the operations of a snapshot.
+pub(crate) fn key_indices<B: Bounds>(
+    alloc: Global,
+    snapshot: &SnapshotWithin<B>,
+) -> Result<KeyIndices, NoMemory>
+    ensures { IfOk result (λ found. AreNumbers found.keys found.indices.items (keys_in (entries snapshot.now))) }
+{
+    let KeyNumbers { names, numbers } = snapshot.key_numbers(alloc)?;
+    let keys = Keys::of(alloc, &names)?;
+    let ranks = ranks(alloc, &keys, &names)?;
+    let indices = ranks_at(alloc, &ranks, &numbers)?;
+    Ok(KeyIndices { keys, indices })
 }

@@ -1,7 +1,7 @@
 //! The resolver.
-ghost use Rattle.std.specs.Prelude.{All, ◌≡◌, ◌≤◌, ◌+◌, true, [], ◌∷◌, ◌++◌, length, sum_by, filter_map, flat_map, IfOk, OnOk, MatchResult};
-ghost use Rattle.tcc_txn.specs.{Limits.most_sessions, Limits.most_transactions, declared.limits.TheConstants.MAX_OPERATIONS};
-ghost use Rattle.tcc_reads.specs.{Faults.read_faults, Refusals.IsRefusal, private.Numbers.IsPlace, private.Numbers.numbered};
+ghost use Rattle.std.specs.Prelude.{All, ◌≡◌, ◌≤◌, ◌+◌, true, [], ◌∷◌, ◌++◌, length, map, sum_by, filter_map, flat_map, IfOk, OnOk, MatchResult};
+ghost use Rattle.tcc_txn.specs.{KeyNumbers.AreNumbers, Limits.most_sessions, Limits.most_transactions, Transactions.op_key, declared.limits.TheConstants.MAX_OPERATIONS};
+ghost use Rattle.tcc_reads.specs.{Faults.read_faults, Refusals.IsRefusal, private.KeyIndices.keys_used, private.Numbers.IsPlace, private.Numbers.numbered};
 ghost use Rattle.tcc_reads.specs.History.{initial, count, places_of};
 ghost use Rattle.tcc_reads.specs.Sources.{name_cmp, pair_cmp, key_put, sorted_once, writes_of, history};
 ghost use Rattle.tcc_reads.specs.private.Verdicts.{writers_in, AreOwn, AreOwnIn, faults_found, entries_found};
@@ -51,22 +51,25 @@ pub(crate) fn transaction(
     })
 }
 
-/// Adds a transaction of these operations, if it was committed, and its faults.
+/// Adds a transaction of these operations, by the indices of their keys, if it was committed, and its faults.
 fn examine_one(
     alloc: Global,
     first: &FirstWrites,
     standing: &Standing<'_>,
     ops: &[Op],
+    indices: &[u32],
     transactions: &mut Vec<Transaction>,
     faults: &mut Vec<ReadFault>,
 ) -> Result<(), AllocError>
     requires ops { ops.now ≡ standing.now.stand.txn.ops }
     requires few { length ops.now ≤ MAX_OPERATIONS }
+    requires indices { AreNumbers first.now.writers.keys indices.now (map op_key ops.now) }
     requires own { first.now.distinct ≡ true → AreOwnIn (writers_in first.now.writers) standing.now [] ops.now }
     ensures transactions { OnOk result (transactions.new.items ≡ transactions.old.items ++ entries_found (writers_in first.now.writers) (standing.now ∷ [])) }
     ensures faults { OnOk result (faults.new.items ≡ faults.old.items ++ faults_found (writers_in first.now.writers) standing.now) }
 {
-    let reads = judge(alloc, &first.writers, first.distinct, standing, ops, faults)?;
+    let (writers, distinct) = (&first.writers, first.distinct);
+    let reads = judge(alloc, writers, distinct, standing, ops, indices, faults)?;
     if standing.txn.committed() {
         transactions.push(transaction(alloc, standing, ops, reads)?)?;
     }
@@ -101,6 +104,7 @@ pub(crate) fn examine<B: Bounds>(
     places: &[Place],
 ) -> Result<Findings, NoMemory>
     requires places { All (IsPlace snapshot.now) places.now }
+    requires indices { AreNumbers first.now.writers.keys first.now.indices.items (keys_used (numbered snapshot.now places.now)) }
     requires own { first.now.distinct ≡ true → AreOwn (writers_in first.now.writers) (numbered snapshot.now places.now) }
     ensures transactions { IfOk result (λ found. found.transactions.items
         ≡ initial ∷ entries_found (writers_in first.now.writers) (numbered snapshot.now places.now)) }
@@ -109,16 +113,20 @@ pub(crate) fn examine<B: Bounds>(
     let mut transactions = with_initial(alloc)?;
     let mut faults = Vec::new(alloc);
     let mut ops = Vec::new(alloc);
+    let mut left = first.indices.as_slice();
     for place in places {
         let standing = visit(snapshot, place, &mut ops)?;
+        let (mine, later) = left.split_at(ops.len());
         examine_one(
             alloc,
             first,
             &standing,
             &ops,
+            mine,
             &mut transactions,
             &mut faults,
         )?;
+        left = later;
     }
     Ok(Findings {
         transactions,

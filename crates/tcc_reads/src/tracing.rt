@@ -1,9 +1,10 @@
 //! What can be traced of a snapshot some of whose operations are faulty.
-ghost use Rattle.std.specs.Prelude.{All, ◌≡◌, ◌≤◌, length, ◌||◌, ◌∷◌, ◌++◌, [], List, ℕ, IfOk, OnOk};
+ghost use Rattle.std.specs.Prelude.{All, ◌≡◌, ◌≤◌, length, map, ◌||◌, ◌∷◌, ◌++◌, [], List, ℕ, IfOk, OnOk};
 ghost use Rattle.std.specs.BTreeSet.{contains};
 ghost use Rattle.std.specs.List.{list_any};
+ghost use Rattle.tcc_txn.specs.{KeyNumbers.AreNumbers, Transactions.op_key};
 ghost use Rattle.tcc_txn.specs.declared.limits.TheConstants.{MAX_OPERATIONS};
-ghost use Rattle.tcc_reads.specs.{History.initial, Sources.pair_cmp, Faults.read_faults, private.Numbers.IsPlace, private.Numbers.numbered, private.Verdicts.writers_in, private.Verdicts.entries_found, private.Tracings.entries_traced, private.Tracings.is_outside};
+ghost use Rattle.tcc_reads.specs.{History.initial, Sources.pair_cmp, Faults.read_faults, private.KeyIndices.keys_used, private.Numbers.IsPlace, private.Numbers.numbered, private.Verdicts.writers_in, private.Verdicts.entries_found, private.Tracings.entries_traced, private.Tracings.is_outside};
 ghost use Rattle.tcc_reads.specs.Traced.{is_duplicate, is_rewrite, is_unique, traced_history};
 
 use crate::judging::trace;
@@ -60,6 +61,29 @@ fn rewrites(alloc: Global, faults: &[ReadFault]) -> Result<BTreeSet<(Name, u64)>
     Ok(found)
 }
 
+/// Adds a transaction of these operations, by the indices of their keys, if it was committed, with the reads that can be traced.
+fn trace_one(
+    alloc: Global,
+    first: &FirstWrites,
+    rewrites: &BTreeSet<(Name, u64)>,
+    standing: &Standing<'_>,
+    ops: &[Op],
+    indices: &[u32],
+    transactions: &mut Vec<Transaction>,
+) -> Result<(), AllocError>
+    requires ops { ops.now ≡ standing.now.stand.txn.ops }
+    requires few { length ops.now ≤ MAX_OPERATIONS }
+    requires indices { AreNumbers first.now.writers.keys indices.now (map op_key ops.now) }
+    ensures { OnOk result (transactions.new.items ≡ transactions.old.items
+        ++ entries_traced (writers_in first.now.writers) (is_outside rewrites.now) (standing.now ∷ [])) }
+{
+    if standing.txn.committed() {
+        let reads = trace(alloc, &first.writers, rewrites, standing, ops, indices)?;
+        transactions.push(transaction(alloc, standing, ops, reads)?)?;
+    }
+    Ok(())
+}
+
 /// The initial and the committed transactions, with the reads that can be traced.
 fn trace_all<B: Bounds>(
     alloc: Global,
@@ -68,18 +92,27 @@ fn trace_all<B: Bounds>(
     snapshot: &SnapshotWithin<B>,
     places: &[Place],
 ) -> Result<Vec<Transaction>, NoMemory>
-    requires { All (IsPlace snapshot.now) places.now }
+    requires places { All (IsPlace snapshot.now) places.now }
+    requires indices { AreNumbers first.now.writers.keys first.now.indices.items (keys_used (numbered snapshot.now places.now)) }
     ensures { IfOk result (λ traced. traced.items
         ≡ initial ∷ entries_traced (writers_in first.now.writers) (is_outside rewrites.now) (numbered snapshot.now places.now)) }
 {
     let mut transactions = with_initial(alloc)?;
     let mut ops = Vec::new(alloc);
+    let mut left = first.indices.as_slice();
     for place in places {
         let standing = visit(snapshot, place, &mut ops)?;
-        if standing.txn.committed() {
-            let reads = trace(alloc, &first.writers, rewrites, &standing, &ops)?;
-            transactions.push(transaction(alloc, &standing, &ops, reads)?)?;
-        }
+        let (mine, later) = left.split_at(ops.len());
+        trace_one(
+            alloc,
+            first,
+            rewrites,
+            &standing,
+            &ops,
+            mine,
+            &mut transactions,
+        )?;
+        left = later;
     }
     Ok(transactions)
 }
@@ -93,6 +126,7 @@ fn keep_traced<B: Bounds>(
     found: &mut Findings,
 ) -> Result<(), NoMemory>
     requires places { All (IsPlace snapshot.now) places.now }
+    requires indices { AreNumbers first.now.writers.keys first.now.indices.items (keys_used (numbered snapshot.now places.now)) }
     requires found { found.old.transactions.items ≡ initial ∷ entries_found (writers_in first.now.writers) (numbered snapshot.now places.now) }
     ensures transactions { OnOk result (found.new.transactions.items
         ≡ initial ∷ entries_traced (writers_in first.now.writers) (is_unique found.old.faults.items) (numbered snapshot.now places.now)) }

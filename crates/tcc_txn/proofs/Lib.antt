@@ -12,3 +12,4 @@ pub mod SnapshotFaults
 pub mod SortedParts
 pub mod StoredSnapshot
 pub mod NumberedNames
+pub mod NumberedKeys

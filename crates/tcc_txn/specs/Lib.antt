@@ -6,4 +6,5 @@ pub mod Nested
 pub mod Transactions
 pub mod Snapshots
 pub mod Symbols
+pub mod KeyNumbers
 pub mod private

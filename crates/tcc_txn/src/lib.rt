@@ -3,6 +3,7 @@
 
 mod alike;
 mod by_name;
+mod key_numbers;
 mod limits;
 mod list;
 mod memory;
@@ -17,6 +18,7 @@ mod symbols;
 mod txn;
 
 pub use alike::{Alike, are_same};
+pub use key_numbers::KeyNumbers;
 pub use limits::{
     Bounds, LARGE_COUNT, LARGE_INPUT_BYTES, LARGE_KEYS, LARGE_SESSIONS, LARGE_TRANSACTIONS,
     LargeLimits, Limits, MAX_COUNT, MAX_INPUT_BYTES, MAX_KEYS, MAX_NAME_BYTES, MAX_OPERATIONS,

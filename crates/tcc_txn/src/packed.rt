@@ -2,17 +2,17 @@
 //! and takes 16 bytes, and the operations of a session stand one behind the other, as the edges of an adjacency list in
 //! compressed rows. One more transaction costs a look-up for each of its operations.
 ghost use Rattle.std.specs.Prelude.{◌≡◌, ◌≤◌, ◌<◌, ◌⊎◌, ◌++◌, ◌∷◌, [], T, List, None, IfErr, IfOk, OnErr, OnOk, length, option_map, slice_get};
-ghost use Rattle.std.specs.Prelude.{unwrap_or};
+ghost use Rattle.std.specs.Prelude.{unwrap_or, ◌+◌, All, flat_map, map};
 ghost use Rattle.std.specs.Cmp.Lexicographic.{slice_cmp};
 ghost use Rattle.std.specs.FinMap.Entries.{find, is_sorted, put};
 ghost use Rattle.std.specs.List.{insert};
 ghost use Rattle.std.specs.Ordering.{nat_cmp};
-ghost use Rattle.tcc_txn.specs.{Limits.most_sessions, Nested.IsPrefix, Snapshots.listed_at, declared.packed.PackedOp.PackedOp};
-ghost use Rattle.tcc_txn.specs.private.Packing.{AllPacked, ArePacked, PacksOps, op_in, sessions_in, txns_in};
+ghost use Rattle.tcc_txn.specs.{Limits.most_sessions, Nested.IsPrefix, Snapshots.listed_at, KeyNumbers.AreNumbers, KeyNumbers.keys_in, declared.packed.PackedOp.PackedOp};
+ghost use Rattle.tcc_txn.specs.private.Packing.{AllPacked, ArePacked, PacksOps, numbers_at, numbers_of, op_in, sessions_in, txns_in};
 
 use crate::by_name::part_of;
 use crate::symbols::{SymbolTable, number_of};
-use crate::{GrowFault, Limits, Name, NoMemory, Op, Recorded, Txn};
+use crate::{GrowFault, KeyNumbers, Limits, Name, NoMemory, Op, Recorded, Txn};
 use std::alloc::Global;
 use std::marker::Model;
 
@@ -209,7 +209,56 @@ fn packed_at<'a>(keys: &'a [Name], txns: &'a PackedTxns, index: usize) -> Option
     }
 }
 
+/// Adds the numbers of the keys of some operations.
+fn push_numbers(numbers: &mut Vec<u32>, ops: &[PackedOp]) -> Result<(), NoMemory>
+    ensures { OnOk result (numbers.new.items ≡ numbers.old.items ++ map (λ op. op.key) ops.now) }
+{
+    for op in ops {
+        numbers.push(op.key)?;
+    }
+    Ok(())
+}
+
+/// Adds the numbers of the keys of the operations of a session.
+fn push_numbers_of(numbers: &mut Vec<u32>, txns: &PackedTxns) -> Result<(), NoMemory>
+    requires { All (λ span. span.start + span.len ≤ length txns.now.ops.items) txns.now.spans.items }
+    ensures { OnOk result (numbers.new.items ≡ numbers.old.items ++ numbers_of txns.now) }
+{
+    for span in &txns.spans {
+        let start = span.start as usize;
+        push_numbers(numbers, &txns.ops[start..start + span.len as usize])?;
+    }
+    Ok(())
+}
+
+/// The numbers of the keys of the operations of some sessions.
+fn numbers_in(
+    alloc: Global,
+    keys: &[Name],
+    sessions: &[(Name, PackedTxns)],
+) -> Result<Vec<u32>, NoMemory>
+    requires { AllPacked keys.now sessions.now }
+    ensures { IfOk result (λ numbers. AreNumbers keys.now numbers.items (keys_in (sessions_in keys.now sessions.now))) }
+{
+    let mut numbers = Vec::new(alloc);
+    for part in sessions {
+        push_numbers_of(&mut numbers, &part.1)?;
+    }
+    Ok(numbers)
+}
+
 impl PackedSessions {
+    /// The keys, and the number of the key of each operation.
+    pub(crate) fn key_numbers(&self, alloc: Global) -> Result<KeyNumbers, NoMemory>
+        ensures { IfOk result (λ keys. AreNumbers keys.names.items keys.numbers.items (keys_in self.now)) }
+    {
+        let names = self.keys.names();
+        Ok(KeyNumbers {
+            names: names.iter().copied().collect(alloc)?,
+            numbers: numbers_in(alloc, names, &self.sessions)?,
+        })
+    }
+
     /// No sessions.
     pub(crate) fn new(alloc: Global) -> PackedSessions
         ensures { result ≡ [] }

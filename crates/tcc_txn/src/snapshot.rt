@@ -9,6 +9,7 @@ ghost use Rattle.std.specs.List.Sorted.{IsPermutation, IsSortedByKey};
 ghost use Rattle.std.specs.Ordering.{nat_cmp};
 ghost use Rattle.tcc_txn.specs.{Limits.most_sessions, Limits.most_transactions, private.SnapshotStorage.IsStoredWithin, private.SnapshotStorage.shown};
 ghost use Rattle.tcc_txn.specs.Finished.{IsWithinLimits, KeepsLimits, transaction_count, with_transaction};
+ghost use Rattle.tcc_txn.specs.KeyNumbers.{AreNumbers, keys_in};
 ghost use Rattle.tcc_txn.specs.Snapshots.{finished_at, parts_of, first_repeated, snapshot_fault, snapshot_fault_within};
 ghost use Rattle.tcc_txn.specs.declared.limits.TheConstants.{LARGE_SESSIONS, LARGE_TRANSACTIONS, MAX_SESSIONS, MAX_TRANSACTIONS};
 ghost use Rattle.std.specs.Cmp.Lexicographic.{pointwise, slice_cmp};
@@ -17,8 +18,8 @@ ghost use Rattle.std.specs.Option.{option_map_or};
 use crate::by_name::part_of;
 use crate::storage::Storage;
 use crate::{
-    Alike, Bounds, LargeLimits, Limits, MAX_SESSIONS, MAX_TRANSACTIONS, Name, NoMemory, Recorded,
-    SmallLimits, Txn,
+    Alike, Bounds, KeyNumbers, LargeLimits, Limits, MAX_SESSIONS, MAX_TRANSACTIONS, Name, NoMemory,
+    Recorded, SmallLimits, Txn,
 };
 use std::alloc::{AllocFailed, Global};
 use std::collections::BTreeSet;
@@ -440,6 +441,13 @@ impl<B: Bounds> SnapshotWithin<B> {
         ensures { result ≡ slice_get (finished_at self.now i) index }
     {
         self.sessions.recorded(i, index)
+    }
+
+    /// The keys, and the number of the key of each operation: by session in byte order of the names, by place and by position.
+    pub fn key_numbers(&self, alloc: Global) -> Result<KeyNumbers, NoMemory>
+        ensures { IfOk result (λ keys. AreNumbers keys.names.items keys.numbers.items (keys_in (sessions.entries self.now))) }
+    {
+        self.sessions.key_numbers(alloc)
     }
 
     /// Whether the snapshots are equal.

@@ -1,13 +1,14 @@
 //! Where the sessions of a snapshot lie: each in a vector of its transactions, or packed.
-ghost use Rattle.std.specs.Prelude.{◌≡◌, ◌≤◌, ◌<◌, ◌⊎◌, ◌++◌, ◌∷◌, [], T, None, IfErr, OnErr, OnOk, length, option_map, slice_get, unwrap_or};
+ghost use Rattle.std.specs.Prelude.{◌≡◌, ◌≤◌, ◌<◌, ◌⊎◌, ◌++◌, ◌∷◌, [], T, None, IfErr, IfOk, OnErr, OnOk, length, option_map, slice_get, unwrap_or};
 ghost use Rattle.std.specs.Cmp.Lexicographic.{slice_cmp};
 ghost use Rattle.std.specs.FinMap.Entries.{find, is_sorted, put};
 ghost use Rattle.std.specs.Ordering.{nat_cmp};
-ghost use Rattle.tcc_txn.specs.{Limits.most_sessions, Snapshots.listed_at, Snapshots.parts_of, private.Storing.IsPlain, private.Storing.parts_in, declared.limits.Limits.TheVariants.Small};
+ghost use Rattle.tcc_txn.specs.{Limits.most_sessions, Snapshots.listed_at, Snapshots.parts_of, KeyNumbers.AreNumbers, KeyNumbers.keys_in, private.Storing.IsPlain, private.Storing.parts_in, declared.limits.Limits.TheVariants.Small};
 
+use crate::key_numbers::numbered;
 use crate::packed::PackedSessions;
 use crate::snapshot::add_to;
-use crate::{GrowFault, Limits, Name, Recorded, Txn};
+use crate::{GrowFault, KeyNumbers, Limits, Name, NoMemory, Recorded, Txn};
 use std::alloc::Global;
 
 /// The sessions of a snapshot.
@@ -96,6 +97,16 @@ impl Storage {
         match self {
             Storage::Plain(parts) => recorded_at(transactions_at(parts, i), index),
             Storage::Packed(sessions) => sessions.recorded(i, index),
+        }
+    }
+
+    /// The keys, and the number of the key of each operation.
+    pub(crate) fn key_numbers(&self, alloc: Global) -> Result<KeyNumbers, NoMemory>
+        ensures { IfOk result (λ keys. AreNumbers keys.names.items keys.numbers.items (keys_in (parts_in self.now))) }
+    {
+        match self {
+            Storage::Plain(parts) => numbered(alloc, parts),
+            Storage::Packed(sessions) => sessions.key_numbers(alloc),
         }
     }
 

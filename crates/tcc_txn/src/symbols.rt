@@ -65,6 +65,13 @@ impl SymbolTable {
         &self.names
     }
 
+    /// The names, each at its number, given away.
+    pub(crate) fn into_names(self) -> Vec<Name>
+        ensures { result.items ≡ self }
+    {
+        self.names
+    }
+
     /// The number of a name that the cache knows; none says nothing.
     fn near(&self, name: &Name) -> Option<u32>
         ensures { IfSome result (λ n. IsNumber self.now name.now n) }

@@ -1,10 +1,10 @@
--- The keys that are written, each by its index.
-use Rattle.std.specs.Prelude.{ℕ, ◌≡◌, Bool, true, List, [], ◌∷◌, Option, unwrap_or}
+-- The keys of operations, each by its index.
+use Rattle.std.specs.Prelude.{ℕ, ◌≡◌, Bool, true, List, [], ◌∷◌, map, flat_map, Option, unwrap_or}
 use Rattle.std.specs.List.{list_any, position_from}
 use Rattle.std.specs.Str.{bytes_eq}
 use Rattle.tcc_txn.specs.declared.op.Op.{Op}
 use Rattle.tcc_txn.specs.declared.op.Op.TheVariants.{Get, Put}
-use Rattle.tcc_reads.specs.Sources.{puts_at}
+use Rattle.tcc_txn.specs.Transactions.{op_key}
 use Rattle.tcc_reads.specs.private.Numbers.{Numbered}
 
 abbrev pub has_key : List (List ℕ) → List ℕ → Bool
@@ -18,13 +18,9 @@ index_of keys x = position_from (bytes_eq x) 0 keys
 abbrev pub key_index : List (List ℕ) → List ℕ → ℕ
 key_index keys x = unwrap_or (index_of keys x) 0
 
--- whether a transaction writes a key
-abbrev pub writes_key : List ℕ → Numbered → Bool
-writes_key x n = list_any (puts_at x) n.stand.txn.ops
-
--- the keys are those that these transactions write
-abbrev pub AreKeysOf : List Numbered → List (List ℕ) → Type 0
-AreKeysOf ns keys = (x : List ℕ) → has_key keys x ≡ list_any (writes_key x) ns
+-- the keys of the operations of these transactions, in order
+abbrev pub keys_used : List Numbered → List (List ℕ)
+keys_used ns = flat_map (λ n. map op_key n.stand.txn.ops) ns
 
 -- each key that these operations write is there
 abbrev pub AreKnownIn : List (List ℕ) → List Op → Type 0

@@ -1,6 +1,6 @@
 -- How sessions lie packed in memory: an operation has the number of its key in a table of names, and the operations of a
 -- session stand one behind the other.
-use Rattle.std.specs.Prelude.{ℕ, ◌≡◌, ◌≤◌, ◌<◌, ◌+◌, if◌then◌else◌, List, [], map, length, take, drop, All, slice_index_or, None}
+use Rattle.std.specs.Prelude.{ℕ, ◌≡◌, ◌≤◌, ◌<◌, ◌+◌, if◌then◌else◌, List, [], map, flat_map, length, take, drop, All, slice_index_or, None}
 use Rattle.tcc_txn.specs.Transactions.{Transaction, txn_fault}
 use Rattle.tcc_txn.specs.declared.op.Op.{Op}
 use Rattle.tcc_txn.specs.declared.op.Op.TheVariants.{Get, Put}
@@ -48,3 +48,11 @@ AllPacked names sessions = All (λ part. ArePacked names part.1) sessions
 pub record PacksOps (names : Names) (packed : List PackedOp) (ops : List Op) : Type 0 where
   pub named : AreNamed names packed
   pub same : map (op_in names) packed ≡ ops
+
+-- the numbers of the keys of the operations that have a span
+abbrev pub numbers_at : List PackedOp → Span → List ℕ
+numbers_at ops span = map (λ op. op.key) (take span.len (drop span.start ops))
+
+-- the numbers of the keys of the operations of a session
+abbrev pub numbers_of : PackedTxns → List ℕ
+numbers_of txns = flat_map (numbers_at txns.ops.items) txns.spans.items

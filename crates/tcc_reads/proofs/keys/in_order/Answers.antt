@@ -13,7 +13,7 @@ pub returns-clause-same : goal.returns-clause-same
 returns-clause-same c x =
     ap (λ names. has_key names x) c.sorted_once.ensures
     ∙ any_once nat_list_cmp_total exact_bytes (bytes_eq x) c.in_ok-names.names.items
-    ∙ ap (λ names. has_key names x) (c.in_ok-names.ensures ∙ c.names.ensures)
+    ∙ ap (λ names. has_key names x) c.in_ok-names.ensures
 
 pub returns-clause-sorted : goal.returns-clause-sorted
 returns-clause-sorted c = rw c.sorted_once.ensures (once_sorted nat_list_cmp_total c.in_ok-names.names.items)

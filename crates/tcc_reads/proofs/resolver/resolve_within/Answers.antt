@@ -10,6 +10,9 @@ use Rattle.tcc_reads.proofs.resolver.resolve_within.Given.{Over}
 use Rattle.tcc_reads.proofs.resolver.resolve_within.Goals.{In_ok-transactions, Then-is_empty}
 use Rattle.tcc_reads.proofs.resolver.resolve_within.Goals as goal
 
+pub first_writes-requires-clause-all : goal.first_writes-requires-clause-all
+first_writes-requires-clause-all g c = ap (numbered c.args.snapshot.now) c.deref.ensures.value ∙ c.in_ok-stands.ensures.list
+
 found : (g : Over) (c : In_ok-transactions g) → AreFindings (entries c.args.snapshot.now) c.in_ok-sessions.sessions.items
     (writers_in c.in_ok-first.first.writers) c.in_ok-transactions.field-0.transactions.items c.in_ok-transactions.field-0.faults.items
 found g c =

@@ -12,6 +12,9 @@ use Rattle.tcc_reads.proofs.tracing.resolve_traced.Given.{Over}
 use Rattle.tcc_reads.proofs.tracing.resolve_traced.Goals.{In_ok-keep_traced}
 use Rattle.tcc_reads.proofs.tracing.resolve_traced.Goals as goal
 
+pub first_writes-requires-clause-all : goal.first_writes-requires-clause-all
+first_writes-requires-clause-all g c = ap (numbered c.args.snapshot.now) c.deref.ensures.value ∙ c.in_ok-stands.ensures.list
+
 found : (g : Over) (c : In_ok-keep_traced g) → AreFindings (entries c.args.snapshot.now) c.in_ok-sessions.sessions.items
     (writers_in c.in_ok-first.first.writers) c.in_ok-found.found.transactions.items c.in_ok-found.found.faults.items
 found g c =

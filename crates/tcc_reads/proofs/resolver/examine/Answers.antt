@@ -1,0 +1,42 @@
+use Rattle.std.proofs.Common.{◌≡◌, ℕ, List, drop, take, ap, ◌∙◌, arith}
+use Rattle.tcc_reads.specs.private.Numbers.{Numbered}
+use Rattle.tcc_reads.specs.private.Verdicts.{writers_in}
+use Rattle.tcc_reads.proofs.KeyNumbers.{enough, mine, theirs}
+use Rattle.tcc_reads.proofs.Steps.{entries_taken, faults_taken, own_later}
+use Rattle.tcc_reads.proofs.resolver.examine.Goals as goal
+
+pub split_at-requires : goal.split_at-requires
+split_at-requires g c =
+    let same = c.in_ok-standing.ensures.ops ∙ ap (λ (n : Numbered). n.stand.txn.ops) c.in_ok-standing.ensures.standing in
+    omega (
+      arith,
+      c.len.ensures,
+      enough c.args.snapshot.now c.args.places.now c.loop-place.place-index _ c.loop-place-test.true c.args.first.now.writers.keys c.loop-place.left.now
+          c.loop-place.invariant.indices c.visit.new.ops.items same,
+    )
+
+pub examine_one-requires-clause-indices : goal.examine_one-requires-clause-indices
+examine_one-requires-clause-indices g c =
+    let same = c.in_ok-standing.ensures.ops ∙ ap (λ (n : Numbered). n.stand.txn.ops) c.in_ok-standing.ensures.standing in
+    rw c.deref.ensures.value
+    (mine c.args.snapshot.now c.args.places.now c.loop-place.place-index _ c.loop-place-test.true c.args.first.now.writers.keys c.loop-place.left.now
+    c.loop-place.invariant.indices c.visit.new.ops.items same c.split_at.result.0.now
+    (c.split_at.ensures.front ∙ ap (λ (k : ℕ). take k c.loop-place.left.now) (c.len.ensures ∙ c.visit.new.ops.ok.0)))
+
+pub loop-place-preserved : goal.loop-place-preserved
+loop-place-preserved g c =
+    let s = c.args.snapshot.now in
+    let places = c.args.places.now in
+    let i : ℕ = c.loop-place.place-index in
+    let table = writers_in c.args.first.now.writers in
+    let standing = c.in_ok-standing.ensures.standing in
+    let same = c.in_ok-standing.ensures.ops ∙ ap (λ (n : Numbered). n.stand.txn.ops) standing in
+    record {
+      indices = theirs s places i _ c.loop-place-test.true c.args.first.now.writers.keys c.loop-place.left.now c.loop-place.invariant.indices
+          c.visit.new.ops.items same c.split_at.result.1.now (c.split_at.ensures.back ∙ ap (λ (k : ℕ). drop k c.loop-place.left.now) (c.len.ensures ∙ c.visit.new.ops.ok.0));
+      own = λ distinct. own_later s places i _ c.loop-place-test.true c.in_ok-standing.standing standing table (c.loop-place.invariant.own distinct);
+      transactions = entries_taken s places i _ c.loop-place-test.true c.in_ok-standing.standing standing table c.loop-place.transactions.items
+          c.examine_one.new.transactions.items _ c.in_ok-examine_one.ensures.transactions c.loop-place.invariant.transactions;
+      faults = faults_taken s places i _ c.loop-place-test.true c.in_ok-standing.standing standing table c.loop-place.faults.items
+          c.examine_one.new.faults.items _ c.in_ok-examine_one.ensures.faults c.loop-place.invariant.faults;
+    }
