@@ -1,0 +1,13 @@
+//! The first of the least cycles by the rule of ties, in a history of any size: from where the first one starts its links are picked
+//! from the last backwards. Where a least cycle costs three steps at most, as most do, it shows at one place, and no search is needed.
+#![tactic(auto)]
+
+mod cheapest_links;
+mod ranges;
+mod returns;
+mod short;
+mod starts;
+mod two_steps;
+mod ways;
+
+pub use short::first_short;
