@@ -7,3 +7,4 @@ pub mod NamedRows
 pub mod StepLemmas
 pub mod LatestLemmas
 pub mod SpanLemmas
+pub mod NeededLemmas

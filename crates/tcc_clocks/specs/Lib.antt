@@ -1,4 +1,5 @@
 pub mod Parents
 pub mod Clocks
 pub mod Spans
+pub mod Needed
 pub mod private

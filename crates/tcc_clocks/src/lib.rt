@@ -5,6 +5,7 @@
 #![tactic(auto)]
 
 mod latest;
+mod needed;
 mod parents;
 mod rows;
 mod sharing;
@@ -12,8 +13,9 @@ mod side;
 mod spans;
 
 pub use latest::{WIDE, find_clocks, owners};
+pub use needed::{KeySources, mark_blocks, needed_blocks};
 pub use parents::{Steps, between, find_parents, parents_of, previous_of_each, steps_along};
 pub use rows::{like, put_row, raise_each};
 pub use sharing::{Clock, SharedRows};
 pub use side::Side;
-pub use spans::{block_bounds, find_spans};
+pub use spans::{block_bounds, find_spans, span_of};

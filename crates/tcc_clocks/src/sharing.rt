@@ -1,7 +1,7 @@
 //! Rows of numbers, one for each transaction, of which equal ones may be held once: a transaction has the index of its row, and
 //! rows only join at the end, so a table of N transactions has at most N + 1 rows of 64 numbers, mostly far fewer. Whether two
 //! transactions share a row is one comparison of indices: those that do are equal, the others needn't differ.
-ghost use Rattle.std.specs.Prelude.{◌≡◌, ◌<◌, ℕ, true, length, set, All, IfOk, OnOk};
+ghost use Rattle.std.specs.Prelude.{◌≡◌, ◌<◌, ℕ, true, length, set, All, IfOk, IfSome, OnOk};
 ghost use Rattle.tcc_graph.specs.Tables.{row_of};
 
 use crate::latest::WIDE;
@@ -97,18 +97,37 @@ impl SharedRows {
         Ok(())
     }
 
+    /// One of these transactions that has this row, of several the one whose row was put down first: so those who share more and
+    /// more of what they know come to share one row.
+    fn first_like(&self, row: &[u32], others: &[u32]) -> Option<u32>
+        requires { All (λ p. p < length self.now) others.now }
+        ensures inside { IfSome result (λ other. other < length self.now) }
+        ensures like { IfSome result (λ other. row_of self.now other ≡ row.now) }
+    {
+        let mut like = None;
+        let mut first = u32::MAX;
+        for other in others {
+            let held = self.which[*other as usize];
+            if held < first && self.is(*other, row) {
+                like = Some(*other);
+                first = held;
+            }
+        }
+        like
+    }
+
     /// Gives a transaction a row, that of one of these where it is the same.
     pub fn put_like(&mut self, number: u32, row: &Clock, others: &[u32]) -> Result<(), NoMemory>
         requires number { number < length self.old }
         requires others { All (λ p. p < length self.old) others.now }
         ensures { OnOk result (self.new ≡ set self.old number row.now) }
     {
-        for other in others {
-            if self.is(*other, row) {
-                self.share(number, *other);
-                return Ok(());
+        match self.first_like(row, others) {
+            Some(other) => {
+                self.share(number, other);
+                Ok(())
             }
+            None => self.put(number, row),
         }
-        self.put(number, row)
     }
 }

@@ -17,7 +17,7 @@ fn count_below(numbers: &[u32], bound: usize) -> usize
 }
 
 /// Where those of these numbers, which rise, from `low` to below `high` begin and end.
-fn span_of(numbers: &[u32], low: usize, high: usize) -> (usize, usize)
+pub fn span_of(numbers: &[u32], low: usize, high: usize) -> (usize, usize)
     requires { IsNonDecreasing numbers.now }
     ensures { IsSpan numbers.now low high result.0 result.1 }
 {

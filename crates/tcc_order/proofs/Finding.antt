@@ -1,11 +1,11 @@
 -- An order by what holds each transaction back is a commit order, the first is the first, and a circle is a cycle.
-use Rattle.std.proofs.Common.{◌≡◌, ◌≢◌, ◌<◌, ◌≤◌, ◌*◌, ℕ, zero, suc, Bool, true, ◌⊎◌, inl, inr, List, [], ◌∷◌, length, sym, subst, arith}
+use Rattle.std.proofs.Common.{◌≡◌, ◌≢◌, ◌<◌, ◌≤◌, ◌+◌, ◌*◌, ◌/◌, ◌∙◌, ℕ, zero, suc, Bool, true, false, ◌⊎◌, inl, inr, List, [], ◌∷◌, length, get_or, sym, subst, arith}
 use Rattle.std.specs.Int.{div_ceil}
 use Rattle.tcc_clocks.specs.declared.latest.TheConstants.{WIDE}
 use Rattle.std.specs.List.{Contains}
-use Rattle.std.proofs.lemmas.Bool.{cases_eq}
+use Rattle.std.proofs.lemmas.Bool.{cases_eq, cases_lt, false≢true}
 use Rattle.std.proofs.lemmas.List.Elements.{Contains-append_left, Contains-append_right, Contains-append_cases}
-use Rattle.tcc_reads.specs.History.{History, IsBySession, count}
+use Rattle.tcc_reads.specs.History.{History, IsBySession, count, owner}
 use Rattle.tcc_graph.specs.Relations.{IsSessionPair}
 use Rattle.tcc_graph.specs.Levels.{Judged, causally}
 use Rattle.tcc_graph.specs.Walks.{step_to, Leads, IsReached}
@@ -22,6 +22,7 @@ use Rattle.tcc_clocks.specs.Parents.{parents, previous, previous_one, sources}
 use Rattle.tcc_order.specs.private.Held.{holds}
 use Rattle.tcc_order.specs.private.CausalLinks.{IsCovered, IsKeptUpTo, AreDerived, AreEnough, AreLinks, Derives, Overwrites, HasNone}
 use Rattle.tcc_clocks.specs.Clocks.{LeadsOnward}
+use Rattle.tcc_clocks.specs.Needed.{AreNeeded}
 use Rattle.tcc_order.specs.private.Numbering.{IsOrderOf, IsFirstOf, Joins, HasCircle}
 use Rattle.tcc_order.proofs.EmptyRows.{nothing_kept}
 use Rattle.tcc_order.proofs.Fronts.{holds_there, holds_parts}
@@ -165,6 +166,19 @@ causal_links h kept long derived enough = record {
 
     from : (a b : ℕ) → Derives (causally h) a b → Overwrites h a b
     from a b (small, below, (c, x, pair, writer, apart, way)) = (small, below, (c, x, pair, writer, apart, (way.0, way.1.0)))
+
+-- a block none of whose writers may have to stand before another transaction
+pub block_passed : (h : History) (kept : List (List ℕ)) (needed : List Bool) → AreNeeded h needed → (number : ℕ) → get_or needed number false ≡ false
+    → AreEnough h (Overwrites h) (λ a b. owner h b < number * WIDE) kept → AreEnough h (Overwrites h) (λ a b. owner h b < (number + 1) * WIDE) kept
+block_passed h kept needed are number unmarked before a b over some less = go over (cases_lt (owner h b) (number * WIDE))
+  where
+    go : Overwrites h a b → (owner h b < number * WIDE) ⊎ (number * WIDE ≤ owner h b) → IsCovered h kept a b
+    go over (inl early) = before a b over some early
+    go (low, below, (c, x, pair, writer, apart, reached)) (inr late) =
+        let block : owner h b / WIDE ≡ number = omega (arith, late, less) in
+        let marked : get_or needed number false ≡ true
+        = subst (λ (z : ℕ). get_or needed z false ≡ true) block (are a b c x pair writer some apart) in
+        absurd (false≢true (sym unmarked ∙ marked))
 
 -- so many blocks have room for all sessions
 pub blocks_cover : (sessions blocks : ℕ) → div_ceil sessions 64 ≤ blocks → sessions ≤ blocks * WIDE

@@ -11,7 +11,7 @@ use Rattle.std.specs.List.Sorted.{IsPermutation}
 use Rattle.tcc_txn.proofs.Lists.{found_number, in_filter, from_filter, in_map, from_map}
 use Rattle.tcc_reads.specs.History.{History, IsBySession, count, owner, entry_at}
 use Rattle.tcc_graph.specs.Relations.{IsReadsPair}
-use Rattle.tcc_graph.specs.Keys.{keys, key_at, has_name, writers, writes}
+use Rattle.tcc_graph.specs.Keys.{keys, key_at, has_name, writers}
 use Rattle.tcc_graph.specs.Orders.{Before, IsNumbering}
 use Rattle.tcc_graph.specs.Tables.{row_of}
 use Rattle.tcc_graph.specs.Walks.{IsReached, Leads, step_to}
@@ -30,7 +30,7 @@ use Rattle.tcc_clocks.specs.Parents.{parents, previous, sources}
 use Rattle.tcc_clocks.proofs.LatestLemmas.{session_some}
 use Rattle.tcc_clocks.proofs.Reaching.{same_session, reads_source}
 use Rattle.tcc_order.specs.private.CausalLinks.{HasNone}
-use Rattle.tcc_order.specs.private.News.{AreNoted, HaveRisen, AreRaised, known_of, IsOfLane, IsHeld, IsKnown, IsHead, HaveHeads, KeepsHead, KeepHeads, HasHeads, IsFloor, IsOtherWriter, TellsNone, IsTold, AreReadingsOf, AreNewsOf, AreNews, AreWider, AreSorted}
+use Rattle.tcc_order.specs.private.News.{AreNoted, HaveRisen, AreRaised, known_of, IsKnown, IsHead, HaveHeads, KeepsHead, KeepHeads, HasHeads, IsFloor, IsOtherWriter, TellsNone, IsTold, AreReadingsOf, AreNewsOf, AreNews, AreWider, AreSorted}
 use Rattle.tcc_order.proofs.EmptyRows.{nothing_kept}
 use Rattle.tcc_order.proofs.OrderOrCycle.{before_join}
 

@@ -2,13 +2,13 @@
 //! it doesn't reach it. Only readings that may tell of one are looked at (`news`). One that an earlier transaction of the same
 //! session has too is kept there alone; and where the readers of both are alike, the later one isn't looked at. For N transactions
 //! of S sessions, R reads, of which P pairs of a source and a key have such readings, and W writers of a key that takes
-//! O(S (N + R + P log W)).
+//! O(S (N + R + P log W)). A block of sessions none of which writes a key that is read from another transaction is passed over.
 ghost use Rattle.std.specs.Prelude.{◌≡◌, ◌≢◌, ◌<◌, ◌≤◌, ◌+◌, ◌-◌, ◌⊎◌, ◌↔◌, ℕ, length, slice_index, All, Contains, IfOk, OnOk};
 ghost use Rattle.tcc_reads.specs.History.{IsBySession, count, owner};
 ghost use Rattle.tcc_graph.specs.{Relations.IsReadsPair, Levels.causally, Tables.row_of, Orders.IsNumbering};
-ghost use Rattle.tcc_clocks.specs.{Parents.ArePrevious, declared.latest.TheConstants.WIDE};
+ghost use Rattle.tcc_clocks.specs.{Parents.ArePrevious, Spans.AreBounds, declared.latest.TheConstants.WIDE};
 ghost use Rattle.tcc_clocks.specs.Clocks.{AreOwners, AreClocks, LeadsOnward};
-ghost use Rattle.tcc_order.specs.private.CausalLinks.{IsOverwritten, IsLifted, AreDerived, AreEnough, AreLinks, Overwrites, lifted_by, AreOrdered, AreSpansOf, CanLift, IsLastUpTo, IsLastBut, AreLatestPast, KeepsNews, IsBegun};
+ghost use Rattle.tcc_order.specs.private.CausalLinks.{IsOverwritten, IsLifted, AreDerived, AreEnough, AreLinks, Overwrites, lifted_by, AreOrdered, CanLift, IsLastUpTo, IsLastBut, AreLatestPast, KeepsNews, IsBegun};
 ghost use Rattle.tcc_order.specs.private.News.{AreNews, AreNewsOf};
 ghost use Rattle.tcc_order.specs.private.ByKey.{past_of, IsTop, AreAlike, IsLikeBefore, key_index_in, reader_in};
 ghost use Rattle.std.specs.List.Sorted.{IsNonDecreasing, IsPartitionPoint};
@@ -20,8 +20,8 @@ use crate::rows::{MadeRows, empty_rows};
 use std::alloc::Global;
 use tcc_bits::Row;
 use tcc_clocks::{
-    Clock, SharedRows, WIDE, between, block_bounds, find_clocks, find_spans, owners, raise_each,
-    steps_along,
+    Clock, SharedRows, WIDE, between, block_bounds, find_clocks, needed_blocks, owners, raise_each,
+    span_of, steps_along,
 };
 use tcc_graph::LargeGraph;
 use tcc_txn::NoMemory;
@@ -206,7 +206,7 @@ fn needed(
     graph: &LargeGraph,
     owners: &[u32],
     from: u32,
-    spans: &[(usize, usize)],
+    bounds: (usize, usize),
     table: &SharedRows,
     readings: &[(u32, u32)],
     a: u32,
@@ -215,7 +215,7 @@ fn needed(
     requires numbered { IsBySession graph.now.entries }
     requires owners { AreOwners graph.now owners.now }
     requires clocks { AreClocks graph.now from table.now }
-    requires spans { AreSpansOf graph.now owners.now from spans.now }
+    requires bounds { AreBounds owners.now from bounds.0 bounds.1 }
     requires readings { AreNewsOf graph.now from table.now a readings.now }
     requires below { a < count graph.now }
     ensures { AreLatestPast graph.now (IsOverwritten graph.now (IsReadsPair graph.now a) a) from (row_of table.now a) need.new }
@@ -226,7 +226,8 @@ fn needed(
         let end = end_of_key(readings, start);
         let top = top_of(table, readings, start, end, a);
         let key_index = readings[start].1;
-        let writers = between(graph.writers_at(key_index), spans[key_index as usize]);
+        let all = graph.writers_at(key_index);
+        let writers = between(all, span_of(all, bounds.0, bounds.1));
         lift_writers(need, owners, from, &top, writers, a);
         start = end;
     }
@@ -328,7 +329,6 @@ fn keep(kept: &mut Row<u32>, need: &[u32], clock: &[u32], run: &mut [u32]) -> Re
 
 /// Keeps the links from the sessions of a block.
 fn keep_block(
-    alloc: Global,
     kept: &mut [Row<u32>],
     graph: &LargeGraph,
     owners: &[u32],
@@ -350,13 +350,11 @@ fn keep_block(
     let mut need = [0; WIDE];
     let mut run = [0; WIDE];
     let bounds = block_bounds(owners, from);
-    let mut spans = Vec::new(alloc);
-    find_spans(&mut spans, graph, bounds)?;
     for a in 0..graph.count() {
         begin_session(&mut run, owners, a);
         if has_more(owners, table, readings, a) {
             let from_a = readings[a as usize].as_slice();
-            needed(&mut need, graph, owners, from, &spans, table, from_a, a);
+            needed(&mut need, graph, owners, from, bounds, table, from_a, a);
             keep(&mut kept[a as usize], &need, table.get(a), &mut run)?;
         }
     }
@@ -382,8 +380,12 @@ pub(crate) fn causal_links(
     let mut last = no_writers(alloc, graph)?;
     let mut heads = vec![in alloc; 0; last.len()]?;
     let steps = steps_along(alloc, graph, parents, order)?;
+    let needed = needed_blocks(alloc, graph, &owners)?;
     let sessions = graph.sessions().len();
     for block in 0..sessions.div_ceil(WIDE) {
+        if !needed[block] {
+            continue;
+        }
         let from = (block * WIDE) as u32;
         find_clocks(&mut table, graph, &owners, from, order, &steps)?;
         find_news(
@@ -397,7 +399,7 @@ pub(crate) fn causal_links(
             order,
             &steps,
         )?;
-        keep_block(alloc, &mut kept, graph, &owners, from, &table, &readings)?;
+        keep_block(&mut kept, graph, &owners, from, &table, &readings)?;
     }
     Ok(kept)
 }

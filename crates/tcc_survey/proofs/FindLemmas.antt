@@ -115,6 +115,14 @@ module _ {A : Type 0} (d : A) (P Q : ℕ → A → Type 0) (found : List A) (n i
       let other : k ≢ i = omega arith in
       rw (get_or-set_other found i k v d other) (rest k (omega (arith, above)) below)
 
+-- what holds before a place holds there too
+pub one_more : (P : ℕ → Type 0) (i : ℕ) → ((k : ℕ) → k < i → P k) → P i → (k : ℕ) → k < i + 1 → P k
+one_more P i before here k l = go (cases_eq k i)
+  where
+    go : (k ≡ i) ⊎ (k ≢ i) → P k
+    go (inl same) = subst (λ (z : ℕ). P z) (sym same) here
+    go (inr other) = before k (omega (arith, l, other))
+
 -- ---- all blocks
 pub none_settled : (j : Judged) (all : List Reading) (bound : ℕ) (found : List ℕ) → length found ≡ length all → bound ≡ 0
     → ((k : ℕ) → k < length all → slice_index found k ≡ 0) → AreSettled j all bound found

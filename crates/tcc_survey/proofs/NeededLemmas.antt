@@ -1,18 +1,18 @@
 -- Blocks of sessions that have a writer that may contradict a read.
 use Rattle.std.proofs.Common.{◌≡◌, ◌≢◌, ◌<◌, ◌≤◌, ◌+◌, ◌*◌, ◌/◌, ◌⊎◌, inl, inr, ℕ, Bool, true, false, List, length, get_or, set, slice_index, refl, sym, ◌∙◌, subst, arith}
-use Rattle.std.specs.List.{Contains}
-use Rattle.std.proofs.lemmas.Bool.{cases_eq, cases_lt, false≢true}
-use Rattle.std.proofs.lemmas.List.{get_or-set_same, get_or-set_other, get_or_past, length-set}
-use Rattle.tcc_reads.specs.History.{History, count, owner}
-use Rattle.tcc_graph.specs.Keys.{keys, key_at, writers}
+use Rattle.std.proofs.lemmas.Bool.{cases_eq, false≢true}
+use Rattle.std.proofs.lemmas.List.{get_or-set_same, get_or-set_other, length-set}
+use Rattle.tcc_reads.specs.History.{owner}
+use Rattle.tcc_graph.specs.Keys.{keys, key_at}
 use Rattle.tcc_graph.specs.Levels.{Judged}
 use Rattle.tcc_graph.proofs.WriterLemmas.{writer_listed}
 use Rattle.tcc_clocks.specs.Clocks.{AreOwners}
 use Rattle.tcc_clocks.specs.declared.latest.TheConstants.{WIDE}
 use Rattle.tcc_survey.specs.declared.external_reads.Reading.{Reading}
-use Rattle.tcc_survey.specs.declared.needed.KeySources.{KeySources}
-use Rattle.tcc_survey.specs.declared.needed.KeySources.TheVariants as sources
-use Rattle.tcc_survey.specs.private.Needed.{AreMarked, AreBlocksNeeded, AreSourcesOf, IsMarked, IsSourceOf, sources_at}
+use Rattle.tcc_clocks.specs.declared.needed.KeySources.{KeySources}
+use Rattle.tcc_clocks.specs.declared.needed.KeySources.TheVariants as sources
+use Rattle.tcc_clocks.specs.Needed.{AreMarked, IsMarked, IsSourceOf, sources_at}
+use Rattle.tcc_survey.specs.private.Needed.{AreBlocksNeeded, AreSourcesOf}
 use Rattle.tcc_survey.specs.private.Settled.{AreReads, AreSettled, IsAgainst, reading_of}
 use Rattle.tcc_survey.proofs.ScanLemmas.{none_least}
 
@@ -41,42 +41,6 @@ sources_more reads n size all is i at inside v new kept = record {
         (subst (λ (m : ℕ). IsSourceOf (sources_at all m) (reading_of reads k).source) same (is.each k (omega (arith, l, other)))))
     go k l (inr other) (inr apart) =
         rw (get_or-set_other all i (reading_of reads k).key_index v sources.Nobody apart) (is.each k (omega (arith, l, other)))
-
--- ---- marks
-pub marked_more : (needed : List Bool) (i session : ℕ) → IsMarked needed session → IsMarked (set needed i true) session
-marked_more needed i session is = go (cases_eq (session / WIDE) i) (cases_lt i (length needed))
-  where
-    go : (session / WIDE ≡ i) ⊎ (session / WIDE ≢ i) → (i < length needed) ⊎ (length needed ≤ i) → IsMarked (set needed i true) session
-    go (inr other) kind = rw (get_or-set_other needed i (session / WIDE) true false other) is
-    go (inl same) (inl inside) = rw (same, get_or-set_same needed i true false inside) refl
-    go (inl same) (inr past) = absurd (false≢true (sym (get_or_past needed (session / WIDE) false (omega (arith, same, past))) ∙ is))
-
-pub new_mark : (needed : List Bool) (session : ℕ) → session < length needed * WIDE → IsMarked (set needed (session / WIDE) true) session
-new_mark needed session room = get_or-set_same needed (session / WIDE) true false (omega (arith, room))
-
--- the blocks of one key more
-pub marked_key : (h : History) (owners : List ℕ) (all : List KeySources) (n : ℕ) (needed next : List Bool) → AreMarked h owners all n needed
-    → ((s : ℕ) → IsMarked needed s → IsMarked next s)
-    → ((a b : ℕ) → IsSourceOf (sources_at all n) a → Contains (writers h (key_at h n)) b → b ≢ a → IsMarked next (slice_index owners b))
-    → AreMarked h owners all (n + 1) next
-marked_key h owners all n needed next before kept new k l a b source there apart = go (cases_eq k n)
-  where
-    go : (k ≡ n) ⊎ (k ≢ n) → IsMarked next (slice_index owners b)
-    go (inl same) =
-        new a b (subst (λ (m : ℕ). IsSourceOf (sources_at all m) a) same source) (subst (λ (m : ℕ). Contains (writers h (key_at h m)) b) same there) apart
-    go (inr other) = kept (slice_index owners b) (before k (omega (arith, l, other)) a b source there apart)
-
--- there is room for the session of each
-pub owners_room : (h : History) (owners : List ℕ) → AreOwners h owners → (sessions : ℕ) → ((n : ℕ) → 0 < n → n < count h → owner h n < sessions)
-    → (size : ℕ) → (0 < size) × (sessions ≤ size * WIDE) → (b : ℕ) → b < length owners → slice_index owners b < size * WIDE
-owners_room h owners known sessions few size (some, room) b l = go (cases_eq b 0)
-  where
-    go : (b ≡ 0) ⊎ (b ≢ 0) → slice_index owners b < size * WIDE
-    go (inl none) = subst (λ (z : ℕ). slice_index owners z < size * WIDE) (sym none) (omega (arith, known.init, some))
-    go (inr other) =
-        let low : 0 < b = omega (arith, other) in
-        let below : b < count h = omega (arith, l, known.long) in
-        omega (arith, known.each b low below, few b low below, room)
 
 -- ---- a block that is passed over
 pub passed_over : (j : Judged) (reads : List Reading) (needed : List Bool) → AreBlocksNeeded j reads needed → (number from next : ℕ) → from ≡ number * WIDE

@@ -2,7 +2,7 @@
 //! writers each is looked at; of many, in each session the first by binary search, as numbers rise with places in a session; and at
 //! `Atomic`, where a single pair leads to the reader, those of its own session and those that it reads from. A read of a key with W
 //! writers in the block takes 32 steps, or 64 log W, and at `Atomic` log W for each read of its reader.
-ghost use Rattle.std.specs.Prelude.{◌≡◌, ◌<◌, ◌≤◌, ◌+◌, ◌⊎◌, ◌↔◌, ℕ, length, slice_index, Contains, IsTrue, OnOk};
+ghost use Rattle.std.specs.Prelude.{◌≡◌, ◌<◌, ◌≤◌, ◌+◌, ◌⊎◌, ◌↔◌, ℕ, true, false, length, slice_index, Contains, IsTrue, OnOk};
 ghost use Rattle.std.specs.List.Sorted.{IsNonDecreasing};
 ghost use Rattle.tcc_reads.specs.History.{count};
 ghost use Rattle.tcc_graph.specs.{Keys.key_at, Levels.judged, declared.level.Level.TheVariants.Atomic};
@@ -218,17 +218,32 @@ pub(crate) struct Sweep<'a> {
 }
 
 impl Sweep<'_> {
-    /// The least number that contradicts a read, of those up to the block: the one of an earlier block, or else of these writers
-    /// of its key.
-    fn least_up_to(&self, writers: &[u32], reading: Reading, known: u32) -> u32
+    /// Whether no writer of the block can be the least that contradicts a read: one of an earlier block is, or the reader knows no
+    /// more of the block than its source does.
+    fn is_settled(&self, reading: Reading, known: u32) -> bool
+        requires block { IsBlock self.now }
+        requires read { IsReading self.now.block.graph.now reading }
+        requires known { IsLeastBefore (judged self.now.block.graph.now self.now.level) self.now.block.from reading known }
+        ensures yes { result ≡ true → IsLeastBefore (judged self.now.block.graph.now self.now.level) (self.now.block.from + WIDE) reading known }
+        ensures no { result ≡ false → known ≡ 0 }
+    {
+        if known > 0 {
+            return true;
+        }
+        self.clocks.are_same(reading.source, reading.reader)
+    }
+
+    /// The least number that contradicts a read, of those up to the block, where none of an earlier one does: of these writers of its
+    /// key.
+    fn least_up_to(&self, writers: &[u32], reading: Reading) -> u32
         requires block { IsBlock self.now }
         requires writers { AreWritersIn self.now.block.graph.now self.now.block.from (key_at self.now.block.graph.now reading.key_index) writers.now }
         requires read { IsReading self.now.block.graph.now reading }
-        requires known { IsLeastBefore (judged self.now.block.graph.now self.now.level) self.now.block.from reading known }
+        requires known { IsLeastBefore (judged self.now.block.graph.now self.now.level) self.now.block.from reading 0 }
         ensures { IsLeastBefore (judged self.now.block.graph.now self.now.level) (self.now.block.from + WIDE) reading result }
     {
-        if known > 0 || writers.is_empty() || self.clocks.are_same(reading.source, reading.reader) {
-            return known;
+        if writers.is_empty() {
+            return 0;
         }
         let scan = Scan {
             level: self.level,
@@ -250,10 +265,13 @@ impl Sweep<'_> {
         ensures { AreSettled (judged self.now.block.graph.now self.now.level) reads.now (self.now.block.from + WIDE) found.new }
     {
         for (index, read) in reads.iter().enumerate() {
+            if self.is_settled(*read, found[index]) {
+                continue;
+            }
             let key_index = read.key_index;
             let among = self.block.graph.writers_at(key_index);
             let writers = between(among, spans[key_index as usize]);
-            found[index] = self.least_up_to(writers, *read, found[index]);
+            found[index] = self.least_up_to(writers, *read);
         }
     }
 

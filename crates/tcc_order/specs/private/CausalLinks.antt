@@ -3,13 +3,12 @@ use Rattle.std.specs.Prelude.{ℕ, ◌<◌, ◌≤◌, ◌+◌, ◌-◌, ◌≡�
 use Rattle.std.specs.List.Sorted.{IsNonDecreasing}
 use Rattle.tcc_reads.specs.History.{History, count, owner}
 use Rattle.tcc_graph.specs.Relations.{IsReadsPair, IsSessionPair}
-use Rattle.tcc_graph.specs.Keys.{keys, writers}
+use Rattle.tcc_graph.specs.Keys.{writers}
 use Rattle.tcc_graph.specs.Tables.{row_of}
 use Rattle.tcc_graph.specs.Walks.{IsReached}
 use Rattle.tcc_graph.specs.Levels.{Judged, IsAllowedWalk}
 use Rattle.tcc_graph.specs.declared.step.Step.{Step}
 use Rattle.tcc_clocks.specs.Clocks.{IsOneOf}
-use Rattle.tcc_clocks.specs.Spans.{AreBounds, AreSpans}
 use Rattle.tcc_clocks.specs.declared.latest.TheConstants.{WIDE}
 
 -- of those past a number that is known the greatest, if there are any
@@ -131,7 +130,3 @@ pub record IsLastUpTo (numbers : List ℕ) (top : ℕ) (last : ℕ) : Type 0 whe
 pub record IsLastBut (numbers : List ℕ) (top : ℕ) (a : ℕ) (last : ℕ) : Type 0 where
   pub attained : (last ≡ 0) ⊎ (Contains numbers last × (last ≢ a) × (last ≤ top))
   pub greatest : (b : ℕ) → Contains numbers b → b ≢ a → b ≤ top → b ≤ last
-
--- of each key the writers that are of the block stand between these two indices among its writers
-abbrev pub AreSpansOf : History → List ℕ → ℕ → List (ℕ × ℕ) → Type 0
-AreSpansOf h owners from spans = (low : ℕ) × (high : ℕ) × AreBounds owners from low high × AreSpans h low high spans (length (keys h))

@@ -1,8 +1,9 @@
-use Rattle.std.proofs.Common.{rules, ◌≡◌, ◌<◌, ◌≤◌, ◌*◌, ◌∙◌, ℕ, length, sym, arith, take_at}
+use Rattle.std.proofs.Common.{rules, ◌≡◌, ◌<◌, ◌≤◌, ◌*◌, ◌∙◌, ℕ, false, length, get_or, sym, ap, arith, take_at}
+use Rattle.std.proofs.lemmas.List.{get_or_default}
 use Rattle.tcc_reads.specs.History.{count, owner}
 use Rattle.tcc_order.specs.private.CausalLinks.{Overwrites}
 use Rattle.tcc_clocks.specs.declared.latest.TheConstants.{WIDE}
-use Rattle.tcc_order.proofs.Finding.{none_derived, causal_links, blocks_cover}
+use Rattle.tcc_order.proofs.Finding.{none_derived, causal_links, block_passed, blocks_cover}
 use Rattle.tcc_order.proofs.causal_links.causal_links.Goals as goal
 
 pub loop-block-init : goal.loop-block-init
@@ -24,6 +25,23 @@ keep_block-requires-clause-derived c = rw c.deref_mut-in-loop-block-3.ensures.va
 
 pub keep_block-requires-clause-enough : goal.keep_block-requires-clause-enough
 keep_block-requires-clause-enough c = rw c.deref_mut-in-loop-block-3.ensures.value c.loop-block.invariant.3
+
+pub loop-block-preserved-then-not-index : goal.loop-block-preserved-then-not-index
+loop-block-preserved-then-not-index c =
+    let h = c.args.graph.now in
+    let number = c.loop-block.block in
+    let needed = c.in_ok-needed.needed.items in
+    let inv = c.loop-block.invariant in
+    let inside : number < length needed = omega (
+      arith,
+      c.loop-block-test.true,
+      c.div_ceil-block-end.ensures,
+      c.in_ok-needed.ensures.long,
+      ap length c.sessions-sessions.ensures.value,
+    ) in
+    let unmarked : get_or needed number false ≡ false
+    = get_or_default needed number false c.index.result.now inside ∙ (sym c.index.ensures ∙ c.if-not-index.true) in
+    (inv.0, inv.1, inv.2, block_passed h c.loop-block.kept.items needed c.in_ok-needed.ensures.needed number unmarked inv.3, inv.4, inv.5, inv.6)
 
 pub loop-block-preserved : goal.loop-block-preserved
 loop-block-preserved c =

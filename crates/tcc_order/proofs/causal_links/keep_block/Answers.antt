@@ -100,11 +100,6 @@ returns-clause-enough c = λ a b over some less.
     let low : a < c.loop-a.a = omega (arith, over.0, c.loop-a-test.false, c.count-a-end.ensures.value) in
     c.loop-a.invariant.4 a b over some (inr (less, low))
 
-pub needed-requires-clause-spans : goal.needed-requires-clause-spans
-needed-requires-clause-spans c =
-    let bounds = c.block_bounds-bounds in
-    rw c.deref.ensures.value (bounds.result.0, bounds.result.1, bounds.ensures, c.in_ok-find_spans.ensures)
-
 pub has_more-requires-clause-long : goal.has_more-requires-clause-long
 has_more-requires-clause-long c = omega (arith, c.requires.readings.long, c.requires.owners.long)
 

@@ -16,15 +16,17 @@ use Rattle.tcc_order.proofs.causal_links.needed.Goals as goal
 
 -- the writers of the key that are looked at
 writers_part : (c : After-between-writers) → IsBetween (writers c.args.graph.now (key_at c.args.graph.now (key_index_in c.args.readings.now c.loop-start.start)))
-    c.requires.spans.0 c.requires.spans.1 c.between-writers.result.now
+    c.args.bounds.0 c.args.bounds.1 c.between-writers.result.now
 writers_part c =
     let h = c.args.graph.now in
-    let readings = c.args.readings.now in
-    let start = c.loop-start.start in
-    let key : ℕ = key_index_in readings start in
-    let ws = writers h (key_at h key) in
-    let span = c.requires.spans.3.each key (reading_key h c.args.from c.args.table.now c.args.a readings c.requires.readings start c.loop-start-test.true) in
-    rw (c.between-writers.ensures, c.writers_at.ensures) (between_span ws (writers_rise h (key_at h key)) c.requires.spans.0 c.requires.spans.1 _ _ span)
+    let x = key_at h (key_index_in c.args.readings.now c.loop-start.start) in
+    rw (c.between-writers.ensures, c.writers_at-all.ensures)
+    (between_span (writers h x) (writers_rise h x) c.args.bounds.0 c.args.bounds.1 _ _ (rw c.writers_at-all.ensures at c.span_of.ensures))
+
+pub span_of-requires : goal.span_of-requires
+span_of-requires c =
+    let h = c.args.graph.now in
+    rw c.writers_at-all.ensures (writers_rise h (key_at h (key_index_in c.args.readings.now c.loop-start.start)))
 
 pub loop-start-init : goal.loop-start-init
 loop-start-init c =
@@ -45,8 +47,8 @@ lift_writers-requires c =
     let owners = c.args.owners.now in
     let key : ℕ = key_index_in c.args.readings.now c.loop-start.start in
     let tops = c.top_of-top.ensures in
-    let low : ℕ = c.requires.spans.0 in
-    let high : ℕ = c.requires.spans.1 in
+    let low : ℕ = c.args.bounds.0 in
+    let high : ℕ = c.args.bounds.1 in
     let part : IsBetween (writers h (key_at h key)) low high c.between-writers.result.now = writers_part (goal.at.lift_writers-requires c).After-between-writers in
     record {
       same = c.loop-start.invariant.1.wide ∙ sym tops.wide;
@@ -67,8 +69,8 @@ loop-start-preserved c =
     let table = c.args.table.now in
     let readings = c.args.readings.now in
     let a = c.args.a in
-    let low = c.requires.spans.0 in
-    let high = c.requires.spans.1 in
+    let low = c.args.bounds.0 in
+    let high = c.args.bounds.1 in
     let start = c.loop-start.start in
     let end = c.end_of_key-end.result in
     let top = c.top_of-top.result in
@@ -83,7 +85,7 @@ loop-start-preserved c =
     let lift : (s : ℕ) → s < length old → IsLifted owners from top ws a s (slice_index old s) (slice_index new s)
     = λ s l.
     lifted_between owners from low high top ws c.between-writers.result.now a s (slice_index old s) (slice_index new s)
-    (omega (arith, l, inv.1.wide)) c.requires.spans.2 (writers_inside h owners c.requires.owners (key_at h key)) part (some s l) in
+    (omega (arith, l, inv.1.wide)) c.requires.bounds (writers_inside h owners c.requires.owners (key_at h key)) part (some s l) in
     let upto : start ≤ end = omega (arith, c.end_of_key-end.ensures.past) in (
       c.end_of_key-end.ensures.within,
       read_more h c.requires.numbered owners c.requires.owners from a readings table c.requires.clocks (reading_below h from table a readings c.requires.readings) start end
@@ -105,14 +107,6 @@ returns c =
     read_all h c.args.from c.args.table.now a readings c.requires.readings need
     (subst (λ (z : ℕ). AreLatestPast h (IsOverwritten h (IsReadBefore h readings z) a) c.args.from known need) whole c.loop-start.invariant.1)
 
-pub writers_at-requires : goal.writers_at-requires
-writers_at-requires c =
+pub writers_at-all-requires : goal.writers_at-all-requires
+writers_at-all-requires c =
     reading_key c.args.graph.now c.args.from c.args.table.now c.args.a c.args.readings.now c.requires.readings c.loop-start.start c.loop-start-test.true
-
-pub bounds-spans-key_index : goal.bounds-spans-key_index
-bounds-spans-key_index c =
-    omega (
-      arith,
-      reading_key c.args.graph.now c.args.from c.args.table.now c.args.a c.args.readings.now c.requires.readings c.loop-start.start c.loop-start-test.true,
-      c.requires.spans.3.long,
-    )

@@ -1,6 +1,5 @@
-use Rattle.std.proofs.Common.{◌≡◌, ◌<◌, ◌∙◌, ℕ, length, get_or, refl, sym, arith}
+use Rattle.std.proofs.Common.{◌≡◌, ◌∙◌, get_or, refl, arith}
 use Rattle.std.proofs.lemmas.List.{get_or_read}
-use Rattle.tcc_reads.specs.History.{count}
 use Rattle.tcc_clocks.specs.Parents.{parents}
 use Rattle.tcc_clocks.proofs.Along.{parents_below}
 use Rattle.tcc_graph.proofs.Numberings.{below_in}

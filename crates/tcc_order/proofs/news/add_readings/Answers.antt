@@ -1,11 +1,10 @@
-use Rattle.std.proofs.Common.{rules, ◌≡◌, ◌<◌, ◌∷◌, ◌++◌, ◌∙◌, inl, inr, ℕ, [], length, get_or, set, refl, arith}
+use Rattle.std.proofs.Common.{◌≡◌, ◌<◌, ◌∷◌, ◌++◌, ◌∙◌, inl, inr, ℕ, [], length, get_or, set, refl, arith}
 use Rattle.std.proofs.lemmas.List.{get_or_default, length-set}
-use Rattle.tcc_reads.specs.History.{count}
 use Rattle.tcc_graph.specs.Relations.{IsReadsPair}
 use Rattle.tcc_graph.specs.Keys.{keys, key_at}
 use Rattle.tcc_graph.specs.Tables.{row_of}
 use Rattle.tcc_order.specs.private.News.{AreWider}
-use Rattle.tcc_order.proofs.NewsLemmas.{AreTold, told_alike, told_more, told_all, read_sound, push_wider, push_there, push_sound}
+use Rattle.tcc_order.proofs.NewsLemmas.{told_alike, told_more, told_all, read_sound, push_wider, push_there, push_sound}
 use Rattle.tcc_order.proofs.news.add_readings.Goals as goal
 use Rattle.tcc_order.proofs.news.add_readings.Goals.{then-may_tell+in_ok-push, else-may_tell}
 

@@ -1,4 +1,3 @@
-use Rattle.std.proofs.Common.{rules}
 use Rattle.tcc_order.proofs.NewsLemmas.{news_sorted}
 use Rattle.tcc_order.proofs.news.find_news.Goals as goal
 

@@ -1,9 +1,9 @@
-use Rattle.std.proofs.Common.{rules, ◌≡◌, ◌<◌, ◌≤◌, ℕ, slice_index, arith}
+use Rattle.std.proofs.Common.{◌<◌, ◌≤◌, ℕ, slice_index, arith}
 use Rattle.std.specs.Prelude.{min}
 use Rattle.tcc_graph.specs.Tables.{row_of}
 use Rattle.tcc_clocks.specs.declared.latest.TheConstants.{WIDE}
 use Rattle.tcc_order.specs.private.News.{IsKnown}
-use Rattle.tcc_order.proofs.NewsLemmas.{head_own, head_nobody, head_led, head_past}
+use Rattle.tcc_order.proofs.NewsLemmas.{head_led, head_past}
 use Rattle.tcc_order.proofs.news.head_after.Goals as goal
 
 pub returns-then-is_known-clause-kept : goal.returns-then-is_known-clause-kept

@@ -1,6 +1,6 @@
-use Rattle.std.proofs.Common.{◌≡◌, ◌<◌, ◌∙◌, ℕ, ap, replicate, slice_index, arith}
+use Rattle.std.proofs.Common.{◌≡◌, ◌∙◌, ℕ, ap, replicate, slice_index, arith}
 use Rattle.std.specs.Prelude.{max}
-use Rattle.std.proofs.lemmas.List.{get_or-replicate, length-replicate}
+use Rattle.std.proofs.lemmas.List.{get_or-replicate}
 use Rattle.tcc_graph.specs.Tables.{row_of}
 use Rattle.tcc_clocks.specs.private.Rows.{with_own}
 use Rattle.tcc_clocks.specs.declared.side.Side.TheVariants.{Past}

@@ -1,7 +1,7 @@
 use Rattle.std.proofs.Common.{rules, ◌≡◌, ◌<◌, ◌%◌, ◌∙◌, ℕ, ap, length, get_or, refl, sym, slice_index, arith}
 use Rattle.std.proofs.lemmas.List.{take_all, length-set}
 use Rattle.tcc_graph.specs.Tables.{row_of}
-use Rattle.tcc_order.specs.private.News.{AreRaised, HasHeads, KeepHeads, KeepsHead}
+use Rattle.tcc_order.specs.private.News.{AreRaised, HasHeads, KeepsHead}
 use Rattle.tcc_order.proofs.NewsLemmas.{raised_none, raised_more, heads_none, heads_kept, heads_own}
 use Rattle.tcc_order.proofs.news.raise_keys.Goals as goal
 

@@ -1,9 +1,9 @@
 use Rattle.std.proofs.Common.{rules, ◌≡◌, length, refl, sym, ◌∙◌, subst, arith}
 use Rattle.std.proofs.lemmas.List.{get_or_default}
 use Rattle.tcc_graph.specs.Keys.{keys}
-use Rattle.tcc_survey.specs.declared.needed.KeySources.{KeySources}
-use Rattle.tcc_survey.specs.declared.needed.KeySources.TheVariants as sources
-use Rattle.tcc_survey.specs.private.Needed.{IsSourceOf}
+use Rattle.tcc_clocks.specs.declared.needed.KeySources.{KeySources}
+use Rattle.tcc_clocks.specs.declared.needed.KeySources.TheVariants as sources
+use Rattle.tcc_clocks.specs.Needed.{IsSourceOf}
 use Rattle.tcc_survey.specs.private.Settled.{reading_of}
 use Rattle.tcc_survey.proofs.NeededLemmas.{sources_more}
 use Rattle.tcc_survey.proofs.needed.sources_by_key.Goals as goal

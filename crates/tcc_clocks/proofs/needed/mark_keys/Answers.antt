@@ -2,8 +2,8 @@ use Rattle.std.proofs.Common.{rules, ◌≡◌, ◌<◌, ◌∙◌, ℕ, List, s
 use Rattle.std.specs.List.{All, Contains}
 use Rattle.tcc_graph.specs.Keys.{key_at, writers}
 use Rattle.tcc_graph.proofs.WriterLemmas.{writers_below}
-use Rattle.tcc_survey.proofs.NeededLemmas.{marked_key}
-use Rattle.tcc_survey.proofs.needed.mark_keys.Goals as goal
+use Rattle.tcc_clocks.proofs.NeededLemmas.{marked_key}
+use Rattle.tcc_clocks.proofs.needed.mark_keys.Goals as goal
 
 pub mark_key-requires-clause-below : goal.mark_key-requires-clause-below
 mark_key-requires-clause-below c =

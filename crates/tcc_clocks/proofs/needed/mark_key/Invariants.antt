@@ -1,6 +1,6 @@
 use Rattle.std.proofs.Common.{◌≡◌, ◌≢◌, ◌<◌, ℕ, length, slice_index}
-use Rattle.tcc_survey.specs.private.Needed.{IsMarked, IsSourceOf}
-use Rattle.tcc_survey.proofs.needed.mark_key.Given as goal
+use Rattle.tcc_clocks.specs.Needed.{IsMarked, IsSourceOf}
+use Rattle.tcc_clocks.proofs.needed.mark_key.Given as goal
 
 abbrev pub invariant-loop-b : goal.invariant-loop-b
 invariant-loop-b l =
