@@ -1,7 +1,5 @@
 -- What is answered of a whole text of version 3.
-use Rattle.std.proofs.Common.{◌≡◌, ℕ, List, [], Result, Ok, Err, inl, inr, refl, arith, ap}
-use Rattle.std.proofs.lemmas.Result.{err_from_is_err_and}
-use Rattle.std.specs.Result.{IsErrAnd}
+use Rattle.std.proofs.Common.{◌≡◌, ℕ, List, [], Ok, Err, inl, inr, refl, arith, ap}
 use Rattle.tcc_cert.specs.declared.fault.CertFault.{CertFault}
 use Rattle.tcc_cert.specs.declared.fault.CertFaultKind.{CertFaultKind}
 use Rattle.tcc_cert.specs.declared.large.LargeCertificate.{LargeCertificate}
@@ -19,17 +17,10 @@ failure : {F : Type 0} (kind : CertFaultKind) → IsFailure F kind → IsFailure
 failure kind (inl (is, failed)) = inl (is, tt)
 failure kind (inr refused) = inr refused
 
-faults-read : {F : Type 0} (bytes : List ℕ) (fault : CertFault) → Faults F (start_of bytes) (large_certificate_at (start_of bytes)) fault
+pub faults-read : {F : Type 0} (bytes : List ℕ) (fault : CertFault) → Faults F (start_of bytes) (large_certificate_at (start_of bytes)) fault
     → IsLargeReading bytes (Err fault)
 faults-read bytes fault (inl is) = inl (rw is refl)
 faults-read bytes fault (inr cut) = inr (record { failure = failure fault.kind cut.failure; first = cut.first; last = cut.last })
-
--- a fault before the last line
-pub read-fails : {F : Type 0} {fault : CertFault} (bytes : List ℕ) (result : Result LargeCertificate CertFault) → IsErrAnd result (λ e. e ≡ fault)
-    → Faults F (start_of bytes) (large_certificate_at (start_of bytes)) fault → IsLargeReading bytes result
-read-fails bytes result passed faults =
-    let p = err_from_is_err_and result passed in
-    rw (p.1, p.2) (faults-read bytes _ faults)
 
 -- a fault behind it
 pub end-read : {R : Type 0} (bytes : List ℕ) (certificate : LargeCertificate) (after : Position) (fault : CertFault) (new : Input R)

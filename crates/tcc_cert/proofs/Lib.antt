@@ -25,6 +25,7 @@ pub mod OneText
 pub mod OneClaim
 pub mod Ends
 pub mod OwnLinks
+mod TakingFacts
 mod LargeOnward
 mod LargeReads
 mod LargeBack

@@ -16,5 +16,6 @@ pub mod Ahead
 pub mod WindowBytes
 pub mod InputBytes
 pub mod Versions
+pub mod Taken
 pub mod Shapes
 pub mod private

@@ -1,7 +1,7 @@
 //! What an answer about a history of any size claims.
 use crate::Links;
-use tcc_graph::Level;
-use tcc_txn::ListOf;
+use tcc_graph::{Level, Link, Step};
+use tcc_txn::{ListOf, NoMemory};
 
 /// The next so many committed transactions of a session, in an order that keeps the order of each session.
 #[derive(Clone, Copy)]
@@ -48,4 +48,69 @@ pub enum LargeCertificate {
     Order(RunsClaim),
     /// Links are a cycle, and perhaps a least one.
     Cycle(LinksClaim),
+}
+
+/// What a claim of a cycle says before its links.
+#[derive(Clone, Copy)]
+pub struct LinksSizes {
+    pub level: Level,
+    /// How many transactions there are, `init` among them.
+    pub transactions: u32,
+    /// How many links there are.
+    pub links: u32,
+    /// What they cost.
+    pub cost: u32,
+}
+
+/// A claim of a cycle without its links.
+#[derive(Drop)]
+pub struct LinksHead {
+    pub sizes: LinksSizes,
+    /// As a `LinksClaim` has it.
+    pub least: Option<Runs>,
+}
+
+/// A claim about a history of any size whose links, where it has some, were given to who takes them.
+#[derive(Drop)]
+pub enum LargeHead {
+    /// An order is a commit order.
+    Order(RunsClaim),
+    /// Links are a cycle, and perhaps a least one.
+    Cycle(LinksHead),
+}
+
+/// Who takes the links of a claim one by one, as a text gives them, and the walks of these step by step.
+pub trait TakesLinks {
+    ghost use Rattle.std.specs.Prelude.{◌++◌, ◌∷◌, [], List, OnOk};
+    ghost use Rattle.tcc_reads.specs.History.{History};
+    ghost use Rattle.tcc_graph.specs.declared.{link.Link.Link, step.Step.Step};
+    ghost use Rattle.tcc_cert.specs.Reading.{with_walk};
+    ghost use Rattle.tcc_cert.specs.declared.large.LinksSizes.{LinksSizes};
+
+    /// They are taken for this history.
+    ghost ready: { Self → History → Type 0 };
+
+    /// For this history, of a claim of these sizes, these links were taken.
+    ghost took: { Self → History → LinksSizes → List Link → Type 0 };
+
+    /// And then a link without its walk, and of that these steps.
+    ghost takes: { Self → History → LinksSizes → List Link → Link → List Step → Type 0 };
+
+    /// A claim begins.
+    fn start(&mut self, sizes: LinksSizes)
+        ensures { (h : History) → ready self.old h → took self.new h sizes [] };
+
+    /// A link begins, whose steps come next where it is derived.
+    fn begin(&mut self, head: Link) -> Result<(), NoMemory>
+        ensures { OnOk result ((h : History) (sizes : LinksSizes) (links : List Link) → took self.old h sizes links → takes self.new h sizes links head []) };
+
+    /// The next step of its walk.
+    fn step(&mut self, step: Step) -> Result<(), NoMemory>
+        ensures { OnOk result ((h : History) (sizes : LinksSizes) (links : List Link) (head : Link) (walk : List Step) → takes self.old h sizes links head walk
+            → takes self.new h sizes links head (walk ++ step ∷ [])) };
+
+    /// The link has all its steps.
+    fn end(&mut self) -> Result<(), NoMemory>
+        ensures { OnOk result ((h : History) (sizes : LinksSizes) (links : List Link) (head : Link) (walk : List Step) → takes self.old h sizes links head walk
+            → took self.new h sizes (links ++ with_walk head walk ∷ [])) };
 }

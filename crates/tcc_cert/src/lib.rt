@@ -24,13 +24,16 @@ mod writing;
 pub use certificate::{Certificate, CycleClaim, OrderClaim};
 pub use cycle_writer::{CycleTable, CycleWriter, write_first_lines};
 pub use fault::{CertFault, CertFaultKind, CertWriteFault};
-pub use large::{LargeCertificate, LinksClaim, Run, Runs, RunsClaim};
+pub use large::{
+    LargeCertificate, LargeHead, LinksClaim, LinksHead, LinksSizes, Run, Runs, RunsClaim,
+    TakesLinks,
+};
 pub use large_writing::write_large;
 pub use lists::{Links, Numbers, Table};
 pub use outgoing::Outgoing;
 pub use part::{CycleHead, OrderHead, Part};
 pub use ranges::Scale;
-pub use reading::{CertReader, LargeReader, VersionReader, read, read_large, reader_of};
+pub use reading::{CertReader, LargeReader, VersionReader, read, read_large, reader_of, with_walk};
 pub use runs::{order_claim, runs_of};
 pub use version::Version;
 pub use writing::write;

@@ -6,6 +6,7 @@ ghost use Rattle.tcc_cert.specs.Reading.{Position, header_line, next, word_line,
 
 mod decimals;
 mod forms;
+mod held;
 mod input;
 mod large;
 mod large_forms;
@@ -15,6 +16,7 @@ mod rows;
 mod shape;
 mod source;
 mod stages;
+mod taking;
 mod versions;
 mod window;
 mod words;
@@ -23,6 +25,7 @@ use crate::ranges::{MAX_HEADER_BYTES, Scale};
 use crate::{CertFault, CertFaultKind, Certificate, Links, Numbers, Part, Table, Version};
 use input::{Input, at_line};
 pub use large::read_large;
+pub use links::with_walk;
 pub use parts::CertReader;
 use std::alloc::Global;
 use std::io::Read;

@@ -34,6 +34,17 @@ abbrev pub Gives : {R X : Type 0} → (R → Option (List ℕ)) → Position →
 Gives remaining at read (Ok x) new = (after : Position) × (read ≡ Ok (x, after)) × IsAt remaining new after
 Gives remaining at read (Err fault) new = Faults (HasFailed new) at read fault
 
+-- something was given of what the text shows from the position on, of which this holds, and the input is behind it
+pub record SuchGiven {R X Y : Type 0} (remaining : R → Option (List ℕ)) (at : Position) (read : Reads X) (such : X → Y → Type 0) (y : Y) (new : Input R) : Type 0 where
+  pub item : X
+  pub holds : such item y
+  pub given : Gives remaining at read (Ok item) new
+
+-- so it was, or a fault was met
+abbrev pub GivesSuch : {R X Y : Type 0} → (R → Option (List ℕ)) → Position → Reads X → (X → Y → Type 0) → Result Y CertFault → Input R → Type 0
+GivesSuch remaining at read such (Ok y) new = SuchGiven remaining at read such y new
+GivesSuch remaining at read such (Err fault) new = Faults (HasFailed new) at read fault
+
 -- whether nothing stands from the position on, unless the reader failed
 abbrev pub Ends : {R : Type 0} → Position → Result (Unit {0}) CertFault → Input R → Type 0
 Ends at (Ok _) new = at.bytes ≡ []

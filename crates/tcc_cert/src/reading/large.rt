@@ -1,21 +1,27 @@
 //! How the text of version 3 is read.
 ghost use Rattle.std.specs.Prelude.{◌≡◌, ℕ, IfSome, List, OnOk, is_ok};
-ghost use Rattle.tcc_cert.specs.{private.Inputs.AsBefore, private.Inputs.Gives, InputBytes.IsAt, Outcomes.IsLargeReading, declared.ranges.TheConstants.MAX_HEADER_BYTES};
-ghost use Rattle.tcc_cert.specs.Reading.{Position, link_at, next, repeated, start_of};
-ghost use Rattle.tcc_cert.specs.LargeReading.{large_behind_header, large_certificate_at, large_claim_at, large_header_line, least_at, links_claim_at, runs_at};
+ghost use Rattle.tcc_cert.specs.{private.Inputs.AsBefore, private.Inputs.Gives, private.Inputs.GivesSuch, InputBytes.IsAt, Outcomes.IsLargeReading, Taken.IsClaimTaken, Taken.IsLargeTaken, declared.ranges.TheConstants.MAX_HEADER_BYTES};
+ghost use Rattle.tcc_cert.specs.Reading.{Position, next, start_of};
+ghost use Rattle.tcc_reads.specs.History.{History};
+ghost use Rattle.tcc_cert.specs.LargeReading.{large_behind_header, large_certificate_at, large_header_line, least_at, links_claim_at, runs_at};
 
 use super::forms::{CycleSizes, Sizes};
+use super::held::Held;
 use super::input::{Input, at_line};
 use super::large_forms::{LargeOrderSizes, Tail};
 use super::links::entries;
 use super::mark;
+use super::taking::give_links;
 use super::words::next_line;
 use crate::ranges::{MAX_HEADER_BYTES, Scale};
 use crate::version_3::V3_MAX_TEXT_BYTES;
-use crate::{CertFault, CertFaultKind, LargeCertificate, LinksClaim, Run, Runs, RunsClaim};
+use crate::{
+    CertFault, CertFaultKind, LargeCertificate, LargeHead, LinksClaim, LinksHead, LinksSizes, Run,
+    Runs, RunsClaim, TakesLinks,
+};
 use std::alloc::Global;
 use std::io::Read;
-use tcc_graph::{Level, Link};
+use tcc_graph::Level;
 
 /// The text is given up where it has more bytes than this: one more than it may have, so that its end is met.
 pub(crate) const MOST_BYTES: usize = V3_MAX_TEXT_BYTES + 1;
@@ -45,50 +51,54 @@ fn least<R: Read>(
     }
 }
 
-/// The claim of a cycle, behind its sizes.
-fn cycle<R: Read>(
+/// The claim of a cycle, behind its sizes, whose links are taken.
+fn cycle<S: TakesLinks, R: Read>(
     alloc: Global,
     input: &mut Input<R>,
-    level: Level,
-    sizes: CycleSizes,
-) -> Result<LargeCertificate, CertFault>
+    sizes: LinksSizes,
+    taker: &mut S,
+) -> Result<LargeHead, CertFault>
     ensures works { OnOk result (AsBefore input.old input.new) }
-    ensures gives { (at : Position) → IsAt R.remaining input.old at
-        → Gives R.remaining at (links_claim_at level sizes.transactions sizes.links sizes.cost at) result input.new }
+    ensures gives { (at : Position) (h : History) → IsAt R.remaining input.old at → S.ready taker.old h
+        → GivesSuch R.remaining at (links_claim_at sizes.level sizes.transactions sizes.links sizes.cost at) (IsClaimTaken (S.took taker.new h)) result input.new }
 {
-    let links = entries::<Link, R>(alloc, input, Scale::Large, sizes.links)?;
+    taker.start(sizes);
+    give_links(alloc, input, sizes.links, taker)?;
     let tail = next_line::<Tail, R>(alloc, input, Scale::Large)?;
     let least = least(alloc, input, tail)?;
-    Ok(LargeCertificate::Cycle(LinksClaim {
-        level,
-        transactions: sizes.transactions,
-        links,
-        cost: sizes.cost,
-        least,
-    }))
+    Ok(LargeHead::Cycle(LinksHead { sizes, least }))
 }
 
 /// What stands behind the first line.
-fn claim<R: Read>(
+fn claim<S: TakesLinks, R: Read>(
     alloc: Global,
     input: &mut Input<R>,
     level: Level,
-) -> Result<LargeCertificate, CertFault>
+    taker: &mut S,
+) -> Result<LargeHead, CertFault>
     ensures works { OnOk result (AsBefore input.old input.new) }
-    ensures gives { (at : Position) → IsAt R.remaining input.old at
-        → Gives R.remaining at (large_behind_header (level, at)) result input.new }
+    ensures gives { (at : Position) (h : History) → IsAt R.remaining input.old at → S.ready taker.old h
+        → GivesSuch R.remaining at (large_behind_header (level, at)) (IsClaimTaken (S.took taker.new h)) result input.new }
 {
     match next_line::<Sizes<LargeOrderSizes>, R>(alloc, input, Scale::Large)? {
         Sizes::Order(sizes) => {
             let runs = runs(alloc, input, sizes.runs)?;
-            Ok(LargeCertificate::Order(RunsClaim {
+            Ok(LargeHead::Order(RunsClaim {
                 level,
                 transactions: sizes.transactions,
                 sessions: sizes.sessions,
                 runs,
             }))
         }
-        Sizes::Cycle(sizes) => cycle(alloc, input, level, sizes),
+        Sizes::Cycle(sizes) => {
+            let sizes = LinksSizes {
+                level,
+                transactions: sizes.transactions,
+                links: sizes.links,
+                cost: sizes.cost,
+            };
+            cycle(alloc, input, sizes, taker)
+        }
     }
 }
 
@@ -122,12 +132,30 @@ fn header<R: Read>(input: &mut Input<R>) -> Result<Level, CertFault>
 }
 
 /// A certificate, up to its last line.
-fn certificate<R: Read>(alloc: Global, input: &mut Input<R>) -> Result<LargeCertificate, CertFault>
+fn certificate<S: TakesLinks, R: Read>(
+    alloc: Global,
+    input: &mut Input<R>,
+    taker: &mut S,
+) -> Result<LargeHead, CertFault>
     ensures works { OnOk result (AsBefore input.old input.new) }
-    ensures gives { (at : Position) → IsAt R.remaining input.old at → Gives R.remaining at (large_certificate_at at) result input.new }
+    ensures gives { (at : Position) (h : History) → IsAt R.remaining input.old at → S.ready taker.old h
+        → GivesSuch R.remaining at (large_certificate_at at) (IsClaimTaken (S.took taker.new h)) result input.new }
 {
     let level = header(input)?;
-    claim(alloc, input, level)
+    claim(alloc, input, level, taker)
+}
+
+/// The whole text, which starts where the input stands, and whose links are taken.
+pub(crate) fn taken<S: TakesLinks, R: Read>(
+    alloc: Global,
+    input: &mut Input<R>,
+    taker: &mut S,
+) -> Result<LargeHead, CertFault>
+    ensures { (bytes : List ℕ) (h : History) → IsAt R.remaining input.old (start_of bytes) → S.ready taker.old h → IsLargeTaken bytes (S.took taker.new h) result }
+{
+    let claim = certificate(alloc, input, taker)?;
+    input.end()?;
+    Ok(claim)
 }
 
 /// The whole text, which starts where the input stands.
@@ -137,14 +165,23 @@ pub(crate) fn whole<R: Read>(
 ) -> Result<LargeCertificate, CertFault>
     ensures { (bytes : List ℕ) → IsAt R.remaining input.old (start_of bytes) → IsLargeReading bytes result }
 {
-    let certificate = certificate(alloc, input)?;
-    input.end()?;
-    Ok(certificate)
+    let mut held = Held::new(alloc);
+    match taken(alloc, input, &mut held)? {
+        LargeHead::Order(claim) => Ok(LargeCertificate::Order(claim)),
+        LargeHead::Cycle(LinksHead { sizes, least }) => Ok(LargeCertificate::Cycle(LinksClaim {
+            level: sizes.level,
+            transactions: sizes.transactions,
+            links: held.into_links(),
+            cost: sizes.cost,
+            least,
+        })),
+    }
 }
 
 /// Reads the certificate of version 3 whose text the reader gives, nothing behind it, or the first line with a fault. The
 /// first line has at most 8,191 bytes and a line feed, each other at most 127. Where the reader fails, that is the fault
 /// `Read` at the line that was wanted then, unless a line before it has another; so it is where the text goes on past 1 GiB.
+/// It is for those who want the certificate as a value; who only goes through its links once takes a `LargeReader`.
 pub fn read_large<R: Read + Drop>(alloc: Global, reader: R) -> Result<LargeCertificate, CertFault>
     ensures { IfSome (R.remaining reader) (λ bytes. IsLargeReading bytes result) }
 {

@@ -35,7 +35,7 @@ pub(crate) fn entries<E: Entry, R: Read>(
 }
 
 /// The link with these steps, if it is derived.
-fn with_walk(link: Link, walk: Walk) -> Link
+pub fn with_walk(link: Link, walk: Walk) -> Link
     ensures { result ≡ with_walk link walk }
 {
     match link {

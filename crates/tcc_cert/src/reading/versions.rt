@@ -1,13 +1,15 @@
 //! The version of a text, by its first line.
 ghost use Rattle.std.specs.Prelude.{◌≡◌, ◌<◌, ℕ, List, IfErr, IfOk, IfSome};
+ghost use Rattle.tcc_reads.specs.History.{History};
 ghost use Rattle.tcc_cert.specs.Outcomes.{IsLargeReading};
+ghost use Rattle.tcc_cert.specs.Taken.{IsLargeTaken};
 ghost use Rattle.tcc_cert.specs.Versions.{IsLargeAt, IsReaderOf, IsUntouched};
 
 use super::input::Input;
-use super::large::{MOST_BYTES, is_header, whole};
+use super::large::{MOST_BYTES, is_header, taken, whole};
 use super::parts::CertReader;
 use crate::ranges::MAX_HEADER_BYTES;
-use crate::{CertFault, LargeCertificate};
+use crate::{CertFault, LargeCertificate, LargeHead, TakesLinks};
 use std::alloc::Global;
 use std::io::Read;
 
@@ -33,6 +35,14 @@ impl<R: Read + Drop> LargeReader<R> {
     {
         let LargeReader { mut input } = self;
         whole(alloc, &mut input)
+    }
+
+    /// The same of a text whose links are taken one by one, none of which is held.
+    pub fn take<S: TakesLinks>(self, alloc: Global, taker: &mut S) -> Result<LargeHead, CertFault>
+        ensures { (bytes : List ℕ) (h : History) → IsLargeAt R.remaining self bytes → S.ready taker.old h → IsLargeTaken bytes (S.took taker.new h) result }
+    {
+        let LargeReader { mut input } = self;
+        taken(alloc, &mut input, taker)
     }
 }
 

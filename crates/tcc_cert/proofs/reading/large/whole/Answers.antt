@@ -1,20 +1,38 @@
--- The certificate was read, and nothing stands behind it.
+-- The claim was read, and its links are held, whichever history they are for.
+use Rattle.std.proofs.Common.{◌≡◌, ◌∙◌, ℕ, List, [], Ok, ap, sym}
 use Rattle.std.proofs.lemmas.Result.{err_from_is_err_and}
-use Rattle.tcc_cert.specs.Reading.{start_of}
-use Rattle.tcc_cert.proofs.LargeReads.{end-read, read-fails, whole-read}
+use Rattle.tcc_reads.specs.History.{History}
+use Rattle.tcc_graph.specs.declared.link.Link.{Link}
+use Rattle.tcc_cert.specs.declared.large.LargeCertificate.TheVariants as claim
+use Rattle.tcc_cert.specs.declared.large.LargeHead.TheVariants as head
+use Rattle.tcc_cert.specs.declared.large.LinksHead.{LinksHead}
+use Rattle.tcc_cert.specs.declared.large.RunsClaim.{RunsClaim}
+use Rattle.tcc_cert.specs.LargeReading.{large_certificate_read}
+use Rattle.tcc_cert.specs.Taken.{IsLargeTaken, with_links}
 use Rattle.tcc_cert.proofs.reading.large.whole.Goals as goal
 
-pub returns-in_err-certificate : goal.returns-in_err-certificate
-returns-in_err-certificate g c bytes before =
-    read-fails bytes c.from_residual.result c.from_residual.ensures.1 (c.in_err-certificate.ensures.gives (start_of bytes) before)
+any : History
+any = record { sessions = []; entries = [] }
 
-pub returns-in_err-end : goal.returns-in_err-end
-returns-in_err-end g c bytes before =
-    let read = c.in_ok-certificate.ensures.gives (start_of bytes) before in
-    let p = err_from_is_err_and c.from_residual-in_err-end.result c.from_residual-in_err-end.ensures.1 in
-    rw (p.1, p.2) (end-read bytes _ read.0 _ c.end.new.self read.1 (c.in_err-end.ensures.ends read.0 read.2))
+order_read : (bytes : List ℕ) (k : RunsClaim) (own : List Link) → IsLargeTaken bytes (λ sizes links. own ≡ links) (Ok (head.Order k))
+    → large_certificate_read bytes ≡ Ok (claim.Order k)
+order_read bytes k own (certificate, read, made) = read ∙ ap Ok made
 
-pub returns : goal.returns
-returns g c bytes before =
-    let read = c.in_ok-certificate.ensures.gives (start_of bytes) before in
-    whole-read bytes c.in_ok-certificate.certificate read.0 read.1 (c.in_ok-end.ensures.ends read.0 read.2)
+cycle_read : (bytes : List ℕ) (k : LinksHead) (own held : List Link) → IsLargeTaken bytes (λ sizes links. own ≡ links) (Ok (head.Cycle k)) → held ≡ own
+    → large_certificate_read bytes ≡ Ok (claim.Cycle (with_links k held))
+cycle_read bytes k own held (certificate, read, (links, is, made)) same =
+    read ∙ ap Ok made ∙ ap (λ l. Ok (claim.Cycle (with_links k l))) (sym (same ∙ is))
+
+pub returns-in_err-claim : goal.returns-in_err-claim
+returns-in_err-claim g c bytes before =
+    let p = err_from_is_err_and c.from_residual.result c.from_residual.ensures.1 in
+    rw (p.1, p.2) (c.in_err-claim.ensures bytes any before c.new-held.ensures)
+
+pub returns-in-Order : goal.returns-in-Order
+returns-in-Order g c bytes before =
+    order_read bytes c.in-Order.claim c.taken.new.taker.links.items (rw c.in-Order.is at (c.in_ok-claim.ensures bytes any before c.new-held.ensures))
+
+pub returns-in-Cycle : goal.returns-in-Cycle
+returns-in-Cycle g c bytes before =
+    cycle_read bytes c.in-Cycle.field-0 c.taken.new.taker.links.items c.into_links.result (rw c.in-Cycle.is at (c.in_ok-claim.ensures bytes any before c.new-held.ensures))
+    c.into_links.ensures
