@@ -4,8 +4,9 @@ ghost use Rattle.std.specs.FinMap.{get};
 ghost use Rattle.std.specs.List.{list_any};
 ghost use Rattle.tcc_txn.specs.Bytes.{same};
 ghost use Rattle.tcc_book.specs.Passes.{Agrees, LeastTorn, first_missing, has_pass};
-ghost use Rattle.tcc_book.specs.private.Lesser.{lesser};
+ghost use Rattle.tcc_book.specs.private.{Copies.IsSealedCopy, Copies.IsWholeCopy, Lesser.lesser};
 
+use crate::fault::{SealFault, WholeFault};
 use crate::pass::Pass;
 use tcc_txn::{Name, Snapshot, Txn, are_same};
 
@@ -25,7 +26,7 @@ pub(crate) fn found<'a>(copy: &'a Snapshot, session: &Name) -> Option<&'a [Txn]>
 }
 
 /// Whether the snapshot has exactly what the pass recorded.
-pub(crate) fn agrees(copy: &Snapshot, pass: &Pass) -> bool
+fn agrees(copy: &Snapshot, pass: &Pass) -> bool
     ensures yes { result ≡ true → Agrees copy.now pass.now }
     ensures no { result ≡ false → Agrees copy.now pass.now → ⊥ }
 {
@@ -43,7 +44,7 @@ fn has_pass(passes: &[Pass], session: &Name) -> bool
 }
 
 /// The first session of the snapshot that has no pass.
-pub(crate) fn missing(copy: &Snapshot, passes: &[Pass]) -> Option<Name>
+fn missing(copy: &Snapshot, passes: &[Pass]) -> Option<Name>
     ensures { result ≡ first_missing copy.now passes.now }
 {
     for i in 0..copy.sessions() {
@@ -68,7 +69,7 @@ fn lesser(least: Option<Name>, name: &Name) -> Name
 }
 
 /// The least name of a pass with which the snapshot does not agree.
-pub(crate) fn least_torn(copy: &Snapshot, passes: &[Pass]) -> Option<Name>
+fn least_torn(copy: &Snapshot, passes: &[Pass]) -> Option<Name>
     ensures { LeastTorn copy.now passes.now result }
 {
     let mut least: Option<Name> = None;
@@ -78,4 +79,29 @@ pub(crate) fn least_torn(copy: &Snapshot, passes: &[Pass]) -> Option<Name>
         }
     }
     least
+}
+
+/// The copy of the book, where it has exactly what the pass recorded.
+pub(crate) fn sealed_copy(copy: Snapshot, pass: &Pass) -> Result<Snapshot, SealFault>
+    ensures { IsSealedCopy copy pass.now result }
+{
+    if !agrees(&copy, pass) {
+        return Err(SealFault::Torn {
+            session: *pass.session(),
+        });
+    }
+    Ok(copy)
+}
+
+/// The copy of the book, where it is exactly what the passes recorded.
+pub(crate) fn whole_copy(copy: Snapshot, passes: &[Pass]) -> Result<Snapshot, WholeFault>
+    ensures { IsWholeCopy copy passes.now result }
+{
+    if let Some(session) = missing(&copy, passes) {
+        return Err(WholeFault::MissingPass { session });
+    }
+    if let Some(session) = least_torn(&copy, passes) {
+        return Err(WholeFault::Torn { session });
+    }
+    Ok(copy)
 }

@@ -2,7 +2,7 @@
 ghost use Rattle.std.specs.Prelude.{◌≡◌, MatchResult, Ok, Err};
 ghost use Rattle.tcc_book.specs.Passes.{GivesPass, IsWhole, Receives, Seals};
 
-use crate::agreement::{agrees, least_torn, missing};
+use crate::agreement::{sealed_copy, whole_copy};
 use crate::fault::{OpenFault, RecordFault, SealFault, WholeFault};
 use crate::pass::{Pass, Receipt};
 use crate::state::BookState;
@@ -67,12 +67,7 @@ impl Book {
         let Ok(copy) = self.state.lock(rt).copy(alloc) else {
             return Err(SealFault::NoMemory);
         };
-        if !agrees(&copy, pass) {
-            return Err(SealFault::Torn {
-                session: *pass.session(),
-            });
-        }
-        Ok(copy)
+        sealed_copy(copy, pass)
     }
 
     /// Exactly what the passes recorded, where they are those of all sessions. It holds the lock for a time in proportion
@@ -88,13 +83,7 @@ impl Book {
         let Ok(copy) = self.state.lock(rt).copy(alloc) else {
             return Err(WholeFault::NoMemory);
         };
-        if let Some(session) = missing(&copy, passes) {
-            return Err(WholeFault::MissingPass { session });
-        }
-        if let Some(session) = least_torn(&copy, passes) {
-            return Err(WholeFault::Torn { session });
-        }
-        Ok(copy)
+        whole_copy(copy, passes)
     }
 
     /// Answers as `whole` does, and ends the book and its passes; where it is refused they come back.
