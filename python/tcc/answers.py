@@ -4,14 +4,14 @@ import re
 from dataclasses import dataclass
 from typing import Any, Dict, Iterable, List, Optional, Tuple
 
+from tcc import kinds
+from tcc.kinds import VIOLATIONS as VIOLATIONS
 from tcc.rows import Json, Transaction, Unfit
 
 NAME = re.compile(r"[A-Za-z0-9_.-]{1,32}")
 LABEL = re.compile(r"init|(%s)/([1-9][0-9]*)" % NAME.pattern)
 # The names of kinds of faults, and of shapes, that the field has.
-FIELD_NAMES = {"Aborted": "G1a", "Intermediate": "G1b", "BrokenInternal": "internal", "cyclic-causality": "G1c"}
-# The kinds of faults that no promise lets be, by their names: others may be those of the records.
-VIOLATIONS = {"Aborted": "aborted read (G1a)", "Intermediate": "intermediate read (G1b)", "BrokenInternal": "internal", "Future": "future read"}
+FIELD_NAMES = {**kinds.FIELD_NAMES, "cyclic-causality": "G1c"}
 
 
 @dataclass(frozen=True)

@@ -14,13 +14,12 @@ import time
 from dataclasses import dataclass, field
 from typing import Any, Callable, ContextManager, Iterator, List, NamedTuple, Optional, Sequence, TextIO, Tuple, Type
 
+from tcc.limits import LARGE_KEYS, LARGE_TRANSACTIONS
 from tcc.noted import Transaction, annotations, records, session_name, summary, warnings
 from tcc.notes import Event, write_notes
 from tcc.whole import written_whole
 from tcc.words import count_within
 
-MOST_TRANSACTIONS = 1048575
-MOST_KEYS = 1048576
 # A value is a counter and the number of the client that wrote it, which is less than this.
 CLIENTS = 4096
 LOOPBACK = "127.0.0.1"
@@ -46,12 +45,12 @@ class Unplayed(NoServer):
 def arguments(ask: argparse.ArgumentParser) -> argparse.Namespace:
     """What is asked for, with how much clients do, which is no more than `tcc --large` takes."""
     ask.add_argument("--clients", type=count_within(1, CLIENTS - 1), default=4, metavar="N", help="so many clients, by default 4")
-    ask.add_argument("--transactions", type=count_within(1, MOST_TRANSACTIONS), default=200, metavar="N",
+    ask.add_argument("--transactions", type=count_within(1, LARGE_TRANSACTIONS), default=200, metavar="N",
                      help="so many for each, by default 200")
-    ask.add_argument("--keys", type=count_within(1, MOST_KEYS), default=8, metavar="N",
-                     help="so many keys, 1 to %d, by default 8" % MOST_KEYS)
+    ask.add_argument("--keys", type=count_within(1, LARGE_KEYS), default=8, metavar="N",
+                     help="so many keys, 1 to %d, by default 8" % LARGE_KEYS)
     ask.add_argument("--seconds", type=count_within(1, 86400), default=20, metavar="N", help="clients stop after so many, by default 20")
-    ask.add_argument("--at-least", type=count_within(0, MOST_TRANSACTIONS), default=0, metavar="N",
+    ask.add_argument("--at-least", type=count_within(0, LARGE_TRANSACTIONS), default=0, metavar="N",
                      help="but each goes on until it has done so many, for up to %d times as long; else the status is %d" % (LONGER, UNPLAYED))
     ask.add_argument("--seed", type=int, default=1, metavar="N", help="which keys are picked follows from it, by default 1")
     ask.add_argument("--keep-sessions", action="store_true",
@@ -62,8 +61,8 @@ def arguments(ask: argparse.ArgumentParser) -> argparse.Namespace:
     ask.add_argument("--notes", metavar="FILE", help="the file for annotations: of each transaction the node, the time, and why "
                      "it didn't commit")
     asked = ask.parse_args()
-    if asked.clients * asked.transactions > MOST_TRANSACTIONS:
-        ask.error("that would be more than %d transactions in all, which is what tcc takes" % MOST_TRANSACTIONS)
+    if asked.clients * asked.transactions > LARGE_TRANSACTIONS:
+        ask.error("that would be more than %d transactions in all, which is what tcc takes" % LARGE_TRANSACTIONS)
     return asked
 
 

@@ -12,6 +12,7 @@ from dataclasses import dataclass, field
 from typing import Any, Counter as Count, Dict, Iterator, List, Optional, Sequence, Set, Tuple, Union, cast
 
 from tcc.edn import NoEdn, Reader, atom
+from tcc.limits import DEFAULT, LARGE, MAX_SEALS
 from tcc.list_terms import ListTerms
 from tcc.lists import APPEND, LIST, READ, WRITE as WRITES, Lists, Step as ListStep, Transaction as ListTransaction
 from tcc.notes import Note
@@ -21,10 +22,6 @@ from tcc.versions import Versions, add_version
 
 NAME = re.compile(r"[A-Za-z0-9_.-]{1,32}")
 GREATEST_VALUE = 2**64 - 1
-# What tcc takes at most.
-LIMITS = {"sessions": 64, "transactions": 4095, "keys": 1024, "operations in a transaction": 256}
-# The same with `--large`.
-LARGE = {"sessions": 65535, "transactions": 1048575, "keys": 1048576, "operations in a transaction": 256}
 HINTS = {"value": "; if keys have it before they are written, say so with --initial"}
 OK, FAIL, INFO = 0, 1, 2
 OUTCOMES = {"ok": OK, "fail": FAIL, "info": INFO}
@@ -34,7 +31,7 @@ DIGITS = re.compile(r"[1-9][0-9]{0,18}")
 FORMULA = tuple("=+-@")  # how what a spreadsheet would reckon begins
 NANOSECONDS = 1e9
 CLOCK = 10**16  # nanoseconds, some months
-MOST_SEALS, MOST_FAULTS = 256, 5
+MOST_FAULTS = 5
 # The steps of a transaction as they came: the text of a usual map of EDN, a usual list of JSON, or steps; none where it had none.
 Raw = Union[None, str, list, Tuple[Step, ...]]
 
@@ -515,10 +512,10 @@ class Imported:
             if number > LARGE[what]:
                 shorter = "transactions" if what.startswith("operations") else "the run"
                 yield "%d %s: tcc takes at most %d, so make %s shorter" % (number, what, LARGE[what], shorter)
-            elif number > LIMITS[what]:
-                yield "%d %s: tcc explain takes at most %d, so say --large" % (number, what, LIMITS[what])
-        if seal_every and len(self.texts) // seal_every > MOST_SEALS:
-            yield "%d seals: tcc takes at most %d, so say a greater --seal-every" % (len(self.texts) // seal_every, MOST_SEALS)
+            elif number > DEFAULT[what]:
+                yield "%d %s: tcc explain takes at most %d, so say --large" % (number, what, DEFAULT[what])
+        if seal_every and len(self.texts) // seal_every > MAX_SEALS:
+            yield "%d seals: tcc takes at most %d, so say a greater --seal-every" % (len(self.texts) // seal_every, MAX_SEALS)
         if self.of_lists is not None:
             words = ListTerms(self.of_lists, {}, *self.true_names())
             for one in self.of_lists.faults[:MOST_FAULTS]:

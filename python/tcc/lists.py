@@ -19,10 +19,10 @@ from collections import defaultdict
 from dataclasses import dataclass, field
 from typing import Callable, DefaultDict, Dict, FrozenSet, Iterable, Iterator, List, NamedTuple, Optional, Set, Tuple
 
+from tcc.limits import MAX_NAME_BYTES, MAX_OPERATIONS
+
 OK, FAIL, INFO = 0, 1, 2
 APPEND, LIST, READ, WRITE = "append", "list", "read", "write"  # what a step does: the last two are of registers
-MOST_OPERATIONS = 256  # of a transaction
-LONGEST_NAME = 32
 LAST = 2**62
 OBSERVER, UNREAD, FAULTY = "o.%d", "u.%d", "f.%d"  # the sessions that no client has
 
@@ -463,7 +463,7 @@ class Lists:
         name = self._names.get((key, element))
         if name is None:
             name = "%s.%s" % (key, element)
-            if len(name) > LONGEST_NAME or name in self.elements or name in self._keys:
+            if len(name) > MAX_NAME_BYTES or name in self.elements or name in self._keys:
                 name = "e-%d" % len(self._names)
             self._names[key, element] = name
             self.elements[name] = (key, element)
@@ -580,9 +580,9 @@ class Lists:
         writes = list(dict.fromkeys(writes))
         before: List[str] = []
         behind: List[str] = []
-        if len(last) + len(there) + len(lacks) + len(writes) > MOST_OPERATIONS:
+        if len(last) + len(there) + len(lacks) + len(writes) > MAX_OPERATIONS:
             before, there = there, []
-            if len(last) + len(lacks) + len(writes) > MOST_OPERATIONS:
+            if len(last) + len(lacks) + len(writes) > MAX_OPERATIONS:
                 behind, lacks = lacks, []
         own = [*last, *there, *lacks, *writes]
         self.longest = max(self.longest, len(own))
@@ -713,4 +713,4 @@ def observer(name: str, key: str, values: Iterable[str]) -> str:
 
 
 def chunks(operations: List[str]) -> List[List[str]]:
-    return [operations[first:first + MOST_OPERATIONS] for first in range(0, len(operations), MOST_OPERATIONS)]
+    return [operations[first:first + MAX_OPERATIONS] for first in range(0, len(operations), MAX_OPERATIONS)]

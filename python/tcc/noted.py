@@ -3,11 +3,8 @@ from collections import Counter
 from dataclasses import dataclass
 from typing import Counter as Count, Dict, Iterable, Iterator, List, Optional, Tuple
 
+from tcc.limits import DEFAULT, LARGE
 from tcc.notes import Note
-
-# What `tcc explain` takes at most, and with `--large`.
-LIMITS = {"sessions": 64, "transactions": 4095, "keys": 1024}
-LARGE = {"sessions": 65535, "transactions": 1048575, "keys": 1048576}
 
 
 @dataclass
@@ -71,8 +68,8 @@ def warnings(transactions: List[Transaction]) -> Iterator[str]:
     for what, number in counts.items():
         if number > LARGE[what]:
             yield "%d %s: tcc takes at most %d, so make the run shorter" % (number, what, LARGE[what])
-        elif number > LIMITS[what]:
-            yield "%d %s: tcc explain takes at most %d, so say --large" % (number, what, LIMITS[what])
+        elif number > DEFAULT[what]:
+            yield "%d %s: tcc explain takes at most %d, so say --large" % (number, what, DEFAULT[what])
 
 
 def summary(transactions: List[Transaction]) -> str:

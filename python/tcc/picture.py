@@ -27,6 +27,7 @@ from dataclasses import dataclass, field
 from typing import Dict, Iterable, Iterator, List, Optional, TextIO, Tuple
 
 from tcc.answers import (Link, anomaly_head, columns, cycle_of, key, label, order_head, place, read_answer, transactions_of)
+from tcc.kinds import OWN, WRITTEN
 from tcc.progress import Doing, status_of
 from tcc.rows import History, Json, Operation, Transaction, Unfit, open_records, read_history, read_places
 from tcc.terms import Terms
@@ -59,14 +60,6 @@ MOST_DRAWN = 12
 MOST_ORDERED = 2000
 # The steps of a walk that are drawn one by one, and of an anomaly whose links are drawn with their reasons.
 MOST_WALKED, MOST_STEPS = 8, 40
-# What is said of the write that a fault is about: of the value, or of the reader's own write of the key before.
-WRITTEN = {
-    "Duplicate": "wrote it before",
-    "Aborted": "wrote it, in a transaction that aborted",
-    "Intermediate": "wrote it, and wrote the key again in its transaction",
-    "Future": "wrote it, later in the transaction",
-}
-OWN = {"BrokenInternal": "wrote another value before"}
 
 
 def drawn_walk(one: Link) -> Tuple[Link, ...]:

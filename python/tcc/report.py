@@ -30,9 +30,11 @@ from tcc import jepsen
 from tcc.answers import FIELD_NAMES, VIOLATIONS, Link, cycle_of, place, session_of, usual_name
 from tcc.chart import Course, Span, chart
 from tcc.contradicted import Contradicted, Fault, Graph, Survey, cycle_of_read, survey, told_by_program
-from tcc.imported import Imported, LIMITS
+from tcc.imported import Imported
 from tcc.inputs import FIRST, Foreign, foreign, is_of_records, opened
+from tcc.kinds import FAULTS
 from tcc.lanes import Edge, Scene, Size, picture, scene_of
+from tcc.limits import MAX_KEYS, MAX_SESSIONS, MAX_TRANSACTIONS
 from tcc.list_terms import ABOUT as ABOUT_LISTS, ListTerms, Shown, lists_read
 from tcc.lists import KINDS as LIST_FAULTS, Lists
 from tcc.notes import Event, NoNotes, Note, read_events, read_notes, write_notes
@@ -76,14 +78,6 @@ ABOUT = {
     "divergent writes": "two sessions saw two writes of a key in opposite orders",
     "circular reads": "transactions read from one another in a circle (G1c)",
     OUT_OF_ORDER: "a key's versions have another order than sessions and reads",
-}
-FAULTS = {
-    "Aborted": ("aborted read (G1a)", "read a value whose transaction aborted"),
-    "Intermediate": ("intermediate read (G1b)", "read a value that its transaction wrote over before it committed"),
-    "BrokenInternal": ("internal", "read a key after its own write of it, and got something else"),
-    "Future": ("future read", "read a value that its own transaction wrote only later"),
-    "ThinAir": ("value from nowhere", "read a value that nobody wrote"),
-    "Duplicate": ("value written twice", "wrote a value that was written at its key before"),
 }
 LEGEND = (("session", "order in a session"), ("reads", "reads: the second read what the first wrote"), ("walk", "several steps"),
           ("against", "a read that is contradicted"), ("derived", "what would have to come first, so that no order is left"))
@@ -322,8 +316,8 @@ def with_versions(history: History, versions: Versions, level: str, work: Work) 
 
 def is_large(history: History) -> bool:
     """Whether a history passes the limits without --large."""
-    return (len(sessions_of(history)) > LIMITS["sessions"] or len(history.transactions) > LIMITS["transactions"]
-            or len(keys_of(history)) > LIMITS["keys"])
+    return (len(sessions_of(history)) > MAX_SESSIONS or len(history.transactions) > MAX_TRANSACTIONS
+            or len(keys_of(history)) > MAX_KEYS)
 
 
 def sessions_of(history: History) -> Set[str]:

@@ -11,6 +11,7 @@ import subprocess
 from dataclasses import dataclass, fields
 from typing import Any, Callable, Dict, Iterator, List, Mapping, Optional, Tuple, Union
 
+from tcc.kinds import VIOLATIONS
 from tcc.sessions import judged_by
 from tcc.versions import judged_with
 
@@ -19,9 +20,6 @@ Begun = Callable[["subprocess.Popen[str]"], None]
 CONSISTENT, ANOMALY, UNRESOLVED = 0, 1, 2
 BESIDE = os.path.join(os.path.dirname(os.path.abspath(__file__)), "..", "..", "tcc")
 LEVELS = ("causal", "atomic")
-# Kinds of faults: a read of an aborted transaction, of a value that was written over in its own, of another value than the own last
-# one, and of one's own later write. The others may be those of the records.
-VIOLATIONS = ("Aborted", "Intermediate", "BrokenInternal", "Future")
 
 
 class NoAnswer(Exception):

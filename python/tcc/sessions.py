@@ -15,12 +15,12 @@ from typing import Counter as Count, Dict, Iterator, List, Optional, Tuple
 
 from tcc.appended import NoRecord, Path
 from tcc.known import NAME
+from tcc.limits import MAX_NAME_BYTES
 from tcc.notes import NoNotes, Note, read_notes, rows_of, write_notes
 from tcc.whole import written_whole
 
 WAYS = ("client", "node")
 NO_NAME = re.compile(r"[^A-Za-z0-9_.-]")
-MOST_LETTERS = 32
 
 
 class Names:
@@ -35,11 +35,11 @@ class Names:
             return client
         if (client, node) not in self.names:
             stem = ("%s.%s" % (client, NO_NAME.sub("_", node)))
-            name, number = stem[:MOST_LETTERS], 1
+            name, number = stem[:MAX_NAME_BYTES], 1
             while name in self.taken:
                 number += 1
                 end = "-%d" % number
-                name = stem[:MOST_LETTERS - len(end)] + end
+                name = stem[:MAX_NAME_BYTES - len(end)] + end
             self.taken.add(name)
             self.names[client, node] = name
         return self.names[client, node]

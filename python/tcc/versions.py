@@ -26,6 +26,7 @@ from typing import Dict, Iterator, List, NamedTuple, Optional, Tuple, Union
 
 from tcc.answers import Link
 from tcc.contradicted import INIT, Contradicted, Graph, Names, _Candidate, _known_at_once, _known_by_clocks, _positions, is_first, walk
+from tcc.limits import MAX_NAME_BYTES, MAX_OPERATIONS
 from tcc.lists import Appended, Lacking, unused
 from tcc.rows import History, open_records, read_history
 from tcc.whole import written_whole
@@ -35,7 +36,6 @@ Path = Union[str, "os.PathLike[str]"]
 Versions = Dict[str, Dict[str, int]]
 COLUMNS = ["key", "value", "version"]
 OBSERVER, MARK = "o.%d", "%s.v%d"
-LONGEST_NAME, MOST_OPERATIONS = 32, 256
 GREATEST_VERSION = 2**62 - 1
 
 
@@ -156,8 +156,8 @@ class Versioned:
         more = self._marked()
         for one in sorted(self.history.transactions.values(), key=lambda one: one.last):
             beside = more.get(one.label, [])
-            if len(one.operations) + len(beside) > MOST_OPERATIONS:
-                beside = [each for each in beside if each[0] == "w"][:MOST_OPERATIONS - len(one.operations)]
+            if len(one.operations) + len(beside) > MAX_OPERATIONS:
+                beside = [each for each in beside if each[0] == "w"][:MAX_OPERATIONS - len(one.operations)]
             lines = ["%s,%s,%s" % (each.does, each.key, each.value) for each in one.operations] + beside
             end = "unknown" if one.is_unknown else "commit" if one.committed else "abort"
             yield "%s,begin\n%s%s,%s\n" % (one.session, "".join("%s,%s\n" % (one.session, each) for each in lines), one.session, end)
@@ -181,7 +181,7 @@ class Versioned:
             name = names.get((key, version))
             if name is None:
                 name = MARK % (key, version)
-                name = unused(name if len(name) <= LONGEST_NAME else "v-%d" % len(names), taken)
+                name = unused(name if len(name) <= MAX_NAME_BYTES else "v-%d" % len(names), taken)
                 taken.add(name)
                 names[key, version], self.marks[name] = name, key
             for label, line in ((one.writer, "w,%s,1" % name), (one.reader, "r,%s,0" % name)):

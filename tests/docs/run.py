@@ -16,7 +16,7 @@ it names one, and what is in backquotes has to be there where it is
 
 ARCHITECTURE has to have each crate in a layer. CONTRACTS, DEFINITIONS, MODULES and the pages of claims/ have to be what the sources
 give (`contracts.py`, `definitions.py`, `modules.py`, `claims.py`). So have the examples in doc comments (`examples.py`), and what
-documents say about statuses and limits (`told.py`). Sentences have to be short, and words usual (`plain.py`). The public names that
+documents say about statuses and limits (`told.py`), and what names the kinds of faults (`kinds.py`). Sentences have to be short, and words usual (`plain.py`). The public names that
 callers rely on have to be there (`surface.py`), and the JSON schema of answers has to be that of the answers in the rows
 (`schema.py`). What has to be believed is in `specs/`, and nothing else is (`trust.py`). CHANGELOG is about the past, and is left
 out. No script may define a name twice at one level, and what a mutant replaces has to be once in its file. The man page and the
@@ -42,6 +42,7 @@ import claims  # noqa: E402
 import contracts  # noqa: E402
 import definitions  # noqa: E402
 import examples  # noqa: E402
+import kinds  # noqa: E402
 import modules  # noqa: E402
 import plain  # noqa: E402
 import schema  # noqa: E402
@@ -53,6 +54,7 @@ from crates import stands_on  # noqa: E402
 from mutants import Mutant, Unusable  # noqa: E402
 from trust import QUOTED, faults_of_trust  # noqa: E402
 
+SECONDS = 1800
 SHOWN = re.compile(r"^```\n(\$ tcc .*?)^```", re.DOTALL | re.MULTILINE)
 CODE = re.compile(r"```.*?```", re.DOTALL)
 LINK = re.compile(r"\]\(([^)#\s]+)(?:#[^)]*)?\)")
@@ -226,7 +228,7 @@ def documents() -> List[pathlib.Path]:
 def options_of(tcc: List[str]) -> Iterator[str]:
     """The commands and options that the program's help names."""
     for command in ([], ["explain"], ["check"]):
-        shown = subprocess.run([*tcc, *command, "--help"], capture_output=True, text=True, timeout=60, check=False).stdout
+        shown = subprocess.run([*tcc, *command, "--help"], capture_output=True, text=True, timeout=SECONDS, check=False).stdout
         usage = shown.split("Usage:")[-1].split("\n\n")
         listed = "\n".join(part for part in usage if part.startswith(("Options:", "Commands:")))
         yield from re.findall(r"--[a-z]+", listed)
@@ -256,7 +258,7 @@ def faults_of_stack(tcc: List[str]) -> Iterator[Outcome]:
         for words_after, wanted in runs:
             with open(history, "rb") as given:
                 limited = ["env", "-i", "bash", "-c", 'ulimit -s "$1"; shift; exec "$@"', "bash", stack]
-                done = subprocess.run([*limited, *tcc, *words_after], stdin=given, capture_output=True, timeout=60, check=False)
+                done = subprocess.run([*limited, *tcc, *words_after], stdin=given, capture_output=True, timeout=SECONDS, check=False)
             got = done.returncode
             yield "%s in %s KB of stack" % (words_after[0], stack), None if got == wanted else "status %d" % got
 
@@ -275,7 +277,7 @@ def shown() -> Iterator[Tuple[str, List[str], str]]:
 def faults_of_shown(tcc: List[str]) -> Iterator[Outcome]:
     """Whether the program prints what the documents show."""
     for document, words_after, printed in shown():
-        done = subprocess.run([*tcc, *words_after], cwd=TOP, capture_output=True, text=True, timeout=60, check=False)
+        done = subprocess.run([*tcc, *words_after], cwd=TOP, capture_output=True, text=True, timeout=SECONDS, check=False)
         yield "%s: tcc %s" % (document, " ".join(words_after)), None if done.stdout == printed else "it prints %r" % done.stdout
 
 
@@ -289,6 +291,7 @@ def outcomes(tcc: List[str]) -> Iterator[Outcome]:
     yield from definitions.outcomes()
     yield from examples.outcomes()
     yield from told.outcomes()
+    yield from kinds.outcomes()
     yield from plain.outcomes()
     yield from surface.outcomes()
     yield from schema.outcomes()
@@ -307,7 +310,7 @@ def main() -> int:
     ask = ask_for_tcc("Whether what the documents name is there.")
     ask.add_argument("--write", action="store_true", help="writes the pages that scripts write anew first")
     asked = ask.parse_args()
-    for page in (contracts, claims, definitions, modules, examples, told) if asked.write else ():
+    for page in (kinds, contracts, claims, definitions, modules, examples, told) if asked.write else ():
         page.write()
     return status_of(outcomes(asked.tcc))
 

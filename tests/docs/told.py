@@ -20,16 +20,15 @@ TOP = pathlib.Path(__file__).resolve().parent.parent.parent
 sys.path.insert(0, str(TOP / "tests"))
 from arguments import status_of_written  # noqa: E402
 from counted import Outcome  # noqa: E402
+from kinds import codes  # noqa: E402
+from limits import filled, limits  # noqa: E402
 
 README, GUIDE, PAGE = TOP / "README.md", TOP / "docs/GUIDE.md", TOP / "docs/tcc.1"
+LIMITS_OF_PACKAGE = TOP / "python/tcc/limits.py"
 MOST_WORDS = 1000
-CONSTANT = re.compile(r"^pub const (\w+): \w+ = ([^;]+);", re.MULTILINE)
 VARIANT = re.compile(r"((?: *///.*\n)+) *(\w+),\n")
-CODE = re.compile(r"((?:Status::\w+[ |]*)+) => (\d+),")
 FAULT = re.compile(r"(Row|Cert)FaultKind::(\w+)[^=]*=> Told::new\(\"\w+\", Status::(\w+)\)")
 QUOTED = re.compile(r"`([^`]+)`")
-# In braces an expression over the limits: with a comma before each three digits, or plain after an exclamation mark.
-TEMPLATE = re.compile(r"\{(!?)([A-Z_+1 ]+)\}")
 LIMITS = ("{MAX_SESSIONS} sessions, {MAX_TRANSACTIONS} transactions%s of {MAX_OPERATIONS} operations%s, {MAX_KEYS} keys, "
           "{MAX_SEALS} seals%s {MAX_INPUT_BYTES} bytes")
 LARGE = "{LARGE_SESSIONS} sessions, {LARGE_TRANSACTIONS} transactions, {LARGE_KEYS} keys%s {LARGE_INPUT_BYTES} bytes"
@@ -50,13 +49,6 @@ HELD = {
         "more than {MAX_SESSIONS} sessions or {MAX_TRANSACTIONS} transactions",
         "Names of sessions and keys have 1 to {MAX_NAME_BYTES} bytes",
         "lets N threads search for an anomaly, 1 to {MAX_WORKERS}."),
-    "python/tcc/clients.py": ("MOST_TRANSACTIONS = {!LARGE_TRANSACTIONS}", "MOST_KEYS = {!LARGE_KEYS}"),
-    "python/tcc/noted.py": (
-        'LIMITS = {"sessions": {!MAX_SESSIONS}, "transactions": {!MAX_TRANSACTIONS}, "keys": {!MAX_KEYS}}',
-        'LARGE = {"sessions": {!LARGE_SESSIONS}, "transactions": {!LARGE_TRANSACTIONS}, "keys": {!LARGE_KEYS}}'),
-    "python/tcc/imported.py": (
-        'LIMITS = {"sessions": {!MAX_SESSIONS}, "transactions": {!MAX_TRANSACTIONS}, "keys": {!MAX_KEYS}, '
-        '"operations in a transaction": {!MAX_OPERATIONS}}',),
     "recipes/README.md": (
         "takes {MAX_SESSIONS} sessions and {MAX_TRANSACTIONS} transactions, aborted ones counted, and `tcc explain --large` "
         "{LARGE_SESSIONS} and {LARGE_TRANSACTIONS}",),
@@ -94,31 +86,6 @@ def source(path: str) -> str:
     return (TOP / "crates" / path).read_text()
 
 
-def limits() -> Dict[str, int]:
-    """The constants by name, each over those before it."""
-    known: Dict[str, int] = {}
-    for name, value in CONSTANT.findall(source("tcc_txn/src/limits.rt") + source("tcc_workers/src/workers.rt")):
-        known[name] = sum(known[part] if part in known else int(part.replace("_", "")) for part in value.split(" + "))
-    return known
-
-
-def filled(template: str) -> str:
-    """A sentence with its limits as numbers."""
-    known = limits()
-
-    def number(found: "re.Match[str]") -> str:
-        value = sum(known.get(part.strip()) or int(part) for part in found.group(2).split("+"))
-        return str(value) if found.group(1) else format(value, ",")
-
-    return TEMPLATE.sub(number, template)
-
-
-def codes() -> Dict[str, int]:
-    """The number of each status."""
-    return {name: int(code) for names, code in CODE.findall(source("tcc_print/src/status.rt"))
-            for name in re.findall(r"Status::(\w+)", names)}
-
-
 def statuses() -> List[Tuple[int, List[str]]]:
     """Each number, with the words of its statuses without their full stops."""
     enum = source("tcc_print/src/status.rt").partition("pub enum Status {\n")[2].partition("\n}")[0] + "\n"
@@ -146,12 +113,21 @@ def statuses_of_page() -> str:
     return "of its last answer, or of the fault that ended the run.\n" + "".join(items)
 
 
+def of_package() -> str:
+    """The module of limits of the package."""
+    lines = "".join("%s = %d\n" % pair for pair in limits().items() if not pair[0].endswith("_COUNT"))
+    tables = "".join('%s = {"sessions": %s_SESSIONS, "transactions": %s_TRANSACTIONS, "keys": %s_KEYS, "operations in a transaction": MAX_OPERATIONS}\n' % (
+        name, of, of, of) for name, of in (("DEFAULT", "MAX"), ("LARGE", "LARGE")))
+    return '"""The limits of `tcc`, which tests/docs/told.py --write writes from its sources."""\n' + lines + "# By what they are of: by default, and with --large.\n" + tables
+
+
 # A file, what comes before and after a part of it, and how the part reads.
 WRITTEN = (
     (GUIDE, r"## Exit statuses\n.*?\|\n(?=\n)", statuses_of_guide),
     (GUIDE, r"\| of a history, at most .*?\n(?=\n)", lambda: filled(IN_GUIDE)),
     (PAGE, r"of its last answer, or of the fault that ended the run\.\n.*?(?=\.SH )", statuses_of_page),
     (PAGE, r"\.SH LIMITS\n.*?(?=\.SH )", lambda: filled(IN_PAGE)),
+    (LIMITS_OF_PACKAGE, r"^.*$", of_package),
 )
 
 

@@ -28,6 +28,7 @@ sys.path.insert(0, str(TOP / "tests"))
 from arguments import ask_for_tcc  # noqa: E402
 from compared import first_difference, shown  # noqa: E402
 from counted import status_of  # noqa: E402
+from limits import limits  # noqa: E402
 from machine import processors  # noqa: E402
 
 CASES = HERE / "cases"
@@ -36,6 +37,8 @@ NEEDED = {"about", "arguments", "status"}
 FIELDS = NEEDED | {"input", "input_from", "typed", "cut", "closed", "files", "output", "output_to", "taken", "errors",
                    "errors_to", "watched", "certificate", "checked", "slice", "explained", "seconds"}
 COMMAND_LINE = 64
+# What a rule may name beside the names of the parts around it: the limits of an input among them.
+COMMON = {"__builtins__": {}, "min": min, "max": max, **limits()}
 
 
 @functools.lru_cache(maxsize=None)
@@ -46,7 +49,7 @@ def compiled(rule):
 
 def value(rule, known):
     """The value of a rule: a number, or an expression over the names known."""
-    return eval(compiled(rule), {"__builtins__": {}, "min": min, "max": max}, known) if isinstance(rule, str) else rule
+    return eval(compiled(rule), COMMON, known) if isinstance(rule, str) else rule
 
 
 class Ruled(string.Formatter):
@@ -65,8 +68,12 @@ def part(p, known=None):
     """The bytes of one part, of the kinds that README.md has."""
     if isinstance(p, str):
         return filled(p, known).encode() + b"\n"
+    if "rule" in p:
+        return filled(p["rule"], known or {}).encode() + b"\n"
     if "file" in p:
         return (TOP / p["file"]).read_bytes()
+    if "number" in p:
+        return str(value(p["number"], known or {})).encode()
     if "bytes" in p:
         return filled(p["bytes"], known).encode("latin-1")
     if "table" in p:
@@ -76,7 +83,7 @@ def part(p, known=None):
     if "times" in p:
         return text(p["of"], known) * value(p["times"], known or {})
     if "repeat" in p and not any(map(is_ruled, p["of"])):
-        return text(p["of"]) * p["repeat"]
+        return text(p["of"]) * value(p["repeat"], known or {})
     return b"".join(text(p["of"], {**(known or {}), **names}) for names in repeated(p, known or {}))
 
 
@@ -93,8 +100,8 @@ def filled(line, known):
 def repeated(p, known):
     """What names each time of a repeated part has."""
     if "repeat" in p:
-        first = p.get("from", 1)
-        return ({"i": i, "before": i - 1} for i in range(first, first + p["repeat"]))
+        first = value(p.get("from", 1), known)
+        return ({"i": i, "before": i - 1} for i in range(first, first + value(p["repeat"], known)))
     by = p.get("by", 1)
     last = value(p["to"], known)
     return ({p["each"]: i} for i in range(value(p["from"], known), last + (1 if by > 0 else -1), by))

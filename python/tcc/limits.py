@@ -1,0 +1,16 @@
+"""The limits of `tcc`, which tests/docs/told.py --write writes from its sources."""
+MAX_NAME_BYTES = 32
+MAX_OPERATIONS = 256
+MAX_SEALS = 256
+MAX_SESSIONS = 64
+MAX_TRANSACTIONS = 4095
+MAX_KEYS = 1024
+MAX_INPUT_BYTES = 134217728
+LARGE_SESSIONS = 65535
+LARGE_TRANSACTIONS = 1048575
+LARGE_KEYS = 1048576
+LARGE_INPUT_BYTES = 1073741824
+MAX_WORKERS = 32
+# By what they are of: by default, and with --large.
+DEFAULT = {"sessions": MAX_SESSIONS, "transactions": MAX_TRANSACTIONS, "keys": MAX_KEYS, "operations in a transaction": MAX_OPERATIONS}
+LARGE = {"sessions": LARGE_SESSIONS, "transactions": LARGE_TRANSACTIONS, "keys": LARGE_KEYS, "operations in a transaction": MAX_OPERATIONS}
