@@ -9,6 +9,7 @@ pub mod RowRules
 pub mod LinksFrom
 pub mod ByKey
 pub mod Linked
+mod JudgedLinks
 pub mod Placed
 pub mod Gaps
 pub mod Bounds

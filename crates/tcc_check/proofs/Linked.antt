@@ -12,7 +12,7 @@ use Rattle.tcc_graph.proofs.Linking.{cost_append, one_cost}
 use Rattle.tcc_cert.specs.CycleRules.{AreLinksRight, IsLinkRight, IsLinksFault, IsLinkWrong, IsWrongFrom, ends_at}
 use Rattle.tcc_cert.proofs.Ends.{ends_at-push, ends_at_some}
 use Rattle.tcc_check.specs.declared.links.LinksSeen.{LinksSeen}
-use Rattle.tcc_check.specs.private.Links.{AreSeenTo, IsFirstWrongFrom, begins_at, ends_or, first_wrong, left_behind}
+use Rattle.tcc_check.specs.Links.{AreSeenTo, IsFirstWrongFrom, begins_at, ends_or, first_wrong, left_behind}
 
 -- ---- the next link
 
@@ -113,7 +113,7 @@ used_up least spent None is same = absurd (omega (arith, is, same))
 
 -- ---- all links
 
-take_whole : (links : List Link) → take (length links) links ≡ links
+pub take_whole : (links : List Link) → take (length links) links ≡ links
 take_whole [] = refl
 take_whole (l ∷ links) = ap (λ z. l ∷ z) (take_whole links)
 

@@ -1,4 +1,5 @@
 pub mod Asked
 pub mod Verdicts
 pub mod Streams
+pub mod Links
 pub mod private

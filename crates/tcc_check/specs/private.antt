@@ -6,7 +6,6 @@ pub mod Weights
 pub mod WeightsFrom
 pub mod Pairs
 pub mod Searches
-pub mod Links
 pub mod Positions
 pub mod Coming
 pub mod Judged

@@ -26,7 +26,7 @@ mod verdict;
 
 pub use checking::check;
 pub use judgement::{Claim, Judgement};
-pub use links::first_wrong_link;
+pub use links::{LinksJudge, first_wrong_link};
 pub use sizes::are_links_below;
 pub use stream_fault::StreamFault;
 pub use streaming::{Judging, check_stream, claim_in, judge_parts, judge_stream};

@@ -1,12 +1,12 @@
 //! The rule on the links of a cycle, one link after the other.
-ghost use Rattle.std.specs.Prelude.{◌≡◌, ◌+◌, ◌<◌, ◌++◌, ◌↔◌, ℕ, All, IfOk, IsTrue, List, MatchOption, Some, get_or, length, map};
+ghost use Rattle.std.specs.Prelude.{◌≡◌, ◌+◌, ◌<◌, ◌++◌, ◌∷◌, [], ◌↔◌, ℕ, All, IfOk, IsTrue, List, MatchOption, OnOk, Some, get_or, length, map};
 ghost use Rattle.tcc_reads.specs.History.{History, count};
-ghost use Rattle.tcc_graph.specs.{Levels.Judged, Levels.judged, declared.link.Link.Link};
+ghost use Rattle.tcc_graph.specs.{Levels.Judged, Levels.judged, Links.cost, declared.link.Link.Link};
 ghost use Rattle.tcc_cert.specs.{Ahead.IsAhead, Parts.Parts, declared.certificate.CycleClaim.CycleClaim, declared.part.Part.Part};
 ghost use Rattle.tcc_cert.specs.CycleRules.{IsFirstWrongLink, IsLinkBelow, IsLinkRight};
 ghost use Rattle.tcc_cert.specs.declared.part.Part.TheVariants as part;
 ghost use Rattle.tcc_check.specs.{private.Coming.Leaves, private.Judged.AreLinksJudged, private.Judged.links_rules, Asked.IsVerdictOf};
-ghost use Rattle.tcc_check.specs.private.Links.{AreSeenTo, ends_or, first_wrong, left_behind};
+ghost use Rattle.tcc_check.specs.Links.{AreJudged, AreSeenTo, ends_or, first_wrong, left_behind};
 
 use crate::StreamFault;
 use crate::coming::next_part;
@@ -155,6 +155,56 @@ pub fn first_wrong_link(
         seen = with_link(seen, graph, level, before + 1, link);
     }
     seen_wrong(seen)
+}
+
+/// The links of a cycle, judged one by one as they come, so that nobody has to hold them.
+#[derive(Clone, Copy)]
+pub struct LinksJudge {
+    seen: LinksSeen,
+    count: usize,
+}
+
+impl LinksJudge {
+    /// No link yet, of a cycle that is to cost that much.
+    pub fn new(cost: u32) -> LinksJudge
+        ensures { (j : Judged) → AreJudged j cost [] result }
+    {
+        LinksJudge {
+            seen: no_links(cost),
+            count: 0,
+        }
+    }
+
+    /// One link more.
+    pub fn judge(&mut self, graph: &LargeGraph, level: Level, link: &Link) -> Result<(), NoMemory>
+        ensures { OnOk result ((most : ℕ) (links : List Link) → AreJudged (judged graph.now level) most links self.old
+            → AreJudged (judged graph.now level) most (links ++ link.now ∷ []) self.new) }
+    {
+        // No text has so many.
+        let Some(number) = self.count.checked_add(1) else {
+            return Err(NoMemory);
+        };
+        self.seen = with_link(self.seen, graph, level, number, link);
+        self.count = number;
+        Ok(())
+    }
+
+    /// Whether they cost more than the cycle is to.
+    pub fn is_over(&self) -> bool
+        ensures { (j : Judged) (most : ℕ) (links : List Link) → AreJudged j most links self.now → IsTrue result ↔ (most < cost links) }
+    {
+        match self.seen.left {
+            Some(_) => false,
+            None => true,
+        }
+    }
+
+    /// The first wrong one, where all of them came, as `first_wrong_link` has it.
+    pub fn first_wrong(&self) -> Result<Option<u32>, NoMemory>
+        ensures { (j : Judged) (most : ℕ) (links : List Link) → AreJudged j most links self.now → IfOk result (IsFirstWrongLink j most links) }
+    {
+        seen_wrong(self.seen)
+    }
 }
 
 /// The verdict of the rule.

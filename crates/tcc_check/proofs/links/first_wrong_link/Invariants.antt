@@ -1,5 +1,5 @@
 -- the links so far were seen
-use Rattle.tcc_check.specs.private.Links.{AreSeenTo}
+use Rattle.tcc_check.specs.Links.{AreSeenTo}
 use Rattle.tcc_check.proofs.links.first_wrong_link.Given as goal
 use Rattle.tcc_graph.specs.Levels.{judged}
 

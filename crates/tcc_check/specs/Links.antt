@@ -1,10 +1,11 @@
 -- What is asked of the links of a cycle, one after the other.
-use Rattle.std.specs.Prelude.{ℕ, Bool, true, false, ◌<◌, ◌≤◌, ◌+◌, ◌-◌, ◌≡◌, nat_lt, if◌then◌else◌, List, [], ◌∷◌, take, Option, None, Some}
+use Rattle.std.specs.Prelude.{ℕ, Bool, true, false, ◌<◌, ◌≤◌, ◌+◌, ◌-◌, ◌≡◌, nat_lt, if◌then◌else◌, List, [], ◌∷◌, ◌++◌, length, take, Option, None, Some}
 use Rattle.std.specs.Prelude.{MatchOption}
 use Rattle.tcc_graph.specs.Levels.{Judged}
 use Rattle.tcc_graph.specs.Links.{cost, link_from}
 use Rattle.tcc_graph.specs.declared.link.Link.{Link}
 use Rattle.tcc_cert.specs.CycleRules.{IsWrongFrom, ends_at}
+use Rattle.tcc_check.specs.declared.links.LinksJudge.{LinksJudge}
 use Rattle.tcc_check.specs.declared.links.LinksSeen.{LinksSeen}
 
 -- the first link that is wrong, from 1
@@ -22,6 +23,11 @@ pub record AreSeenTo (j : Judged) (least : ℕ) (links : List Link) (i : ℕ) (s
   pub ends : MatchOption seen.ends (i ≡ 0) (λ ends. (0 < i) × (ends.0 ≡ begins_at links) × (ends.1 ≡ ends_at 0 (take i links)))
   pub wrong : MatchOption seen.wrong ((n : ℕ) → n ≤ i → IsWrongFrom j (begins_at links) links n → ⊥) (IsFirstWrongFrom j (begins_at links) links)
   pub left : MatchOption seen.left (least < cost (take i links)) (λ left. cost (take i links) + left ≡ least)
+
+-- all links that came so far were judged, whatever comes behind them
+pub record AreJudged (j : Judged) (most : ℕ) (links : List Link) (judge : LinksJudge) : Type 0 where
+  pub counted : judge.count ≡ length links
+  pub seen : (more : List Link) → AreSeenTo j most (links ++ more) (length links) judge.seen
 
 -- where the first begins and the last ends, if there is one
 abbrev pub ends_or : Option (ℕ × ℕ) → ℕ → ℕ × ℕ
