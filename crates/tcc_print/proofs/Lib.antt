@@ -8,3 +8,4 @@ pub mod LastSaid
 pub mod Saying
 pub mod AtMoments
 pub mod Noted
+mod FirstWrites

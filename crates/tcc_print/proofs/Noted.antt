@@ -1,8 +1,8 @@
 -- What notes add to what went out before.
-use Rattle.std.proofs.Common.{◌≡◌, ℕ, List, [], ◌++◌, Option, Result, Ok, Err, refl, take}
+use Rattle.std.proofs.Common.{◌≡◌, ℕ, List, [], ◌∷◌, ◌++◌, Option, Result, Ok, Err, refl, take}
 use Rattle.std.proofs.KnownBytes.{Appends-nil, Appends-trans}
 use Rattle.std.specs.Prelude.{IfOk}
-use Rattle.tcc_print.specs.Notes.{IsNoted, AddsNotes}
+use Rattle.tcc_print.specs.Notes.{IsNoted, AddsNotes, AddsEach}
 
 -- whatever was made of a note, what went out stands behind what was there
 pub added : {A E : Type 0} (items : A → List ℕ) (made : Result A E) (before after : Option (List ℕ))
@@ -16,3 +16,15 @@ none_added before = ([], Appends-nil before)
 -- one note behind others
 pub added_more : (before between after : Option (List ℕ)) → AddsNotes before between → AddsNotes between after → AddsNotes before after
 added_more before between after some more = (some.0 ++ more.0, Appends-trans before between after some.0 more.0 some.1 more.1)
+
+-- these notes, and one behind them
+pub noted_more : (before between after : Option (List ℕ)) (texts : List (List ℕ)) (text : List ℕ) → AddsEach before between texts
+    → IsNoted between after text → AddsEach before after (texts ++ text ∷ [])
+noted_more before between after [] text none more =
+    (after, (more.0, Appends-trans before between after [] (take more.0 text) none more.1), Appends-nil after)
+noted_more before between after (t ∷ ts) text some more = (some.0, some.1, noted_more some.0 between after ts text some.2 more)
+
+-- whatever these notes are, bytes stand behind what was there
+pub noted_added : (before after : Option (List ℕ)) (texts : List (List ℕ)) → AddsEach before after texts → AddsNotes before after
+noted_added before after [] none = ([], none)
+noted_added before after (t ∷ ts) some = added_more before some.0 after (take some.1.0 t, some.1.1) (noted_added some.0 after ts some.2)

@@ -1,3 +1,4 @@
 -- What nobody has to believe: private functions say it to one another, or proofs to themselves.
 pub mod Courses
 pub mod Halts
+pub mod Writes

@@ -1,7 +1,7 @@
 //! Notes: what standard error tells a person beside the answers, which is what to mend. Each is made as a whole before a byte of
 //! it goes out; where it can't be made or written it is left out, and nothing else changes.
-ghost use Rattle.std.specs.Prelude.{◌≡◌, ℕ, List, IfOk, length};
-ghost use Rattle.tcc_print.specs.Notes.{IsNoted, AddsNotes, last_note, no_slice_note, order_note, too_few_text};
+ghost use Rattle.std.specs.Prelude.{◌≡◌, ℕ, List, IfOk, length, take};
+ghost use Rattle.tcc_print.specs.Notes.{AddsNotes, AddsEach, IsNoted, last_note, no_slice_note, order_note, read_note, read_notes, too_few_text};
 ghost use Rattle.tcc_rows.specs.declared.fault.RowFaultKind.TheVariants as row_kind;
 
 mod mending;
@@ -156,13 +156,26 @@ fn read<B: Bounds>(
     alloc: Global,
     snapshot: &SnapshotWithin<B>,
     fault: &ReadFault,
-) -> Result<Vec<u8>, NoMemory> {
+) -> Result<Vec<u8>, NoMemory>
+    ensures { IfOk result (λ text. text.items ≡ read_note snapshot.now fault.now) }
+{
     let mut text = Vec::new(alloc);
     push_told(alloc, &mut text, fault)?;
     push(&mut text, &[b": "])?;
     push_writer(alloc, &mut text, snapshot, fault)?;
     push(&mut text, &[b"\n"])?;
     Ok(text)
+}
+
+/// Of many read faults those that have a note; of a few all.
+fn first_noted(faults: &[ReadFault]) -> &[ReadFault]
+    ensures { result.now ≡ take 5 faults.now }
+{
+    if faults.len() > MOST_NOTED {
+        &faults[..MOST_NOTED]
+    } else {
+        faults
+    }
 }
 
 /// Notes of the first of the read faults of the snapshot which write each of them is about.
@@ -172,9 +185,11 @@ pub fn note_reads<B: Bounds, N: Write>(
     faults: &[ReadFault],
     notes: &mut N,
 )
-    ensures { AddsNotes (N.contents notes.old) (N.contents notes.new) }
+    ensures noted { AddsNotes (N.contents notes.old) (N.contents notes.new) }
+    ensures each { AddsEach (N.contents notes.old) (N.contents notes.new) (read_notes snapshot.now faults.now) }
 {
-    for fault in faults.iter().take(MOST_NOTED) {
+    let first = first_noted(faults);
+    for fault in first {
         send_note(read(alloc, snapshot, fault), notes);
     }
 }

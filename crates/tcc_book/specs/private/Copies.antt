@@ -1,5 +1,5 @@
 -- What is answered of a copy of the book.
-use Rattle.std.specs.Prelude.{◌≡◌, ℕ, List, None, Some, Result, Ok, Err}
+use Rattle.std.specs.Prelude.{◌≡◌, List, None, Some, Result, Ok, Err}
 use Rattle.tcc_txn.specs.Snapshots.{Sessions}
 use Rattle.tcc_book.specs.Passes.{Agrees, LeastTorn, Passed, first_missing, recorded_by}
 use Rattle.tcc_book.specs.declared.fault.SealFault.{SealFault}

@@ -1,4 +1,9 @@
 //! Which write a read fault is about.
+ghost use Rattle.std.specs.Prelude.{◌≡◌, ◌++◌, ℕ, List, None, Some, MatchOption, OnOk, find, slice_get};
+ghost use Rattle.std.specs.FinMap.{entries};
+ghost use Rattle.tcc_txn.specs.Transactions.{Transaction};
+ghost use Rattle.tcc_reads.specs.{Faults.puts, Faults.writer, Sites.Site, Sites.Stand, Sites.at, Sites.sites_of, Sites.stands, Sites.stands_in};
+ghost use Rattle.tcc_print.specs.{Notes.write_told, Notes.writer_told, private.Writes.IsFirstWrite};
 
 use std::alloc::Global;
 use tcc_answer::pieces::push;
@@ -7,14 +12,16 @@ use tcc_txn::{Bounds, Name, NoMemory, Op, Recorded, SnapshotWithin};
 
 /// Where a write stands: its session, the place of its transaction there and its own in the transaction, from 1.
 #[derive(Clone, Copy)]
-struct Standing {
+pub(super) struct WritePlace {
     session: Name,
     place: usize,
     op: usize,
 }
 
 /// Whether the operation writes the value at the key.
-fn writes(op: Op, key: Name, value: u64) -> bool {
+fn writes(op: Op, key: Name, value: u64) -> bool
+    ensures { result ≡ puts key value op }
+{
     match op {
         Op::Put {
             key: written,
@@ -25,7 +32,10 @@ fn writes(op: Op, key: Name, value: u64) -> bool {
 }
 
 /// The first write of the value at the key in a transaction: its place there, from 1.
-fn write_in(txn: &Recorded, key: Name, value: u64) -> Option<usize> {
+fn write_in(txn: &Recorded, key: Name, value: u64) -> Option<usize>
+    ensures { (stand : Stand) → stand.txn ≡ txn.now → MatchOption result (find (λ site. puts key value site.op) (sites_of stand) ≡ None)
+        (λ op. (site : Site) × (find (λ site. puts key value site.op) (sites_of stand) ≡ Some site) × (site.stand ≡ stand) × (op ≡ at site)) }
+{
     for index in 0..txn.len() {
         if writes(txn.op(index)?, key, value) {
             return Some(index + 1);
@@ -40,11 +50,14 @@ fn write_among<B: Bounds>(
     session: u32,
     key: Name,
     value: u64,
-) -> Option<Standing> {
+) -> Option<WritePlace>
+    ensures { (part : List ℕ × List Transaction) → slice_get (entries snapshot.now) session ≡ Some part
+        → IsFirstWrite (stands_in session part.0 1 part.1) key value result }
+{
     for place in 0..snapshot.finished(session) {
         let txn = snapshot.recorded(session, place)?;
         if let Some(op) = write_in(&txn, key, value) {
-            return Some(Standing {
+            return Some(WritePlace {
                 session: *snapshot.name(session)?,
                 place: place + 1,
                 op,
@@ -55,7 +68,9 @@ fn write_among<B: Bounds>(
 }
 
 /// The first write of the value at the key in the sessions, one after the other.
-fn first_write<B: Bounds>(snapshot: &SnapshotWithin<B>, key: Name, value: u64) -> Option<Standing> {
+fn first_write<B: Bounds>(snapshot: &SnapshotWithin<B>, key: Name, value: u64) -> Option<WritePlace>
+    ensures { IsFirstWrite (stands snapshot.now) key value result }
+{
     for session in 0..snapshot.sessions() {
         if let Some(found) = write_among(snapshot, session, key, value) {
             return Some(found);
@@ -65,7 +80,9 @@ fn first_write<B: Bounds>(snapshot: &SnapshotWithin<B>, key: Name, value: u64) -
 }
 
 /// What is said of the write that stands there.
-fn about(kind: ReadFaultKind) -> &'static str {
+fn about(kind: ReadFaultKind) -> &'static str
+    ensures { result.now ≡ write_told kind }
+{
     match kind {
         ReadFaultKind::Duplicate => " wrote it before",
         ReadFaultKind::BrokenInternal => " wrote it, and the reader another value before",
@@ -82,7 +99,10 @@ pub(super) fn push_writer<B: Bounds>(
     text: &mut Vec<u8>,
     snapshot: &SnapshotWithin<B>,
     fault: &ReadFault,
-) -> Result<(), NoMemory> {
+) -> Result<(), NoMemory>
+    ensures { OnOk result (text.new.items
+        ≡ text.old.items ++ writer_told fault.now.kind (writer (stands snapshot.now) fault.now.key fault.now.value)) }
+{
     let Some(write) = first_write(snapshot, fault.key, fault.value) else {
         return push(text, &[b"nobody wrote it"]);
     };

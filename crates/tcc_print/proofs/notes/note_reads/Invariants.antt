@@ -1,5 +1,8 @@
-use Rattle.tcc_print.specs.Notes.{AddsNotes}
+-- the faults so far are noted
+use Rattle.std.proofs.Common.{map, take}
+use Rattle.tcc_print.specs.Notes.{AddsEach, read_note}
 use Rattle.tcc_print.proofs.notes.note_reads.Given as goal
 
 abbrev pub invariant-loop-fault : goal.invariant-loop-fault
-invariant-loop-fault g l = AddsNotes (g.N.Write.contents l.initial.notes) (g.N.Write.contents l.notes)
+invariant-loop-fault g l =
+    AddsEach (g.N.Write.contents l.initial.notes) (g.N.Write.contents l.notes) (map (read_note l.snapshot) (take l.fault-index l.first))
