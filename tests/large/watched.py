@@ -26,7 +26,10 @@ from compared import first_difference, shown  # noqa: E402
 from counted import status_of  # noqa: E402
 
 QUIET = 2.0
-LONGEST = 120.0
+LONGEST = 1800.0  # what takes longer hangs
+# A run that is to be short is done again where it wasn't, as on a busy machine, so often in all.
+TURNS = 10
+BEGUN = 1 << 20  # bytes: a program that has read so many is at its work
 LINE = re.compile(rb"(reading records|reading the certificate|tracing reads|deciding|cutting a slice|judging)(?:, (\d+) %)?, (\d+) s\r")
 ONE = b"a,begin\na,w,x,1\na,commit\n"
 CONSISTENT = b"consistent: 1 transactions, 1 sessions\norder: init a/1\n"
@@ -125,8 +128,9 @@ def stages_in(text):
 
 
 def wrong_with(words, parts, status, wanted, stages, number=None):
-    """What a run at a terminal shows otherwise than wanted, or None: the screen in the end, and the stages among others."""
-    showed, first, ended = watched(words, parts, number)
+    """What a run at a terminal shows otherwise than wanted, or None: the screen in the end, and the stages among others. Without stages
+    it is a short one."""
+    showed, first, ended = watched(words, parts, number) if stages else short(lambda: watched(words, parts, number))
     text = b"".join(showed)
     if ended != status:
         return "status %d, shown %s" % (ended, shown(text))
@@ -136,6 +140,16 @@ def wrong_with(words, parts, status, wanted, stages, number=None):
     if missing or (not stages and LINE.search(text)):
         return "not shown: %s; shown %s" % (", ".join(missing), shown(text))
     return first_difference("screen", wanted, screen_after(text))
+
+
+def short(run):
+    """What a run gave that took less than what it may without saying what it does; the last one where none did."""
+    for _ in range(TURNS):
+        begun = time.monotonic()
+        gave = run()
+        if time.monotonic() - begun < QUIET:
+            break
+    return gave
 
 
 def elsewhere(words):
@@ -167,7 +181,7 @@ def decided(words):
 
 def check_at_terminal(words, pipe, parts):
     """What a check at a terminal shows, and its status. A pipe that it reads gets its parts each once the line shows something; without
-    parts the check is held up for a while after it began."""
+    parts the check is held up for a while once it is reading."""
     with contextlib.ExitStack() as held:
         person, program = terminal(held)
         run = subprocess.Popen(words, stdin=subprocess.DEVNULL, stdout=program, stderr=program)
@@ -180,12 +194,21 @@ def check_at_terminal(words, pipe, parts):
                     text += read_until(person, LINE.search, LONGEST)
                 sent.write(parts[-1])
         elif parts is None:
-            time.sleep(0.2)
+            while run.poll() is None and has_read(run.pid) < BEGUN:
+                time.sleep(0.01)
             run.send_signal(signal.SIGSTOP)
             time.sleep(QUIET)
             run.send_signal(signal.SIGCONT)
         text += read_until(person, lambda text: False, LONGEST)
         return text, run.wait(LONGEST)
+
+
+def has_read(process):
+    """How many bytes a process has read, of which most are those of its files."""
+    try:
+        return int(re.search(r"rchar: (\d+)", pathlib.Path("/proc/%d/io" % process).read_text()).group(1))
+    except OSError:
+        return 0
 
 
 def wrong_check(words, pipe, parts, stage, far):
@@ -209,7 +232,8 @@ def checks(tcc):
         yield "a long check", wrong_check([*check, pipe, certificate], pipe, [b"", ONE], "reading records", False)
         text = certificate.read_bytes()
         yield "a long certificate", wrong_check([*check, history, pipe], pipe, [text[:20], text[20:]], "reading the certificate", False)
-        yield "a short check", first_difference("screen", b"accepted: order\n", check_at_terminal([*check, history, certificate], None, [])[0])
+        yield "a short check", first_difference(
+            "screen", b"accepted: order\n", short(lambda: check_at_terminal([*check, history, certificate], None, []))[0])
         # five million reads, which take a second or two
         history.write_bytes((b"a,begin\n" + b"a,r,k,0\n" * 250 + b"a,commit\n") * 20000)
         subprocess.run(explain, stdout=subprocess.DEVNULL, check=True)
