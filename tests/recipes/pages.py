@@ -436,7 +436,7 @@ def beside(tcc: List[str], program: Optional[str]) -> Iterator[Outcome]:
 
 def without_times(page: str) -> str:
     """A page without what its commands took."""
-    return re.sub(r"(status [0-9]+), [0-9.]+ s$", r"\1", page, flags=re.MULTILINE)
+    return re.sub(r"(status [0-9]+), [0-9.]+ s(?=$|</pre>)", r"\1", page, flags=re.MULTILINE)
 
 
 def sample(tcc: List[str]) -> Iterator[Outcome]:
