@@ -14,4 +14,11 @@ pub mod Beginning
 pub mod Alike
 pub mod Waiting
 pub mod Deliveries
+pub mod Sited
+pub mod LedgerSites
+pub mod LedgerDelivery
+pub mod LedgerSteps
+pub mod ValueLemmas
+pub mod OperationLemmas
 pub mod Worked
+pub mod WorkedLedger

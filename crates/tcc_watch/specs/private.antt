@@ -5,3 +5,7 @@ pub mod Tables
 pub mod Writers
 pub mod Delivering
 pub mod Deciding
+pub mod LedgerSteps
+pub mod Operations
+pub mod Values
+pub mod Lines

@@ -1,9 +1,10 @@
 //! The laws of histories that grow at their end.
-ghost use Rattle.std.specs.Prelude.{◌≡◌, ◌<◌, ◌⊎◌, ◌↔◌, ℕ, Bool, false, []};
-ghost use Rattle.tcc_txn.specs.Snapshots.{Sessions};
+ghost use Rattle.std.specs.Prelude.{◌≡◌, ◌<◌, ◌⊎◌, ◌↔◌, ℕ, Bool, false, List, []};
+ghost use Rattle.tcc_txn.specs.{Nested.list_of, Snapshots.Sessions};
 ghost use Rattle.tcc_reads.specs.{Faults.read_faults, Sources.history};
 ghost use Rattle.tcc_reads.specs.History.{Entry, History, count};
 ghost use Rattle.tcc_graph.specs.{Levels.judged, Links.IsLink, Routes.HasCycle, Walks.IsReached, declared.level.Level.Level, declared.link.Link.Link};
+ghost use Rattle.tcc_watch.specs.Ledger.{IsLedger};
 ghost use Rattle.tcc_watch.specs.Delivered.{AllWait, AreAlike, IsBy, IsDelivered, IsDeliveryOf, MayCome, with_last};
 
 /// Where a transaction comes after all that it needs, each link stays one, and each that is new is a pair into it or a derived link of
@@ -33,4 +34,12 @@ pub fn deliveries()
 pub fn waiting()
     ensures { (h : History) (has_come : ℕ → Bool) (level : Level) (x : ℕ) → x < count h → has_come x ≡ false → AllWait h has_come
         → HasCycle (judged h level) }
+{}
+
+/// Where there is a ledger of all that a snapshot has, its reads are resolved, and its transactions were delivered as the ledger says.
+pub fn ledgers()
+    ensures resolved { (s : Sessions) (names : List (List ℕ)) (h : History) → IsLedger (list_of s) names h → read_faults s ≡ [] }
+    ensures delivered { (s : Sessions) (names : List (List ℕ)) (h : History) → IsLedger (list_of s) names h → (f : ℕ → ℕ) × IsDeliveryOf s h f }
+    ensures decided { (s : Sessions) (names : List (List ℕ)) (h : History) (level : Level) → IsLedger (list_of s) names h
+        → HasCycle (judged h level) ↔ HasCycle (judged (history s) level) }
 {}
