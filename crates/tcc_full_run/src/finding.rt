@@ -8,13 +8,15 @@ ghost use Rattle.tcc_least.specs.Shapes.{AreLeast};
 ghost use Rattle.tcc_large.specs.{Decisions.IsDecision, Explained.IsLargeAnswer};
 ghost use Rattle.tcc_full_run.specs.Found.{IsFound};
 
+use std::alloc::Global;
 use std::thread::Threads;
 use tcc_answer::Answer;
 use tcc_explain::{ExplainFault, Gate};
-use tcc_graph::Level;
+use tcc_graph::{LargeGraph, Level, Link};
+use tcc_judge::laws::is_least;
 use tcc_large::{Decision, LargeAnswer, explain_large_with_order};
 use tcc_print::Run;
-use tcc_proving::{Improved, improve};
+use tcc_proving::proved_claim;
 use tcc_reads::{ReadFault, ResolveFault};
 use tcc_run::first_answer;
 use tcc_txn::{LargeSnapshot, NoMemory};
@@ -42,6 +44,50 @@ pub(crate) fn found_small(first: Result<Answer, ExplainFault>) -> Result<Found, 
     }
 }
 
+/// Whether the judge takes the links for a least cycle, by the order.
+fn is_proved(
+    alloc: Global,
+    graph: &LargeGraph,
+    level: Level,
+    links: &[Link],
+    order: &[u32],
+) -> Result<bool, NoMemory>
+    ensures { IfOk result (λ proved. proved ≡ true → AreLeast (judged graph.now level) links.now) }
+{
+    // What the judge accepts is a least cycle, as this law says.
+    is_least();
+    let found = proved_claim(alloc, graph, level, links, order)?;
+    match found {
+        Some(_claim) => Ok(true),
+        None => Ok(false),
+    }
+}
+
+/// What is decided of a history, with a cycle of more than four steps as a least one where the judge takes it for one by the order.
+fn settled(
+    alloc: Global,
+    graph: &LargeGraph,
+    level: Level,
+    decision: Decision,
+    order: Option<Vec<u32>>,
+) -> Result<Decision, NoMemory>
+    ensures { IsDecision (judged graph.now level) decision → IfOk result (IsDecision (judged graph.now level)) }
+{
+    let Some(order) = order else {
+        return Ok(decision);
+    };
+    match decision {
+        Decision::Cycle(links) => {
+            if is_proved(alloc, graph, level, &links, &order)? {
+                Ok(Decision::Least(links))
+            } else {
+                Ok(Decision::Cycle(links))
+            }
+        }
+        Decision::Order(_) | Decision::Least(_) => Ok(decision),
+    }
+}
+
 /// What is found for a large snapshot.
 pub(crate) fn find_large<T: Threads + Sync, G: Gate>(
     run: &Run<T, G>,
@@ -56,10 +102,8 @@ pub(crate) fn find_large<T: Threads + Sync, G: Gate>(
     match explain_large_with_order(run.alloc, snapshot, level) {
         Ok((answer, order)) => {
             let LargeAnswer { graph, decision } = answer;
-            match improve(run.alloc, &graph, level, decision, order)? {
-                Improved::Proved { links, .. } => Ok(Found::Decided(Decision::Least(links))),
-                Improved::Decided(decision) => Ok(Found::Decided(decision)),
-            }
+            let settled = settled(run.alloc, &graph, level, decision, order)?;
+            Ok(Found::Decided(settled))
         }
         Err(ResolveFault::Reads(faults)) => Ok(Found::Unresolved(faults)),
         Err(ResolveFault::NoMemory) => Err(NoMemory),

@@ -1,5 +1,6 @@
 -- Version 3 of the text has room for what is claimed by what is decided.
 use Rattle.std.proofs.Common.{◌≡◌, ◌∙◌, ◌≢◌, ◌<◌, ◌+◌, ◌⊎◌, inl, inr, ℕ, List, [], ◌∷◌, length, Some, refl, sym, ap, subst, arith}
+use Rattle.std.specs.Global.{Vec}
 use Rattle.std.proofs.lemmas.Bool.{cases_eq}
 use Rattle.tcc_reads.specs.History.{History, count}
 use Rattle.tcc_graph.specs.Levels.{judged}
@@ -8,7 +9,7 @@ use Rattle.tcc_graph.specs.declared.level.Level.{Level}
 use Rattle.tcc_graph.specs.declared.link.Link.{Link}
 use Rattle.tcc_graph.proofs.Numberings.{one_index}
 use Rattle.tcc_graph.proofs.Pairs.{initial_pair}
-use Rattle.tcc_cert.specs.LargeTexts.{HasLargeText, HasRunsClaimText}
+use Rattle.tcc_cert.specs.LargeTexts.{HasLargeText, HasRunsClaimText, HaveRunsText}
 use Rattle.tcc_cert.specs.RunsTold.{order_claim_of}
 use Rattle.tcc_cert.specs.declared.large.LargeCertificate.TheVariants as claims
 use Rattle.tcc_cert.specs.declared.large.LinksClaim.{LinksClaim}
@@ -22,7 +23,7 @@ use Rattle.tcc_judge.specs.Verdicts.{cycle_rules}
 use Rattle.tcc_large.specs.Decisions.{HasNone, IsDecision}
 use Rattle.tcc_large.specs.declared.decision.Decision.{Decision}
 use Rattle.tcc_large.specs.declared.decision.Decision.TheVariants as decision
-use Rattle.tcc_large_run.specs.LargeRuns.{bare_cycle, claim_of, proved_claim}
+use Rattle.tcc_large_run.specs.LargeRuns.{bare_cycle, claim_of}
 use Rattle.tcc_large_run.specs.private.Stages.{IsFoundOf}
 use Rattle.tcc_large_run.specs.declared.outcome.Outcome.TheVariants as outcome
 use Rattle.tcc_check.specs.Asked.{AllHold}
@@ -58,15 +59,17 @@ none_room h level (decision.Least links) some text none is = absurd none
 none_room h level (decision.Cycle links) some text none is = absurd none
 
 -- a cycle of which the judge says that it is a least one
-pub found_proved : (level : Level) (h : History) (links : List Link) (runs : List Run) (a : Answer) (k : LinksClaim)
-    → HasLargeText (proved_claim level h links runs) → a ≡ answer.Anomaly (bare_cycle level h links) → k ≡ links_claim_of level h links (Some runs)
-    → AreLeast (judged h level) links → AllHold (cycle_rules h k) → IsFoundOf level h (outcome.Proved h a (claims.Cycle k))
-found_proved level h links runs a k room said made least keeps =
+pub found_proved : ((h : History) (k : LinksClaim) (runs : List Run) → k.least ≡ Some runs → AllHold (cycle_rules h k) → AreLeast (judged h k.level) k.links)
+    → (level : Level) (h : History) (links : Vec Link) (runs : List Run) (a : Answer) (k : LinksClaim) → HasLargeText (claim_of level h (decision.Cycle links))
+    → a ≡ answer.Anomaly (bare_cycle level h links.items) → k ≡ links_claim_of level h links.items (Some runs) → HaveRunsText runs
+    → AllHold (cycle_rules h k) → IsFoundOf level h (decision.Cycle links) (outcome.Proved h a (claims.Cycle k))
+found_proved law level h links runs a k room said made short keeps =
+    let own : AllHold (cycle_rules h (links_claim_of level h links.items (Some runs))) = subst (λ (k : LinksClaim). AllHold (cycle_rules h k)) made keeps in
     inr (
-      links,
+      links.items,
       runs,
-      record { least = least; rules = subst (λ (k : LinksClaim). AllHold (cycle_rules h k)) made keeps },
-      room,
+      record { least = law h (links_claim_of level h links.items (Some runs)) runs refl own; rules = own },
+      record { count = room.count; steps = room.steps; links = room.links; cost = room.cost; least = short },
       ap (λ (b : Answer). outcome.Proved h b (claims.Cycle k)) said
-          ∙ ap (λ (m : LinksClaim). outcome.Proved h (answer.Anomaly (bare_cycle level h links)) (claims.Cycle m)) made,
+          ∙ ap (λ (m : LinksClaim). outcome.Proved h (answer.Anomaly (bare_cycle level h links.items)) (claims.Cycle m)) made,
     )

@@ -89,11 +89,10 @@ proved_outcome level s h links runs none past same is room =
     record { resolved = none; past = past; own = same; links = links; runs = runs; is = is; room = room; outcome = refl }
 
 pub large_outcome : (level : Level) (s : Sessions) (a : LargeAnswer) (o : Outcome) → (KeepsLimits s → ⊥) → IsLargeAnswer s level a
-    → IsFoundOf level a.graph o → IsOutcome level s o
-large_outcome level s a o past (none, same, is) (inl (d, decides, said, short, room)) =
+    → IsFoundOf level a.graph a.decision o → IsOutcome level s o
+large_outcome level s a o past (none, same, is) (inl (said, short, room)) =
     subst (λ (o : Outcome). IsOutcome level s o) (sym said)
-    (decided_outcome level s a.graph d none past same (subst (λ (h : History). IsDecision (judged h level) d) same decides) short
-    (subst (λ (h : History). HasLargeText (claim_of level h d)) same room))
+    (decided_outcome level s a.graph a.decision none past same is short (subst (λ (h : History). HasLargeText (claim_of level h a.decision)) same room))
 large_outcome level s a o past (none, same, is) (inr (links, runs, proved, room, said)) =
     subst (λ (o : Outcome). IsOutcome level s o) (sym said)
     (proved_outcome level s a.graph links runs none past same (subst (λ (h : History). IsProvedLeast level h links runs) same proved)

@@ -2,30 +2,31 @@
 ghost use Rattle.std.specs.Prelude.{◌≡◌, IfOk, option_map};
 ghost use Rattle.tcc_reads.specs.History.{History};
 ghost use Rattle.tcc_graph.specs.Levels.{judged};
+ghost use Rattle.tcc_cert.specs.LargeTexts.{HasLargeText};
 ghost use Rattle.tcc_answer.specs.Labels.{labels_of};
 ghost use Rattle.tcc_answer.specs.declared.answer.Answer.TheVariants as answer;
-ghost use Rattle.tcc_least.specs.Shapes.{AreLeast};
-ghost use Rattle.tcc_proving.specs.Improving.{IsProvedClaim};
 ghost use Rattle.tcc_large.specs.Decisions.{IsDecision};
+ghost use Rattle.tcc_large.specs.declared.decision.Decision.TheVariants as decision;
 ghost use Rattle.tcc_print.specs.Saying.{IsTold};
-ghost use Rattle.tcc_large_run.specs.LargeRuns.{IsShort, bare_cycle, bare_order};
+ghost use Rattle.tcc_large_run.specs.LargeRuns.{IsShort, bare_cycle, bare_order, claim_of};
 ghost use Rattle.tcc_large_run.specs.private.Stages.{IsFoundOf, IsOutcome, course, outcome_links, outcome_status};
 
-use crate::room::{check_links, check_room};
+use crate::room::check_room;
 use crate::short::short;
 use std::alloc::Global;
 use std::io::Write;
 use std::thread::Threads;
 use tcc_answer::{Anomaly, Answer, CappedRows, Commit, Labels};
-use tcc_cert::{LargeCertificate, Links, LinksClaim, Numbers, Table};
+use tcc_cert::{LargeCertificate, Links, Numbers, Table};
 use tcc_explain::{ExplainFault, Gate};
 use tcc_graph::{LargeGraph, Level, Link};
+use tcc_judge::laws::is_least;
 use tcc_large::{Decision, LargeAnswer, explain_large_with_order};
 use tcc_print::large::send_unproved;
 use tcc_print::printing::{send_answer, send_unresolved};
 use tcc_print::status::answer_status;
 use tcc_print::{Options, Run, Statement, Status};
-use tcc_proving::{Improved, improve, steps_of};
+use tcc_proving::{proved_claim, steps_of};
 use tcc_reads::{ReadFault, ResolveFault};
 use tcc_run::first_answer;
 use tcc_txn::{LargeSnapshot, NoMemory, Snapshot};
@@ -107,35 +108,49 @@ impl Outcome {
         }
     }
 
-    /// What is said of a least cycle of more than four steps, with the claim that it is one, which the judge accepts.
-    fn of_proved(
+    /// What is said of a cycle of more than four steps, of which no more is decided: that it is a least one, where the judge takes it for
+    /// one by the order.
+    fn of_cycle(
         alloc: Global,
         level: Level,
         graph: LargeGraph,
+        labels: Labels,
         links: Vec<Link>,
-        claim: LinksClaim,
+        order: Option<Vec<u32>>,
     ) -> Result<Outcome, NoMemory>
-        ensures { AreLeast (judged graph level) links.items → IsProvedClaim level graph links.items claim → IfOk result (IsFoundOf level graph) }
+        ensures { labels ≡ labels_of graph → HasLargeText (claim_of level graph (decision.Cycle links))
+            → IfOk result (IsFoundOf level graph (decision.Cycle links)) }
     {
-        check_links(&graph, &links)?;
-        let labels = Labels::of_large(alloc, &graph)?;
-        let answer = cycle_answer(alloc, level, links, labels)?;
-        Ok(Outcome::Proved {
+        // What the judge accepts is a least cycle, as this law says.
+        is_least();
+        if let Some(order) = order {
+            if let Some(claim) = proved_claim(alloc, &graph, level, &links, &order)? {
+                let answer = cycle_answer(alloc, level, links, labels)?;
+                return Ok(Outcome::Proved {
+                    graph,
+                    answer,
+                    claim: LargeCertificate::Cycle(claim),
+                });
+            }
+        }
+        Ok(Outcome::Cycle {
             graph,
-            answer,
-            claim: LargeCertificate::Cycle(claim),
+            labels,
+            links,
         })
     }
 
-    /// What is said of a history by what is decided of it.
+    /// What is said of a history by what is decided of it, and by an order that may come with a cycle.
     fn of_decision(
         alloc: Global,
         level: Level,
-        graph: LargeGraph,
-        decision: Decision,
+        answer: LargeAnswer,
+        order: Option<Vec<u32>>,
     ) -> Result<Outcome, NoMemory>
-        ensures { IsDecision (judged graph level) decision → IsShort decision → IfOk result (IsFoundOf level graph) }
+        ensures { IsDecision (judged answer.graph level) answer.decision → IsShort answer.decision
+            → IfOk result (IsFoundOf level answer.graph answer.decision) }
     {
+        let LargeAnswer { graph, decision } = answer;
         check_room(&graph, &decision)?;
         let labels = Labels::of_large(alloc, &graph)?;
         match decision {
@@ -147,31 +162,8 @@ impl Outcome {
                 let answer = cycle_answer(alloc, level, links, labels)?;
                 Ok(Outcome::Large { graph, answer })
             }
-            Decision::Cycle(links) => Ok(Outcome::Cycle {
-                graph,
-                labels,
-                links,
-            }),
-        }
-    }
-
-    /// What is said of a history by what is decided of it, and by an order to judge by, if there is one.
-    fn of_large(
-        alloc: Global,
-        level: Level,
-        answer: LargeAnswer,
-        order: Option<Vec<u32>>,
-    ) -> Result<Outcome, NoMemory>
-        requires { IsDecision (judged answer.graph level) answer.decision }
-        ensures { IfOk result (IsFoundOf level answer.graph) }
-    {
-        let LargeAnswer { graph, decision } = answer;
-        match improve(alloc, &graph, level, decision, order)? {
-            Improved::Proved { links, claim } => {
-                Outcome::of_proved(alloc, level, graph, links, claim)
-            }
-            Improved::Decided(decision) => {
-                Outcome::of_decision(alloc, level, graph, short(decision)?)
+            Decision::Cycle(links) => {
+                Outcome::of_cycle(alloc, level, graph, labels, links, order)
             }
         }
     }
@@ -188,7 +180,14 @@ impl Outcome {
         }
         let level = run.options.level;
         match explain_large_with_order(run.alloc, snapshot, level) {
-            Ok((answer, order)) => Outcome::of_large(run.alloc, level, answer, order),
+            Ok((answer, order)) => {
+                let LargeAnswer { graph, decision } = answer;
+                let answer = LargeAnswer {
+                    graph,
+                    decision: short(decision)?,
+                };
+                Outcome::of_decision(run.alloc, level, answer, order)
+            }
             Err(ResolveFault::Reads(faults)) => Ok(Outcome::Unresolved(faults)),
             Err(ResolveFault::NoMemory) => Err(NoMemory),
         }

@@ -1,10 +1,10 @@
 //! Whether version 3 of the text has room for what is claimed: its numbers, its counts and its costs have ranges.
-ghost use Rattle.std.specs.Prelude.{All, IfOk, IsTrue, List, length};
+ghost use Rattle.std.specs.Prelude.{All, IfOk, IsTrue, length};
 ghost use Rattle.tcc_graph.specs.{Levels.judged, declared.level.Level.Level};
-ghost use Rattle.tcc_cert.specs.{LargeTexts.HasLargeText, LargeTexts.HaveRunsText, declared.large.Run.Run, declared.ranges.Scale.TheVariants.Large};
+ghost use Rattle.tcc_cert.specs.{LargeTexts.HasLargeText, declared.ranges.Scale.TheVariants.Large};
 ghost use Rattle.tcc_cert.specs.Texts.{HasLinkText, HasStepText, IsCount};
 ghost use Rattle.tcc_large.specs.Decisions.{IsDecision};
-ghost use Rattle.tcc_large_run.specs.LargeRuns.{claim_of, proved_claim};
+ghost use Rattle.tcc_large_run.specs.LargeRuns.{claim_of};
 
 use tcc_cert::laws::order_has_text;
 use tcc_cert::version_3::{V3_MAX_COUNT, V3_MAX_NUMBER};
@@ -63,20 +63,6 @@ fn have_links_text(links: &[Link]) -> bool
     !links.is_empty()
         && links.len() <= V3_MAX_COUNT as usize
         && links.iter().all(|link| has_link_text(link))
-}
-
-/// What is claimed of the links of a cycle has a text, with runs for which there is room. Links for which there is none are more than
-/// memory holds.
-pub(crate) fn check_links(graph: &LargeGraph, links: &[Link]) -> Result<(), NoMemory>
-    ensures { (level : Level) (runs : List Run) → HaveRunsText runs → IfOk result (λ _. HasLargeText (proved_claim level graph.now links.now runs)) }
-{
-    // How large a history is, as this call says.
-    graph.count();
-    if !have_links_text(links) {
-        return Err(NoMemory);
-    }
-    steps_of(links)?;
-    Ok(())
 }
 
 /// What is claimed by what is decided has a text. There always is room for an order; links for which there is none are more than

@@ -1,6 +1,6 @@
-//! The claim that a cycle of more than four steps is a least one, with the runs of an order, which nobody has to trust; and whether the
-//! judge of certificates accepts it.
-ghost use Rattle.std.specs.Prelude.{◌≡◌, IfOk, IsTrue, List, Some};
+//! Whether a cycle of more than four steps is a least one. An order comes with it, which nobody has to trust: the claim that the cycle
+//! is a least one, with the runs of that order, goes to the judge of certificates, and is made where it accepts.
+ghost use Rattle.std.specs.Prelude.{◌≡◌, IfOk, IfSome, IsTrue, List, Some};
 ghost use Rattle.tcc_cert.specs.{LargeTexts.HaveRunsText, declared.large.Run.Run};
 ghost use Rattle.tcc_judge.specs.{Claims.links_claim_of, Verdicts.cycle_rules};
 ghost use Rattle.tcc_check.specs.Asked.{AllHold};
@@ -15,7 +15,7 @@ use tcc_lanes::MOST_STEPS;
 use tcc_txn::NoMemory;
 
 /// The claim that the links are a least cycle, with the runs of an order.
-pub(crate) fn claim_with(
+fn claim_with(
     alloc: Global,
     graph: &LargeGraph,
     level: Level,
@@ -46,18 +46,24 @@ fn has_room(claim: &LinksClaim) -> bool
     }
 }
 
-/// Whether the judge accepts a claim for whose runs a text has room.
-pub(crate) fn is_accepted(
+/// The claim that the links are a least cycle, with the runs of an order, where the judge accepts it.
+pub fn proved_claim(
     alloc: Global,
     graph: &LargeGraph,
-    claim: &LinksClaim,
-) -> Result<bool, NoMemory>
-    ensures room { IfOk result (λ accepted. IsTrue accepted → (runs : List Run) → claim.now.least ≡ Some runs → HaveRunsText runs) }
-    ensures rules { IfOk result (λ accepted. IsTrue accepted → AllHold (cycle_rules graph.now claim.now)) }
+    level: Level,
+    links: &[Link],
+    order: &[u32],
+) -> Result<Option<LinksClaim>, NoMemory>
+    ensures { IfOk result (λ found. IfSome found (λ claim. (runs : List Run) × (claim ≡ links_claim_of level graph.now links.now (Some runs))
+        × HaveRunsText runs × AllHold (cycle_rules graph.now claim))) }
 {
+    let claim = claim_with(alloc, graph, level, links, order)?;
     // Of more steps the judge decides nothing.
-    if claim.cost > MOST_STEPS || !has_room(claim) {
-        return Ok(false);
+    if claim.cost > MOST_STEPS || !has_room(&claim) {
+        return Ok(None);
     }
-    Ok(judge_cycle(alloc, graph, claim)? == Verdict::Accepted)
+    match judge_cycle(alloc, graph, &claim)? {
+        Verdict::Accepted => Ok(Some(claim)),
+        Verdict::Rejected { .. } => Ok(None),
+    }
 }

@@ -49,9 +49,9 @@ outcome_of level h (decision.Least links) = outcome.Large h (answer.Anomaly (bar
 outcome_of level h (decision.Cycle links) = outcome.Cycle h (labels_of h) links
 
 -- what is said of a history by what is decided of it, or by a claim that a cycle is a least one
-abbrev pub IsFoundOf : Level → History → Outcome → Type 0
-IsFoundOf level h o =
-    ((d : Decision) × IsDecision (judged h level) d × (o ≡ outcome_of level h d) × IsShort d × HasLargeText (claim_of level h d))
+abbrev pub IsFoundOf : Level → History → Decision → Outcome → Type 0
+IsFoundOf level h d o =
+    ((o ≡ outcome_of level h d) × IsShort d × HasLargeText (claim_of level h d))
     ⊎ ((links : List Link) × (runs : List Run) × IsProvedLeast level h links runs × HasLargeText (proved_claim level h links runs)
     × (o ≡ outcome.Proved h (answer.Anomaly (bare_cycle level h links)) (proved_claim level h links runs)))
 

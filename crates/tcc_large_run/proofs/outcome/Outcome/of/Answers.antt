@@ -2,6 +2,10 @@ use Rattle.std.proofs.Common.{◌∙◌, subst, rules}
 use Rattle.std.proofs.lemmas.Result.{IfOk-weaker}
 use Rattle.tcc_txn.specs.Finished.{KeepsLimits}
 use Rattle.tcc_reads.specs.Refusals.{IsRefusal}
+use Rattle.tcc_reads.specs.Sources.{history}
+use Rattle.tcc_graph.specs.Levels.{judged}
+use Rattle.tcc_large.specs.Explained.{IsLargeAnswer}
+use Rattle.tcc_large.specs.declared.answer.LargeAnswer.{LargeAnswer}
 use Rattle.tcc_large_run.specs.declared.outcome.Outcome.TheVariants as outcome
 use Rattle.tcc_large_run.proofs.Outcomes.{decided_of, large_outcome}
 use Rattle.tcc_large_run.proofs.Runs.{told}
@@ -11,17 +15,17 @@ pub returns-in-Some : goal.returns-in-Some
 returns-in-Some g c =
     IfOk-weaker c.of_small.result _ _ (λ outcome is. told c.args.run.now.options.now c.args.snapshot.now outcome is) (search rules)
 
-pub of_large-requires : goal.of_large-requires
-of_large-requires g c = decided_of c.args.run.now.options.now.level c.args.snapshot.now c.in-Ok.answer c.in-Ok.ensures
-
-pub returns-in-Ok : goal.returns-in-Ok
-returns-in-Ok g c =
+pub returns-in_ok-short-in-Ok : goal.returns-in_ok-short-in-Ok
+returns-in_ok-short-in-Ok g c =
     let s = c.args.snapshot.now in
     let level = c.args.run.now.options.now.level in
     let past : KeepsLimits s → ⊥ = search rules in
-    IfOk-weaker c.of_large.result _ _
-    (λ outcome found. told c.args.run.now.options.now s outcome (large_outcome level s c.in-Ok.answer outcome past c.in-Ok.ensures found))
-    c.of_large.ensures
+    let short : LargeAnswer = record { graph = c.in-Ok.answer.graph; decision = c.in_ok-short-in-Ok.field-0 } in
+    let is : IsLargeAnswer s level short
+    = (c.in-Ok.ensures.0, c.in-Ok.ensures.1, c.in_ok-short-in-Ok.ensures.is (judged (history s) level) c.in-Ok.ensures.2) in
+    IfOk-weaker c.of_decision.result _ _
+    (λ outcome found. told c.args.run.now.options.now s outcome (large_outcome level s short outcome past is found))
+    (c.of_decision.ensures (decided_of level s short is) c.in_ok-short-in-Ok.ensures.short)
 
 pub returns-in-Err-Reads : goal.returns-in-Err-Reads
 returns-in-Err-Reads g c =
