@@ -9,6 +9,8 @@ pub mod MeetingLemmas
 pub mod PriceLemmas
 pub mod PriceRows
 pub mod SettledCosts
+pub mod Attained
+pub mod Circled
 pub mod BackLemmas
 pub mod NearLemmas
 pub mod ClosingLemmas

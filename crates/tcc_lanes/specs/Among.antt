@@ -1,5 +1,5 @@
 -- Cycles among some transactions, and derived links into `init`.
-use Rattle.std.specs.Prelude.{ℕ, ◌<◌, ◌+◌, List, All, Contains, length}
+use Rattle.std.specs.Prelude.{ℕ, ◌<◌, ◌≡◌, ◌+◌, List, All, Contains, length, map}
 use Rattle.tcc_graph.specs.Keys.{key_at}
 use Rattle.tcc_graph.specs.Levels.{Judged}
 use Rattle.tcc_graph.specs.Links.{IsReason, cost, link_from, link_to}
@@ -14,6 +14,10 @@ IsAmong members l = Contains members (link_from l) × Contains members (link_to 
 -- a cycle of links among these transactions costs less than n
 abbrev pub HasCheaperAmong : Judged → List ℕ → ℕ → Type 0
 HasCheaperAmong j members n = (v : ℕ) × (links : List Link) × IsCycle j v links × All (IsAmong members) links × (cost links < n)
+
+-- a cycle whose links begin at these transactions, in their order, costs less than n
+abbrev pub HasCheaperAlong : Judged → List ℕ → ℕ → Type 0
+HasCheaperAlong j circle n = (v : ℕ) × (links : List Link) × IsCycle j v links × (map link_from links ≡ circle) × (cost links < n)
 
 -- a derived link into `init` by a reader of one of the keys, given by their indices, and a pair that leads on from there cost less than n
 abbrev pub HasCheaperIntoInit : Judged → List ℕ → ℕ → Type 0

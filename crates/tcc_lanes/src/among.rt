@@ -2,7 +2,7 @@
 ghost use Rattle.std.specs.Prelude.{◌≤◌, ◌<◌, ◌↔◌, length, All, AllPairs, IfOk, IsTrue, MatchOption};
 ghost use Rattle.tcc_reads.specs.History.{count};
 ghost use Rattle.tcc_graph.specs.Levels.{judged};
-ghost use Rattle.tcc_lanes.specs.{declared.limits.TheConstants.MOST_MEMBERS, declared.limits.TheConstants.MOST_STEPS, Among.HasCheaperAmong};
+ghost use Rattle.tcc_lanes.specs.{declared.limits.TheConstants.MOST_MEMBERS, declared.limits.TheConstants.MOST_STEPS, Among.HasCheaperAlong, Among.HasCheaperAmong};
 
 use crate::circling::circle;
 use crate::price_rows::price_rows;
@@ -12,9 +12,8 @@ use tcc_graph::{LargeGraph, Level};
 use tcc_txn::NoMemory;
 
 /// The transactions of a cycle that costs less than `most`, all of whose links begin and end at these transactions, in its order; none
-/// where there is no such cycle. They ascend, and `init` isn't among them. No clause says which they are: the links between them are
-/// for the caller to find and to judge. For M transactions among N with R reads that takes M / 64 times so many sweeps of N + R as a
-/// cycle may have steps, and then M * M * M steps at most; and M * M bytes.
+/// where there is no such cycle. They ascend, and `init` isn't among them. For M transactions among N with R reads that takes M / 64
+/// times so many sweeps of N + R as a cycle may have steps, and then M * M * M steps at most; and M * M bytes.
 pub fn cheaper_among(
     alloc: Global,
     graph: &LargeGraph,
@@ -29,7 +28,7 @@ pub fn cheaper_among(
     requires most { most ≤ MOST_STEPS }
     ensures { IfOk result (λ found. MatchOption found
         (HasCheaperAmong (judged graph.now level) members.now most → ⊥)
-        (λ _circle. HasCheaperAmong (judged graph.now level) members.now most)) }
+        (λ circle. HasCheaperAmong (judged graph.now level) members.now most × HasCheaperAlong (judged graph.now level) circle.items most)) }
 {
     let rows = price_rows(alloc, graph, level, members, most)?;
     for start in 0..members.len() {

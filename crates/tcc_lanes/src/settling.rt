@@ -4,7 +4,7 @@
 ghost use Rattle.std.specs.Prelude.{◌≡◌, ◌≤◌, ◌<◌, ◌+◌, ◌↔◌, ℕ, List, length, slice_index, min, AllPairs, IfOk, IsTrue};
 ghost use Rattle.tcc_graph.specs.Levels.{Judged};
 ghost use Rattle.tcc_lanes.specs.declared.pricing.TheConstants.{NONE};
-ghost use Rattle.tcc_lanes.specs.private.Pricing.{ArePriceRows, HasReturn, IsReached, IsSettled, IsTable};
+ghost use Rattle.tcc_lanes.specs.private.Pricing.{ArePriceRows, HasReturn, IsAttained, IsReached, IsSettled, IsTable};
 
 use std::alloc::Global;
 use tcc_bits::Row;
@@ -50,6 +50,7 @@ pub(crate) fn costs_from(
     ensures same { IfOk result (λ costs. length costs.items ≡ length rows.now) }
     ensures reached { IfOk result (λ costs. (j : Judged) (members : List ℕ) → ArePriceRows j members most (length members) rows.now
         → (level : ℕ) × (most ≤ level) × IsReached j members rows.now start level costs.items) }
+    ensures attained { IfOk result (λ costs. (v : ℕ) → v < length rows.now → IsAttained rows.now start costs.items v) }
 {
     let mut costs = rows[start].copy(alloc)?.into_vec();
     for level in 1..most {

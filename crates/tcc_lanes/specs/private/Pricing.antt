@@ -1,11 +1,11 @@
 -- What links among members cost, worked out from 64 of them at a time.
-use Rattle.std.specs.Prelude.{ℕ, ◌<◌, ◌≤◌, ◌+◌, ◌*◌, ◌≡◌, ◌⊎◌, ◌↔◌, min, All, List, [], length, slice_index, slice_index_or, if◌then◌else◌}
+use Rattle.std.specs.Prelude.{ℕ, ◌<◌, ◌≤◌, ◌+◌, ◌*◌, ◌≡◌, ◌⊎◌, ◌↔◌, min, All, List, [], length, map, reverse, slice_index, slice_index_or, if◌then◌else◌}
 use Rattle.tcc_reads.specs.History.{History, count}
 use Rattle.tcc_graph.specs.Keys.{key_at, keys}
 use Rattle.tcc_graph.specs.Levels.{Judged}
 use Rattle.tcc_graph.specs.Links.{IsLink, IsReason, cost, link_cost, link_from, link_to}
 use Rattle.tcc_graph.specs.Relations.{IsReadsPair, causal_pair}
-use Rattle.tcc_graph.specs.Routes.{IsCycle, IsRoute}
+use Rattle.tcc_graph.specs.Routes.{IsCycle, IsRoute, LinksLead}
 use Rattle.tcc_graph.specs.declared.link.Link.{Link}
 use Rattle.tcc_graph.specs.declared.step.Step.{Step}
 use Rattle.tcc_lanes.specs.declared.words.TheConstants.{LANES}
@@ -101,3 +101,26 @@ pub record IsReached (j : Judged) (members : List ℕ) (rows : List (List ℕ)) 
   pub first : (v : ℕ) → v < length members → slice_index costs v ≤ slice_index (slice_index_or rows s []) v
   pub over : (u v : ℕ) → u < length members → v < length members → slice_index costs u < level
       → slice_index costs v ≤ slice_index costs u + slice_index (slice_index_or rows u []) v
+
+-- what a link from one member to another costs, as the rows have it
+abbrev pub price_of : List (List ℕ) → ℕ → ℕ → ℕ
+price_of rows u v = slice_index (slice_index_or rows u []) v
+
+-- what it costs to come to v is what a link from the start costs; or some member costs so much less as a link from there costs
+abbrev pub IsAttained : List (List ℕ) → ℕ → List ℕ → ℕ → Type 0
+IsAttained rows s costs v =
+    (slice_index costs v ≡ price_of rows s v)
+    ⊎ ((u : ℕ) × (u < length rows) × (slice_index costs u + price_of rows u v ≡ slice_index costs v))
+
+-- that, where the member is settled
+abbrev pub IsSettledFrom : List (List ℕ) → ℕ → ℕ → List ℕ → ℕ → Type 0
+IsSettledFrom rows s level costs v =
+    (slice_index costs v ≡ price_of rows s v)
+    ⊎ ((u : ℕ) × (u < length rows) × (slice_index costs u < level) × (slice_index costs u + price_of rows u v ≡ slice_index costs v))
+
+-- links lead on from a member to the start; the transactions at which they begin were read off in reverse; and together with what it costs
+-- to come to the member they cost no more than it costs to come to the start
+abbrev pub IsWayBack : Judged → List ℕ → ℕ → List ℕ → ℕ → List ℕ → Type 0
+IsWayBack j members s costs to circle =
+    (links : List Link) × LinksLead j (slice_index members to) (slice_index members s) links × (map link_from links ≡ reverse circle)
+    × (slice_index costs to + cost links ≤ slice_index costs s)

@@ -24,13 +24,20 @@ circle-requires-clause-table c = rw (c.deref-then-branch.ensures.value) (table (
 pub circle-requires-clause-start : goal.circle-requires-clause-start
 circle-requires-clause-start c = let long = c.in_ok-rows.ensures.long in rw (c.deref-then-branch.ensures.value) (omega (arith, long, c.loop-start-test.true))
 
+pub circle-requires-clause-same : goal.circle-requires-clause-same
+circle-requires-clause-same c = let long = c.in_ok-rows.ensures.long in rw (c.deref-then-branch.ensures.value) (omega (arith, long))
+
 pub returns-then-branch : goal.returns-then-branch
 returns-then-branch c =
     let j = judged c.args.graph.now c.args.level in
     let members = c.args.members.now in
     let are : ArePriceRows j members c.args.most (length members) c.deref.result.now = rw (c.deref.ensures.value) c.in_ok-rows.ensures in
-    from_start j members c.args.most c.in_ok-rows.rows.items c.in_ok-rows.ensures c.loop-start.start c.loop-start-test.true
-    ((c.in_ok-has_return.ensures j members are c.requires.ascending).0 c.if-branch.true)
+    let again : ArePriceRows j members c.args.most (length members) c.deref-then-branch.result.now
+    = rw (c.deref-then-branch.ensures.value) c.in_ok-rows.ensures in
+    let has = (c.in_ok-has_return.ensures j members are c.requires.ascending).0 c.if-branch.true in (
+      from_start j members c.args.most c.in_ok-rows.rows.items c.in_ok-rows.ensures c.loop-start.start c.loop-start-test.true has,
+      c.in_ok-circle.ensures j again c.requires.ascending has,
+    )
 
 pub loop-start-preserved : goal.loop-start-preserved
 loop-start-preserved c =
