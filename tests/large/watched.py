@@ -1,7 +1,7 @@
 #!/usr/bin/env python3
-"""What a run of `tcc explain --large`, `tcc survey --large` or `tcc check --large` shows at a terminal while it lasts: after two seconds
-what it is doing, on one line that is cleared before anything else is written; elsewhere, and where the run is short or its records are
-typed, nothing. A check or a survey says how far it is where it reads a file whose size is known.
+"""What a run of `tcc explain --large` or `tcc check --large` shows at a terminal while it lasts: after two seconds what it is doing, on one
+line that is cleared before anything else is written; elsewhere, and where the run is short or its records are typed, nothing. A check
+says how far it is where it reads a file whose size is known.
 
     watched.py [--tcc PATH]
 
@@ -30,10 +30,9 @@ LONGEST = 1800.0  # what takes longer hangs
 # A run that is to be short is done again where it wasn't, as on a busy machine, so often in all.
 TURNS = 10
 BEGUN = 1 << 20  # bytes: a program that has read so many is at its work
-LINE = re.compile(rb"(reading records|reading the certificate|tracing reads|deciding|surveying|cutting a slice|judging)(?:, (\d+) %)?, (\d+) s\r")
+LINE = re.compile(rb"(reading records|reading the certificate|tracing reads|deciding|cutting a slice|judging)(?:, (\d+) %)?, (\d+) s\r")
 ONE = b"a,begin\na,w,x,1\na,commit\n"
 CONSISTENT = b"consistent: 1 transactions, 1 sessions\norder: init a/1\n"
-NOTHING_FOUND = b"0 contradicted reads of 0, 0 faults\nno read is contradicted, which is no answer: ask tcc explain\n"
 
 
 def terminal(held, number=None):
@@ -180,16 +179,6 @@ def decided(words):
     return None if len(last) == 2 and last[0].startswith(b'{"answer":"consistent"') and not last[1] else "screen: %s" % shown(text[-200:])
 
 
-def surveyed(words):
-    """What is wrong where it is the survey that takes long, or None."""
-    records = b"".join(large(400000))
-    showed, _, status = watched(words, [b"", records])
-    text = b"".join(showed)
-    if status != 0 or stages_in(text) != ["reading records", "surveying"]:
-        return "status %d, shown %s" % (status, shown(text))
-    return first_difference("screen", NOTHING_FOUND, screen_after(text))
-
-
 def check_at_terminal(words, pipe, parts):
     """What a check at a terminal shows, and its status. A pipe that it reads gets its parts each once the line shows something; without
     parts the check is held up for a while once it is reading."""
@@ -265,10 +254,6 @@ def outcomes(tcc):
     yield "a long run at no terminal", elsewhere(words)
     yield "a long run of typed records", typed(words)
     yield "a long decision", decided(words)
-    survey = [tcc, "survey", "--large"]
-    yield "a long reading of a survey", wrong_with(survey, [b"", ONE], 0, NOTHING_FOUND, reading)
-    yield "a long survey", surveyed(survey)
-    yield "a short survey", wrong_with(survey, [ONE], 0, NOTHING_FOUND, [])
     yield from checks(tcc)
 
 

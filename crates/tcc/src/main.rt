@@ -22,9 +22,6 @@ use tcc_words::{Request, VERSION, read};
 use watch::Watch;
 use watched::{WatchedReader, WatchedWriter};
 
-/// What a run does while it reads its records.
-const READING: &str = "reading records";
-
 /// The paths of the files for what comes behind the answers, if they are given: the certificate of the last, and a slice.
 #[derive(Clone, Copy)]
 struct Paths<'a> {
@@ -172,56 +169,15 @@ fn explain_records<W: Write>(
     }
 }
 
-/// How many bytes the records have, if they are those of a file; else 0.
-fn size_of_input(input: &Input) -> u64 {
-    match input {
-        Input::File(file) => size_of(file),
-        Input::Standard(_) => 0,
-    }
-}
-
-/// Lists the contradicted reads of records up to the large limits, and gives the status of the run. At a terminal a run that takes longer
-/// shows what it is doing, and how much of a file it has read.
-fn survey_shown<W: Write>(
-    rt: &HostRuntime,
-    threads: &(impl Threads + Wait + Clock + Sync),
-    options: SurveyOptions,
-    input: Telling<'_, Input>,
-    out: &mut W,
-) -> u8 {
-    let is_shown = is_waited_for(rt, input.stream());
-    let size = size_of_input(input.stream());
-    let watch = Watch::new(threads, rt.stderr());
-    let watch = &watch;
-    thread::scope(thread::scope_env(), threads, move |scope| -> u8 {
-        if is_shown {
-            let _ = scope.spawn(move || watch.show());
-        }
-        let records = WatchedReader::new(input, watch, READING, size, "surveying");
-        let mut out = WatchedWriter::new(out, watch);
-        let mut notes = WatchedWriter::new(rt.stderr(), watch);
-        let code = run_survey(rt.alloc(), records, &mut out, &mut notes, options);
-        watch.finish();
-        code
-    })
-}
-
 /// Lists the contradicted reads of the records at the path, or of the standard input, and gives the status of the run.
 fn survey<W: Write>(
     rt: &HostRuntime,
-    threads: &(impl Threads + Wait + Clock + Sync),
     options: SurveyOptions,
     history: Option<&str>,
     out: &mut W,
 ) -> u8 {
     match open_input(rt, history) {
-        Ok(input) => {
-            if options.large {
-                survey_shown(rt, threads, options, input, out)
-            } else {
-                run_survey(rt.alloc(), input, out, &mut rt.stderr(), options)
-            }
-        }
+        Ok(input) => run_survey(rt.alloc(), input, out, &mut rt.stderr(), options),
         Err(error) => print_unopened(error.kind(), options.json, out),
     }
 }
@@ -247,7 +203,13 @@ fn check_large<W: Write>(
         if is_shown {
             let _ = scope.spawn(move || watch.show());
         }
-        let records = WatchedReader::new(history, watch, READING, sizes.0, "tracing reads");
+        let records = WatchedReader::new(
+            history,
+            watch,
+            "reading records",
+            sizes.0,
+            "tracing reads",
+        );
         let text = WatchedReader::new(
             certificate,
             watch,
@@ -299,7 +261,7 @@ fn main(rt: HostRuntime) -> ExitCode {
             },
         ) => {
             let options = SurveyOptions { level, json, large };
-            survey(&rt, &rt, options, history.as_deref(), &mut out)
+            survey(&rt, options, history.as_deref(), &mut out)
         }
         Ok(Request::Check(files)) => {
             let (history, certificate) = (files.history.as_str(), files.certificate.as_str());
