@@ -207,10 +207,10 @@ def known_by_steps(writers: int, readers: int) -> Transactions:
         yield "c", ["r,x,1"]
 
 
-def each_its_own(sessions: int, keys: int) -> Transactions:
-    """Each session has one transaction, which writes the next of so many keys and reads what the session before it wrote."""
+def each_its_own(sessions: int) -> Transactions:
+    """Each session has one transaction, which writes a key of its own and reads that of the session before it."""
     for n in range(sessions):
-        yield "s%d" % n, ["w,k%d,%d" % (n % keys, n + 1), *(["r,k%d,%d" % ((n - 1) % keys, n)] if n else [])]
+        yield "s%d" % n, ["w,k%d,1" % n, *(["r,k%d,1" % (n - 1)] if n else [])]
 
 
 def ordinary(size: int) -> str:
@@ -255,8 +255,4 @@ def hard() -> Iterator[Hard]:
     yield Hard("surveyed: initial reads", survey, records_of(read_initial(60000, 60000)), "0 contradicted reads of 60001, 0 faults\n")
     yield Hard("surveyed: known by steps", [*survey, "--level", "atomic"], records_of(known_by_steps(60000, 60000)),
                "0 contradicted reads of 60002, 0 faults\n")
-    yield Hard("surveyed: a session each", survey, records_of(each_its_own(60000, 60000)), "0 contradicted reads of 59999, 0 faults\n")
-    # keys written once, and twice: a block of sessions may be passed over where each of its keys is read from itself alone
-    for keys in (60000, 30000):
-        yield Hard("a session each, %d keys" % keys, large, records_of(each_its_own(60000, keys)),
-                   "consistent: 60000 transactions, 60000 sessions\n")
+    yield Hard("surveyed: a session each", survey, records_of(each_its_own(60000)), "0 contradicted reads of 59999, 0 faults\n")
