@@ -1,5 +1,5 @@
 //! Where the first of the least cycles starts, if it costs three steps at most: the first transaction around which a cycle of one step
-//! leads, else of two, else of three. Of R reads, each of a transaction with D reads and writes at most, it takes R * D look-ups by
+//! leads, else of two, else of three. Of R reads, each of a transaction with D reads and writes at most, it takes R * D * D look-ups by
 //! halving.
 ghost use Rattle.std.specs.Prelude.{◌≡◌, ◌≤◌, ◌<◌, ◌↔◌, ℕ, IsTrue, MatchOption};
 ghost use Rattle.tcc_reads.specs.History.{count};
