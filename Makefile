@@ -15,7 +15,7 @@
 # redis-py, for `make demo-postgres` PostgreSQL and psycopg2, for `make demo-galera` MariaDB with Galera, rsync and PyMySQL, for `make demo-etcd` etcd. Nothing has to be done before.
 
 PREFIX ?= /usr/local
-# So many processors are used to prove the program; a crate that waits for another one takes a lane too.
+# How many processors prove the program; a crate that waits for another one takes a lane too.
 JOBS ?= $(shell nproc)
 LANES = $(shell expr 2 '*' $(JOBS))
 

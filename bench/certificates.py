@@ -4,10 +4,10 @@
     certificates.py [--tcc PATH] [--beside PATH] [--kinds KIND ..] [--sizes N ..] [--sessions N ..] [--level LEVEL] [--keep FOLDER]
 
 The histories are those of large.py: `causal`, `stale` and `loose`. A line for each has the processor seconds and the megabytes at
-the most of `tcc explain --large` alone, of the same with `--certificate`, and of `tcc check --large`; the bytes of the certificate's
-text; and what the check says. With --beside the same of another program's `write < HISTORY > CERTIFICATE` and
-`check HISTORY CERTIFICATE`, and how many times its processor time the check of `tcc` takes. By default histories of 100,000
-transactions; one of 1,000,000 takes minutes and gigabytes.
+the most of `tcc explain --large` alone, of the same with `--certificate`, and of `tcc check --large`. It also has the bytes of the
+certificate's text, and what the check says. With --beside the same of another program's `write < HISTORY > CERTIFICATE` and `check
+HISTORY CERTIFICATE`, and how many times its processor time the check of `tcc` takes. By default histories of 100,000 transactions;
+one of 1,000,000 takes minutes and gigabytes.
 """
 import argparse
 import os

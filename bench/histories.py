@@ -4,9 +4,9 @@
     histories.py FOLDER [--kinds KIND ..] [--sizes N ..]
     histories.py --list
 
-Each is `KIND-N.csv`, with about N transactions. All of them resolve; what each of them is stands at its function, and
-`--list` tells it. Without `--kinds` it writes all, and without `--sizes` those of 1,023 transactions. A folder that isn't there
-is made; it stands before the options, which take several words.
+Each is `KIND-N.csv`, with about N transactions. All of them resolve; what each of them is, its function says, and
+`--list` prints it. Without `--kinds` it writes all, and without `--sizes` those of 1,023 transactions. A folder that isn't there
+is made; it comes before the options, which take several words.
 """
 import argparse
 import pathlib
@@ -23,8 +23,8 @@ def transaction(session, *operations):
 class Store:
     """A simulated store that keeps causality.
 
-    Its log holds the committed writes in one order. A transaction reads a prefix of the log that is no shorter than
-    any that its session has read or written before, so the order of the log is a commit order of the whole history.
+    Its log holds the committed writes in one order. A transaction reads a prefix of the log that is no shorter than any that its
+    session has read or written before. So the order of the log is a commit order of the whole history.
     """
 
     def __init__(self, seed, keys=KEYS, lag=0):
@@ -83,7 +83,7 @@ def history(count, seed, sessions=SESSIONS, keys=KEYS, lag=0, operations=NARROW,
 
 
 def sessions_16(count):
-    """16 sessions, 1,024 keys, 8 operations each; replicas lag behind by up to 200 transactions. Consistent."""
+    """16 sessions, 1,024 keys, 8 operations each; replicas lag by up to 200 transactions. Consistent."""
     return history(count, seed=11, sessions=16, lag=200)
 
 
@@ -98,7 +98,7 @@ def one_session(count):
 
 
 def many_keys(count):
-    """64 sessions, 1,024 keys, 256 operations each; replicas lag behind. Consistent."""
+    """64 sessions, 1,024 keys, 256 operations each; replicas lag. Consistent."""
     return history(count, seed=1, lag=200, operations=WIDE)
 
 
@@ -235,7 +235,7 @@ def main():
     ask = argparse.ArgumentParser(description="Writes histories of several kinds and sizes, from fixed seeds.")
     ask.add_argument("folder", type=pathlib.Path, nargs="?", help="where they are written, as KIND-N.csv")
     ask.add_argument("--kinds", nargs="+", choices=list(KINDS), default=list(KINDS), metavar="KIND", help="these alone")
-    ask.add_argument("--sizes", nargs="+", type=int, default=[1023], metavar="N", help="so many transactions, up to 4,095")
+    ask.add_argument("--sizes", nargs="+", type=int, default=[1023], metavar="N", help="so many transactions")
     ask.add_argument("--list", action="store_true", help="says what each kind is, and writes nothing")
     asked = ask.parse_args()
     if asked.list or asked.folder is None:

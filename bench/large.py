@@ -3,19 +3,19 @@
 
     large.py [--kinds KIND ..] [--sizes N ..] [--sessions N ..] [--stages PATH] [--keep FOLDER]
 
-Each history has transactions of 8 operations, of which about half are reads. A session reads a prefix of one log of writes that is up
-to 1,000 transactions late, and none that is shorter than one that it read before; 64 sessions work at a time, and where there
-are more a session ends and another begins. Kinds:
+Each history has transactions of 8 operations, of which about half are reads. A session reads a prefix of one log of writes that is
+up to 1,000 transactions late, and none that is shorter than one that it read before. At a time 64 sessions work at a time, and
+where there are more a session ends and another begins. Kinds:
 
     causal   consistent; a key for 10 transactions
     jepsen   consistent; 16 keys at a time, each written 32 times before another takes its place
     stale    causal, with a read near the end of a value that its session knows as overwritten
-    loose    five places, at each of which a transaction shows by itself, some much later than what came of it: many anomalies
+    loose    five places, at each of which a transaction shows by itself, some much later than its effects: many anomalies
 
 A line for each history has the processor seconds of reading, resolving, building the graph, deciding whether there is an order, and
-looking for a cycle, and from the graph on those of a survey, each by `tcc_bench_stages` and without those before it; then the peak
-memory, how many steps the cycle has, and how many reads are contradicted. By default histories of 10,000 and 100,000 transactions;
-one of 1,000,000 takes minutes and gigabytes.
+looking for a cycle. From the graph on it has those of a survey. Each is by `tcc_bench_stages` and without those before it. Then
+come the peak memory, how many steps the cycle has, and how many reads are contradicted. By default histories of 10,000 and 100,000
+transactions; one of 1,000,000 takes minutes and gigabytes.
 """
 import argparse
 import bisect
@@ -93,7 +93,7 @@ class Places(Log):
 
     def __init__(self, kind, count, sessions):
         super().__init__(kind, count, sessions)
-        self.shown = [{} for _ in range(PLACES)]  # of each key: where in the order its newest write stands, and what it is
+        self.shown = [{} for _ in range(PLACES)]  # of each key: where in the order its newest write is, and what it is
         self.coming = [(collections.deque(), collections.deque()) for _ in range(PLACES)]  # soon, and much later
         self.place, self.written = 0, []
 

@@ -3,10 +3,10 @@
 
     rounds.py [--tcc PATH] [--rounds N] [--keys N ..] [--transactions N ..]
 
-Plays rounds of a store of two replicas, from fixed seeds. Eight clients make transactions of four operations, a read or a
-write of any key each; what is written shows at the other replica sixteen transactions later, and a client goes over to the
-other one before one transaction in fifty, so that it may not see what it saw before. Prints for each number of keys, in a
-line, of how many rounds the answer is an anomaly. A round whose answer is neither an order nor an anomaly ends the run.
+Plays rounds of a store of two replicas, from fixed seeds. Eight clients make transactions of four operations, a read or a write of
+any key each. What is written shows at the other replica sixteen transactions later, and a client goes over to the other one before
+one transaction in fifty, so that it may not see what it saw before. Prints for each number of keys, in a line, of how many rounds
+the answer is an anomaly. A round whose answer is neither an order nor an anomaly ends the run.
 """
 import argparse
 import pathlib

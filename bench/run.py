@@ -3,12 +3,12 @@
 
     run.py [--kinds KIND ..] [--sizes N ..] [--runs N] [--tcc PATH] [--keep FOLDER]
 
-A line for each history has medians of milliseconds by `tcc_bench_stages`: what csv alone needs for the records; reading
-them, and reading them into a snapshot; then, each without the stages before it, resolving the snapshot, building its graph,
-and looking for the order; working out distances and prices, of which `tcc explain` has need only where there is no order; at
-last the rest of `tcc explain`, which is the search, the tables and the text, and the whole of it, with its peak memory. Where
-a kind has several sizes, a line below each but the first says by how much each cell is greater than that of the size before.
-All programs take turns. Builds what isn't built. Peak memory is never below that of this script, about 15 MB.
+A line for each history has medians of milliseconds by `tcc_bench_stages`. First comes what csv alone needs for the records, reading
+them, and reading them into a snapshot. Then come, each without the stages before it, resolving the snapshot, building its graph,
+and looking for the order. So do distances and prices, of which `tcc explain` has need only where there is no order. At last comes
+the rest of `tcc explain`, which is the search, the tables and the text, and the whole of it, with its peak memory. Where a kind has
+several sizes, a line below each but the first says by how much each cell is greater than that of the size before. All programs take
+turns. Builds what isn't built. Peak memory is never below that of this script, about 15 MB.
 """
 import argparse
 import os

@@ -20,8 +20,9 @@ from histories import text_of
 TOP = pathlib.Path(__file__).resolve().parent.parent
 sys.path.insert(0, str(TOP / "tests"))
 from counted import status_of  # noqa: E402
+from limits import limits  # noqa: E402
 
-TRANSACTIONS = 4095
+TRANSACTIONS = limits()["MAX_TRANSACTIONS"]
 ANOMALY = 1
 KINDS = ["stale-reads", "stale-reads-of-few-keys", "stale-reads-in-one-session", "ring-of-long-links"]
 

@@ -10,9 +10,9 @@ _tcc() {
     fi
     COMPREPLY=()
     if [ "$COMP_CWORD" -eq 1 ]; then
-        COMPREPLY=($(compgen -W 'explain survey check help --help --version' -- "$word"))
+        COMPREPLY=($(compgen -W 'explain survey watch check help --help --version' -- "$word"))
     elif [ "$command" = help ]; then
-        COMPREPLY=($(compgen -W 'explain survey check' -- "$word"))
+        COMPREPLY=($(compgen -W 'explain survey watch check' -- "$word"))
     elif [ "$command" = explain ]; then
         case $before in
             --level) COMPREPLY=($(compgen -W 'causal atomic' -- "$word")) ;;
@@ -24,6 +24,11 @@ _tcc() {
         case $before in
             --level) COMPREPLY=($(compgen -W 'causal atomic' -- "$word")) ;;
             *) [[ $word == -* ]] && COMPREPLY=($(compgen -W '--level --json --large --help' -- "$word")) ;;
+        esac
+    elif [ "$command" = watch ]; then
+        case $before in
+            --level) COMPREPLY=($(compgen -W 'causal atomic' -- "$word")) ;;
+            *) [[ $word == -* ]] && COMPREPLY=($(compgen -W '--level --json --help' -- "$word")) ;;
         esac
     elif [ "$command" = check ] && [[ $word == -* ]]; then
         COMPREPLY=($(compgen -W '--large --help' -- "$word"))

@@ -1,5 +1,5 @@
 #!/usr/bin/env python3
-"""Starts `tcc.places` of the package in python/, which tells where the transactions of a slice stand in the whole history."""
+"""Starts `tcc.places` of the package in python/, which tells where the transactions of a slice are in the whole history."""
 import pathlib
 import sys
 

@@ -1,4 +1,4 @@
-"""What the demos of redis/, postgres/ and galera/ share: they run commands as they would be typed, show the answers for what their
+"""What the demos of redis/, postgres/ and galera/ share. They run commands as they would be typed, show the answers for what their
 recorder wrote, and end with a report of the first history that isn't consistent."""
 import argparse
 import contextlib

@@ -22,7 +22,7 @@ def status_on_tcc(about: str, outcomes: Callable[[List[str]], Iterable[Outcome]]
 
 
 def status_of_written(about: str, write: Callable[[], None], outcomes: Callable[[], Iterable[Outcome]]) -> int:
-    """The exit status of a test of what a script writes: with `--write`, behind its writing."""
+    """The exit status of a test of what a script writes: with `--write`, after its writing."""
     ask = argparse.ArgumentParser(description=about)
     ask.add_argument("--write", action="store_true", help="writes it anew")
     if ask.parse_args().write:

@@ -2,13 +2,15 @@
 import functools
 import pathlib
 import re
-from typing import Dict
+from typing import Any, Dict
 
 CRATES = pathlib.Path(__file__).resolve().parent.parent / "crates"
-SOURCES = ("tcc_txn/src/limits.rt", "tcc_workers/src/workers.rt")
+SOURCES = ("tcc_txn/src/limits.rt", "tcc_base/src/workers.rt")
 CONSTANT = re.compile(r"^pub const (\w+): \w+ = ([^;]+);", re.MULTILINE)
 # In braces an expression over the limits: with a comma before each three digits, or plain after an exclamation mark.
 TEMPLATE = re.compile(r"\{(!?)([A-Z_+1 ]+)\}")
+# In a rule of a row case: a brace, or an expression over the limits.
+RULED = re.compile(r"\{\{|\}\}|\{([^{}]+)\}")
 
 
 @functools.lru_cache(maxsize=None)
@@ -21,6 +23,25 @@ def limits() -> Dict[str, int]:
     return known
 
 
+def of_answer(large: bool) -> Dict[str, int]:
+    """The limits of a run, as the line of `--full` has them."""
+    known, of = limits(), "LARGE" if large else "MAX"
+    return {"bytes": known[of + "_INPUT_BYTES"], "keys": known[of + "_KEYS"], "operations": known["MAX_OPERATIONS"],
+            "seals": known["MAX_SEALS"], "sessions": known[of + "_SESSIONS"], "transactions": known[of + "_TRANSACTIONS"]}
+
+
+def with_limits(json: Any) -> Any:
+    """A line of `--full` with its limits, where it says only which; any other value as it is."""
+    if not isinstance(json, dict) or json.get("limits") not in ("default", "large"):
+        return json
+    return {**json, "limits": of_answer(json["limits"] == "large")}
+
+
+def ruled(line: str) -> str:
+    """A line of a row case, with the values of rules over the limits alone."""
+    return RULED.sub(lambda found: str(eval(found[1], {"__builtins__": {}}, limits())) if found[1] else found[0][0], line)
+
+
 def filled(template: str) -> str:
     """A sentence with its limits as numbers."""
     known = limits()
@@ -30,3 +51,8 @@ def filled(template: str) -> str:
         return str(value) if found.group(1) else format(value, ",")
 
     return TEMPLATE.sub(number, template)
+
+
+def form_of(template: str) -> str:
+    """A pattern of the sentence with any numbers in the place of its limits."""
+    return r"[\d,]*\d".join(re.escape(part) for part in TEMPLATE.sub("{}", template).split("{}"))

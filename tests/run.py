@@ -1,9 +1,9 @@
 #!/usr/bin/env python3
-"""All tests: the merge gate, which proves everything from nothing, and then on what it built: the mutants, which the check must
-refuse; the rows, by 32 workers, and those with an anomaly by two as well; the seals of a history that grows, small histories
-decided as large ones, what a long run shows at a terminal, random histories surveyed, the altered certificates, the refused
-allocations and the hostile records; the scripts of recipes/ on stored inputs, and the package of python/ as pip installs it;
-and that what the documents name is there, and no script defines a name twice.
+"""All tests: the merge gate, which proves everything from nothing, and then what asks something of what it built. First come the
+mutants, which the check must refuse, and the rows, by 32 workers, and those with an anomaly by two as well. Then come the seals of
+a history that grows, small histories decided as large ones, what a long run shows at a terminal, and random histories surveyed. So
+do the altered certificates, the refused allocations and the hostile records. Last come the scripts of recipes/ on stored inputs,
+the package of python/ as pip installs it, and what the documents name.
 
 The scripts run side by side, and the output of each is shown when it ends; those that measure time run last and alone.
 A table says where the time went (`spent.py`). What failed is shown once more after it, as a log may keep its end alone. The last

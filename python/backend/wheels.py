@@ -1,6 +1,6 @@
 """Builds the package with what Python has, for pip and others who ask as PEP 517 and PEP 660 say.
 
-What a wheel tells of itself comes from pyproject.toml; of TOML this reads what stands there: sections, and names with texts.
+What a wheel says of itself comes from pyproject.toml; of TOML this reads what is there: sections, and names with texts.
 """
 import base64
 import hashlib
@@ -55,7 +55,7 @@ def entry_points() -> str:
 
 
 def about() -> List[Tuple[str, bytes]]:
-    """The files that tell of the wheel, but for the list of all."""
+    """The files that describe the wheel, but for the list of all."""
     folder = stem() + ".dist-info/"
     wheel = "Wheel-Version: 1.0\nGenerator: wheels\nRoot-Is-Purelib: true\nTag: py3-none-any\n"
     texts = (("METADATA", metadata()), ("WHEEL", wheel), ("entry_points.txt", entry_points()))

@@ -187,7 +187,7 @@ class Search:
         while answer["answer"] == "anomaly" and self.found < most:
             cycle = cycle_of(answer)
             yield self.anomaly(answer, cycle)
-            if usual_name(cycle) == "circular reads":  # what was behind the circle wasn't looked at
+            if usual_name(cycle) == "circular reads":  # what was after the circle wasn't looked at
                 yield from self.contradicted(self.surveyed(), most)
             answer = self.answer()
         yield from self.end(answer)

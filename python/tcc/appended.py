@@ -59,7 +59,7 @@ class Appended:
             yield from file
 
     def cut(self, end: int) -> None:
-        """Keeps so many bytes."""
+        """Keeps this many bytes."""
         os.ftruncate(self.file, end)
         self.end = end
 

@@ -1,5 +1,5 @@
 """What the recorders of redis/, postgres/ and galera/ share: their command line, the servers that they start, the clients that
-work there, and how what these noted goes out."""
+work there, and how what these noted is written."""
 import abc
 import argparse
 import contextlib
@@ -23,7 +23,7 @@ from tcc.words import count_within
 # A value is a counter and the number of the client that wrote it, which is less than this.
 CLIENTS = 4096
 LOOPBACK = "127.0.0.1"
-# So long a client waits before it connects again, and behind each statement of a transaction.
+# So long a client waits before it connects again, and after each statement of a transaction.
 PAUSE_SECONDS = 0.05
 STATEMENT_SECONDS = 0.002
 # A client that has done too little when its seconds are over goes on for so many times as long, as on a busy machine.
@@ -171,7 +171,7 @@ class Client:
         return "k%d" % self.chance.randrange(self.keys)
 
     def some_keys(self, prefix: str = "") -> List[str]:
-        """One or two keys in order, each behind the prefix."""
+        """One or two keys in order, each after the prefix."""
         return sorted({prefix + self.some_key() for _ in range(2)})
 
     def new_value(self) -> int:
@@ -182,7 +182,7 @@ class Client:
     @contextlib.contextmanager
     def transaction(self, node: str = "", refused: Failures = ()) -> Iterator[Transaction]:
         """A transaction, noted once it has ended. It committed where nothing is raised. What the store raises where it refuses a
-        transaction makes it an abort, and so does whatever breaks before its COMMIT goes out; behind that the outcome is unknown.
+        transaction makes it an abort, and so does whatever breaks before its COMMIT is sent; after that the outcome is unknown.
         Of what didn't commit the reads, which nobody judges, are left out, and so is what only read."""
         mine = Transaction(self.session(), [], False, node)
         try:
@@ -216,7 +216,7 @@ class Client:
             yield connections
 
     def work(self, much: Much) -> None:
-        """Makes so many transactions, over new connections behind each one that broke; those that are refused are asked for
+        """Makes so many transactions, over new connections after each one that broke; those that are refused are asked for
         again, and use up no name of a session."""
         while not much.is_enough(len(self.done)):
             with contextlib.suppress(*self.store.broken()), self.connected() as connections:
@@ -240,7 +240,7 @@ class Statements(NamedTuple):
     write: str
 
     def execute(self, client: Client, mine: Transaction, cursor: Any, reads: List[str], writes: List[str]) -> None:
-        """Reads and then writes in a transaction, noted as they go, with a pause behind each."""
+        """Reads and then writes in a transaction, noted as they go, with a pause after each."""
         for key in reads:
             self.read_key(mine, cursor, key)
             time.sleep(STATEMENT_SECONDS)
@@ -259,7 +259,7 @@ class Statements(NamedTuple):
     def transact(self, client: Client, server: Any, node: str, reads: List[str], writes: List[str], refused: Failures,
                  refusals: ContextManager[None] = contextlib.nullcontext()) -> List[str]:
         """One transaction over a connection, noted as it goes, of reads and then writes; gives the keys of both. It is rolled back
-        where the store refuses it, which `refusals` may tell of other errors."""
+        where the store refuses it, which `refusals` may show for other errors."""
         try:
             with client.transaction(node, refused) as mine, refusals, server.cursor() as cursor:
                 self.execute(client, mine, cursor, reads, writes)

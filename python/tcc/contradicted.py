@@ -1,13 +1,13 @@
 """Every contradicted read of a history, worked out with vector clocks, and the walks that show one.
 
-A read of a key by C from A is contradicted where C knew of another write of the key, by B, and A is the initial state or B knew of
-A: then A can't be the last one before C. Each is an anomaly by itself; a history without any can have one of several derived links.
-A read that can't be traced to a write is left out, and so is each of a value that was written twice: that takes rules away, and
-adds none.
+A read of a key by C from A is contradicted where C had observed another write of the key, by B, and A is the initial state or B had
+observed A. Then A can't be the last one before C. Each is an anomaly by itself; a history without any can have one of several
+derived links. A read that can't be traced to a write is left out, and so is each of a value that was written twice: that takes
+rules away, and adds none.
 
-The transactions are sorted by their pairs (Kahn), else by rows. Of the writes of the key that stand between A and C in that order
-each is looked at: whether C knew of it, and it of A, by a search back where few transactions stand between, and else by the clocks of
-their sessions, 64 at a time, along the order. N transactions, S sessions: N*S/64 rows at most.
+The transactions are sorted by their pairs (Kahn), else by rows. Of the writes of the key that are between A and C in that order
+each is looked at, whether C had observed it, and it A. That is done by a search back where few transactions are between, and else
+by the clocks of their sessions, 64 at a time, along the order. N transactions, S sessions: N*S/64 rows at most.
 """
 import itertools
 import json
@@ -29,7 +29,7 @@ SURVEYED = (0, 1, 2)  # how `tcc survey` ends where it has judged: with nothing 
 
 
 class Read(NamedTuple):
-    """An external read and the number of the transaction that it reads from."""
+    """An external read and the index of the transaction that it reads from."""
 
     operation: Operation
     source: int
@@ -37,7 +37,7 @@ class Read(NamedTuple):
 
 @dataclass(frozen=True)
 class Contradicted:
-    """A contradicted read: who read, from whom, which other writer it knew of, and how that is usually called. What a transaction reads
+    """A contradicted read: who read, from whom, which other writer it had observed, and how that is usually called. What a transaction reads
     of a key from another is one read, however often it does so; the operation is the first."""
 
     reader: str
@@ -129,7 +129,7 @@ class Graph:
         return None if number == self.begins[self.sessions[number]] else number - 1
 
     def order(self) -> List[int]:
-        """The transactions, each behind those that it follows or reads from, and else by rows; those on a cycle of pairs, and behind
+        """The transactions, each after those that it follows or reads from, and else by rows; those on a cycle of pairs, and after
         one, are left out."""
         count = len(self.transactions)
         readers: List[List[int]] = [[] for _ in range(count)]
@@ -196,7 +196,7 @@ class _Candidate(NamedTuple):
 
 
 def _positions(graph: Graph, order: List[int]) -> List[int]:
-    """Where in the order each transaction stands; -1 for none."""
+    """Where in the order each transaction is; -1 for none."""
     position = [-1] * len(graph.transactions)
     for index, number in enumerate(order):
         position[number] = index
@@ -204,7 +204,7 @@ def _positions(graph: Graph, order: List[int]) -> List[int]:
 
 
 def _between(graph: Graph, order: List[int], position: List[int]) -> Iterator[_Candidate]:
-    """The reads with writers of their key that stand between source and reader in the order."""
+    """The reads with writers of their key that are between source and reader in the order."""
     writers: Dict[str, List[Tuple[int, int]]] = {
         key: sorted((position[one], one) for one in every if position[one] >= 0) for key, every in graph.writers.items()}
     for reader in order:
@@ -258,7 +258,7 @@ def _known_by_clocks(graph: Graph, order: List[int], found: List[_Candidate]) ->
 
 
 def _behind(graph: Graph, order: List[int], position: List[int], found: List[_Candidate]) -> List[_Candidate]:
-    """The candidates with those of their writers that knew of the source; behind the initial state all stand."""
+    """The candidates with those of their writers that had observed the source; after the initial state all come."""
     far = sum(position[one] - position[each.read.source] for each in found if each.read.source != INIT for one in each.writers)
     if far > SEARCHED * len(order):
         return _behind_by_clocks(graph, order, found)
@@ -283,7 +283,7 @@ def _behind_by_clocks(graph: Graph, order: List[int], found: List[_Candidate]) -
 
 
 def _known_at_once(graph: Graph, found: List[_Candidate]) -> List[_Candidate]:
-    """The same where a reader knows of its session and of those that it reads from, and of nothing else."""
+    """The same where a reader has observed its session and those that it reads from, and nothing else."""
     def knows(one: int, other: int) -> bool:
         return graph.sessions[other] == graph.sessions[one] and other < one or any(
             read.source == other for read in graph.reads[one])

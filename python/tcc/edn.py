@@ -42,7 +42,7 @@ CHARACTERS = {"newline": "\n", "return": "\r", "space": " ", "tab": "\t", "backs
 
 
 class NoEdn(Exception):
-    """What stands there is no EDN."""
+    """What is there is no EDN."""
 
 
 @dataclass
@@ -67,7 +67,7 @@ class Reader:
         return NoEdn("line %d: %s" % (self.text.count("\n", 0, at) + self.number - self.text.count("\n", 0, self.counted), why))
 
     def past_gap(self) -> int:
-        """Where behind what stands between tokens something else does."""
+        """Where something else comes, after what is between tokens."""
         at = self.at
         while True:
             found = BLANK.match(self.text, at)
@@ -78,21 +78,21 @@ class Reader:
             at = len(self.text) if end < 0 else end
 
     def drop(self) -> None:
-        """Lets go of the text where it was read to its end: nothing in it can be told any more."""
+        """Lets go of the text where it was read to its end: nothing in it can be said any more."""
         if self.past_gap() == len(self.text):
             self.at = len(self.text)
             self.line()
             self.text, self.at, self.counted, self.pulled = "", 0, 0, PULLED
 
     def more(self) -> bool:
-        """Whether there were more lines, which now stand behind the text; of a long value each time twice as many."""
+        """Whether there were more lines, which now come after the text; of a long value each time twice as many."""
         lines = "".join(itertools.islice(self.lines, self.pulled))
         self.text += lines
         self.pulled *= 2
         return bool(lines)
 
     def skip(self) -> bool:
-        """Goes past what stands between tokens; whether there is one."""
+        """Goes past what is between tokens; whether there is one."""
         while True:
             self.at = self.past_gap()
             if self.at < len(self.text):

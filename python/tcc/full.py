@@ -19,7 +19,7 @@ NO_PROGRAM = 127
 
 
 def words_of(asked: argparse.Namespace) -> List[str]:
-    """The words behind the program's path."""
+    """The words after the program's path."""
     words = ["explain", "--full", "--level", asked.level, *(["--large"] if asked.large else [])]
     for name in ("workers", "require"):
         words += ["--" + name, str(getattr(asked, name))] if getattr(asked, name) else []

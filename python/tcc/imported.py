@@ -1,7 +1,7 @@
 """What is imported of a history of Jepsen or Elle: its transactions as records, held as text, and the names in them.
 
 Each operation is taken once, as it comes; a transaction is a text of its records without the session, so that of a million there
-is some hundred megabytes. A key or value that can't stand in a record has a mark until all names are known.
+is some hundred megabytes. A key or value that can't be in a record has a mark until all names are known.
 """
 import itertools
 import json
@@ -59,7 +59,7 @@ class Nemesis:
 
 @dataclass
 class Names:
-    """What stands in the records for things of one kind, by how JSON spells them: a mark where that isn't known yet."""
+    """What is in the records for things of one kind, by how JSON spells them: a mark where that isn't known yet."""
 
     kind: str
     mark: str
@@ -83,7 +83,7 @@ class Names:
         return name
 
     def check(self, but: Set[str]) -> None:
-        """Where nothing may be listed, refuses the first that would be; but for those whose marks stand for something else."""
+        """Where nothing may be listed, refuses the first that would be; but for those whose marks represent something else."""
         for number, (thing, line) in enumerate(zip(self.listed, self.lines)):
             if "%s%d" % (self.mark, number) not in but:
                 raise Untold(line, "the %s %s can't stand in a record: --table FILE gives it a stand-in, which FILE tells%s" % (
@@ -153,7 +153,7 @@ class Imported:
     # What comes, in each form.
 
     def usual(self, line: int, found: "re.Match[str]") -> bool:
-        """Takes an operation that stands as a usual map of EDN; whether it could."""
+        """Takes an operation that is a usual map of EDN; whether it could."""
         kind, process, does, value, index, time, node, _, _ = found.groups()
         if kind is None or process is None or does not in (None, "txn") or self.numbers_are_initial:
             return False
@@ -166,7 +166,7 @@ class Imported:
         return True
 
     def usual_object(self, line: int, told: Json) -> bool:
-        """Takes an operation that stands as a usual object of JSON; whether it could."""
+        """Takes an operation that is a usual object of JSON; whether it could."""
         process, value, index, time = told.get("process"), told.get("value"), told.get("index"), told.get("time")
         kind = told.get("type")
         if type(process) is not int or told.get("f", "txn") != "txn" or type(kind) is not str or kind not in TYPES:
@@ -325,7 +325,7 @@ class Imported:
         return value
 
     def versions(self) -> Versions:
-        """The versions of all values, by the names that stand in the records."""
+        """The versions of all values, by the names that are in the records."""
         found: Versions = {}
         for line, name, value, version in self.told_versions:
             add_version(found, self.stand_ins.get(name, name), self.stand_ins.get(value, value), version, "line %d" % line)
@@ -358,7 +358,7 @@ class Imported:
         return found
 
     def _elements(self, line: int, name: str, items: str) -> str:
-        """The elements of a list of EDN, each behind a space."""
+        """The elements of a list of EDN, each after a space."""
         words = items.replace(",", " ").split()
         joined = "".join(words)
         if not words:
@@ -401,11 +401,11 @@ class Imported:
             self._make_lists()
 
     def _early_lists(self) -> Set[str]:
-        """The marks of lists that were read before the first append was seen, and so were taken for values."""
+        """The marks of lists that were read before the first append was seen, and so were taken as values."""
         return {"*%d" % number for number, thing in enumerate(self.values.listed) if thing.startswith("[")} if self.has_appends else set()
 
     def _make_lists(self) -> None:
-        """All transactions as those of lists, with the names that stand in the records."""
+        """All transactions as those of lists, with the names that are in the records."""
         for number, text in enumerate(self.texts):
             if number not in self.listed:
                 parts = (part.split(",") for part in text.split("\n") if part)
@@ -420,7 +420,7 @@ class Imported:
         self.committed = bytearray(one.committed for one in made)
 
     def _named(self, line: int, one: ListStep, is_list: bool) -> ListStep:
-        """A step with the names that stand in the records; a nil that was read of a list is an empty one."""
+        """A step with the names that are in the records; a nil that was read of a list is an empty one."""
         if is_list and one.does == READ and one.value == "0":
             one = ListStep(LIST, one.key, "")
         elif is_list and one.does in (READ, WRITES):
@@ -456,7 +456,7 @@ class Imported:
         return [self.stand_ins.get(name, name) for name in self.sessions.given.values()]
 
     def records(self, seal_every: Optional[int] = None) -> Iterator[str]:
-        """The records of each transaction; behind so many of them a seal, where that is asked for. Of lists those of `tcc.lists`."""
+        """The records of each transaction; after so many of them a seal, where that is asked for. Of lists those of `tcc.lists`."""
         if self.of_lists is not None:
             yield from self.of_lists.records(with_faults=True)
             return
@@ -524,13 +524,13 @@ class Imported:
                 yield "%d such lists more" % (len(self.of_lists.faults) - MOST_FAULTS)
 
     def true_names(self) -> Tuple[Dict[str, str], Dict[str, str]]:
-        """What the history has for names and numbers of the records that stand for something else: of keys and of values."""
+        """What the history has for names and numbers of the records that represent something else: of keys and of values."""
         keys, values = ({self.stand_ins["%s%d" % (names.mark, number)]: plain_text(thing) for number, thing in enumerate(names.listed)
                          if "%s%d" % (names.mark, number) in self.stand_ins} for names in (self.keys, self.values))
         return keys, values
 
     def table(self) -> Iterator[Tuple[str, str, str]]:
-        """What isn't itself in the records: kind, what stands for it, and how JSON spells it."""
+        """What isn't itself in the records: kind, what represents it, and how JSON spells it."""
         for names in (self.sessions, self.keys, self.values):
             for number, thing in enumerate(names.listed):
                 mark = "%s%d" % (names.mark, number)

@@ -8,7 +8,7 @@ from typing import BinaryIO, Optional, cast
 
 MARK = b"\xef\xbb\xbf"
 GZIP = b"\x1f\x8b"
-FIRST = 4096  # bytes of a file by which it is told what it is
+FIRST = 4096  # bytes of a file by which it is known what it is
 PACKED = {b"PK\x03\x04": "a zip archive", b"\xfd7zXZ": "packed by xz", b"BZh": "packed by bzip2", b"\x28\xb5\x2f\xfd": "packed by zstd"}
 FOR_READERS = re.compile(rb"(?:[0-9]+|:[^\s]+)[ \t]+:(?:invoke|ok|fail|info)[ \t]+:")
 RECORD = re.compile(rb'\s*("?[A-Za-z0-9_.-]{1,32}"?\s*,|"?seal"?\s*$)')

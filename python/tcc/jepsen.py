@@ -1,6 +1,6 @@
 """Turns a history of transactions on registers or lists, as Jepsen and Elle have it, into records for `tcc explain`.
 
-The input is Jepsen's history.edn, maps of EDN one behind the other or one vector of them; or lines of JSON, each one operation;
+The input is Jepsen's history.edn, maps of EDN one after the other or one vector of them; or lines of JSON, each one operation;
 or one array of such objects:
 
   {:type :ok, :process 3, :f :txn, :value [[:r :x nil] [:w :y 5]], :index 7}
@@ -26,15 +26,15 @@ list has to be the beginning of one log.
 
 With --versions each value is a pair of its version and itself, [:r x [7 5]], as a test of etcd has them: the order of a key's writes
 then has to be that of the versions. Where that isn't so already, the records say it by sessions o.N, which read a key's values in that
-order, and by keys K.vN for reads that are older than what their readers knew of.
+order, and by keys K.vN for reads that are older than what their readers had observed.
 
-Keys that are names, and values that are whole numbers from 1, stand for themselves. Others get a name or a number that
+Keys that are names, and values that are whole numbers from 1, represent themselves. Others get a name or a number that
 nothing else has; --table says into which file the list of these goes. --map says into which file goes, for each transaction
 of the records, the `index` of the operation that ended it, and its line. What EDN has and JSON hasn't (tags, metadata) is
 left out, and counted by name.
 
 Standard output has the records, standard error what was left out, and before that where the records pass a limit of `tcc`.
-Where something can't be told, there are no records, but its line, and the status is 1.
+Where something can't be read, there are no records, but its line, and the status is 1.
 """
 import argparse
 import csv
@@ -72,7 +72,7 @@ EXAMPLE = """example: session p1 doesn't see its own write
     against init -> p1/2 by x
 """
 GAP = re.compile(r"[\s,]*")
-# How JSON begins: in an object the first text has a colon behind it.
+# How JSON begins: in an object the first text has a colon after it.
 FORM = re.compile(r"[\s,]*(?:\[[\s,]*)?")
 JSON_OBJECT = re.compile(r'\{\s*(?:\}|"(?:[^"\\]|\\.)*"\s*:)')
 EDN_BEGINS = ("{", "#", "(", "^", ";", ":", "\\")
@@ -93,7 +93,7 @@ DECODER = json.JSONDecoder(parse_constant=no_constant, parse_float=finite)
 
 
 def past_gap(text: str, at: int) -> int:
-    """Where behind whitespace and commas something else stands."""
+    """Where after whitespace and commas something else comes."""
     found = GAP.match(text, at)
     return found.end() if found else at
 
@@ -173,7 +173,7 @@ class Reading:
             self.object(self.line, value)
 
     def edn(self, lines: Iterable[bytes]) -> None:
-        """The maps of EDN, one behind the other or in one vector."""
+        """The maps of EDN, one after the other or in one vector."""
         reader = Reader(self.decoded(lines))
         try:
             self.maps(reader)

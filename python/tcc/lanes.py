@@ -1,8 +1,8 @@
 """Swim lanes of an anomaly, as SVG: each session a column, its transactions below one another, and the links between them.
 
 What is drawn is chosen first (`scene`): long walks are one line, and of a cycle with many derived links the first ones. Then it is
-laid out: a transaction stands below those that its session or its reads put before it, and each row is as high as its highest
-box; labels move along their lines until they are free of one another.
+laid out: a transaction is below those that its session or its reads put before it, and each row is as high as its highest box.
+Labels move along their lines until they are free of one another.
 """
 from dataclasses import dataclass, field, replace
 from html import escape
@@ -20,7 +20,7 @@ GAP, CORNER = 4.4, 8.0  # between rows of boxes, in heights of letters; and of a
 
 @dataclass
 class Edge:
-    """A line of the picture: what it is, its ends, what stands at it, and what is said of it."""
+    """A line of the picture: what it is, its ends, what is at it, and what is said of it."""
 
     kind: str  # session, reads, version, walk, derived, against, fault or breach
     source: str
@@ -260,7 +260,7 @@ class Picture:
             escape(one.name), one.x, one.y, one.width, one.height, "".join(told))
 
     def line(self, edge: Edge, name: str) -> Tuple[str, List[Point], str]:
-        """The line of an edge, and where its label may stand."""
+        """The line of an edge, and where its label may be."""
         path, points = self.path(edge)
         shape = '<path d="%s" marker-end="url(#%s-%s)"/>' % (path, name, edge.kind)
         if edge.kind == "derived":  # two lines: a thick one, and a thin one in it
@@ -283,7 +283,7 @@ class Picture:
         box = other if edge.source == "init" else one
         init = self.boxes["init"]
         is_blocked = any(each.x == box.x and init.y < each.y < box.y for each in self.boxes.values())
-        if is_blocked:  # around what stands between
+        if is_blocked:  # around what is between
             side = -1 if edge.kind == "session" else 1
             x = box.x if side < 0 else box.x + box.width
             out = x + side * self.size.margin * 0.62
@@ -346,7 +346,7 @@ class Picture:
                    if each.name not in (one.name, other.name))
 
     def label(self, edge: Edge, points: List[Point], taken: List[Line]) -> str:
-        """The text at an edge, with its number, where nothing else stands; the number alone where there is no room."""
+        """The text at an edge, with its number, where nothing else is; the number alone where there is no room."""
         texts = ["%d. %s" % (edge.number, short(edge.label, 24)), "%d" % edge.number] if edge.label else ["%d" % edge.number]
         font = self.size.font * 0.92
         found = [self.room(text, font, points, taken) for text in texts]

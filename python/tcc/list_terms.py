@@ -1,7 +1,7 @@
 """What is said of an answer for a history of lists: elements, lists and indices, and nothing of the records that it is judged by.
 
-In a cycle of the records each observer gives way to the reader whose list it stands for, and each companion to its transaction. What
-a survey contradicts is counted by lists, a transaction's list of a key once: one that lacks an element which its reader knew of, or
+In a cycle of the records each observer gives way to the reader whose list it represents, and each companion to its transaction. What
+a survey contradicts is counted by lists, a transaction's list of a key once: one that lacks an element which its reader had observed, or
 whose order contradicts what its reader knew.
 """
 from typing import Dict, Iterable, Iterator, List, NamedTuple, Optional, Tuple
@@ -90,7 +90,7 @@ class ListTerms(ImportedTerms):
             return self.lists.elements[one.key][1]
         return self.appended(one.source, one.key)
 
-    # What the records stand for.
+    # What the records represent.
 
     def moved(self, cycle: Iterable[Link]) -> List[Link]:
         """Links of the records as links of the history."""

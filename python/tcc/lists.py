@@ -1,6 +1,6 @@
 """Lists as registers: what transactions that append to lists did, as records, so that `tcc` judges all that the lists show.
 
-A history of lists is consistent where there is one order of its committed transactions, holding sessions and reads, in which each
+A history of lists is consistent where there is one order of its committed transactions that keeps sessions and reads. In it each
 list read is what the reader's past appended, in that order, and then what the reader itself had appended. Two encodings together
 say so:
 
@@ -9,9 +9,10 @@ say so:
   order      a list is a register K, whose value is its last element: who reads it knows those before, so they came first. Where no
              reader says so of two neighbours, a session of its own, an observer, reads the one and then the other.
 
-Presence is reduced to what says something new: of the elements of a session that are there the last one, unless the reader's session
-saw it already; of those that lack the first one, and none that the reader can't have known of, since it was invoked after all that
-the reader knew of. What a list shows by itself to be wrong is found here, with its line (`Fault`). docs/RECORDING.md has the proof.
+Presence is reduced to what says something new: of the elements of a session that are there the last one, unless the reader's
+session saw it already. Of those that are missing it is the first one, and none that the reader can't have observed, since it was
+invoked after all that the reader had observed. What a list shows by itself to be wrong is found here, with its line (`Fault`).
+docs/RECORDING.md has the proof.
 """
 import itertools
 from bisect import bisect_right
@@ -28,7 +29,7 @@ OBSERVER, UNREAD, FAULTY = "o.%d", "u.%d", "f.%d"  # the sessions that no client
 
 
 class Step(NamedTuple):
-    """What a transaction did at a key: of a list its elements, each behind a space."""
+    """What a transaction did at a key: of a list its elements, each after a space."""
 
     does: str
     key: str
@@ -72,7 +73,7 @@ KINDS = {
 
 
 class Observed(NamedTuple):
-    """What an observer stands for: a list, by who read it and in which step."""
+    """What an observer represents: a list, by who read it and in which step."""
 
     key: str
     number: int
@@ -170,8 +171,8 @@ class Lacking:
 
 
 class Whole:
-    """The longest list that was read of a key: how many elements a beginning of some length has, and for each element whose append
-    counts its session and its place there, with the first that its transaction appended."""
+    """The longest list that was read of a key, and how many elements a beginning of some length has. For each element whose append
+    counts it has its session and its place there, with the first that its transaction appended."""
 
     def __init__(self, text: str, writers: "Dict[str, Writer]"):
         self.counts, self.pairs, length = {0: 0}, [], 0  # type: Dict[int, int], List[Tuple[int, Tuple[int, str]]], int
@@ -222,7 +223,7 @@ class Right:
 
 
 class Read(NamedTuple):
-    """A list that was read, its elements each behind a space, and what of it its own transaction had appended before."""
+    """A list that was read, its elements each after a space, and what of it its own transaction had appended before."""
 
     number: int
     step: int
@@ -357,8 +358,8 @@ class Lists:
                     self.faults.append(Fault("NoPrefix", read.number, read.step, wrong))
 
     def _after(self, read: Read, right: Right) -> Optional[List[Tuple[str, int, int]]]:
-        """What a list has after a beginning that is right, each element with its transaction and which of that one's appends it is;
-        none where that beginning isn't one of this list, or where something may be wrong."""
+        """What a list has after a beginning that is right, each element with its transaction and which of that one's appends it is.
+        None where that beginning isn't one of this list, or where something may be wrong."""
         others = read.others()
         if read.own and others == read.text:
             return None
@@ -424,7 +425,7 @@ class Lists:
                 if one.session in last:
                     onward[last[one.session]].append(number)
                 last[one.session] = number
-        ends: Dict[str, Dict[int, int]] = {}  # of each longest list, by its length so far, what stands for its beginning
+        ends: Dict[str, Dict[int, int]] = {}  # of each longest list, by its length so far, what represents its beginning
         for key, whole in self._longest.items():
             before, length, ends[key] = -1, 0, {}
             for element in whole.split():
@@ -471,7 +472,7 @@ class Lists:
 
     def records(self, with_faults: bool = False) -> Iterator[str]:
         """The records of each transaction, and those of the observers; with faults, what is wrong by itself is an anomaly there too,
-        so that nobody who looks at the answer alone takes it for right."""
+        so that nobody who looks at the answer alone takes it as right."""
         self._keys = {step.key for one in self.transactions for step in one.steps}
         reads = self._presence()
         runs = self._runs()
@@ -534,7 +535,7 @@ class Lists:
         return found
 
     def _by_session(self, key: str) -> "Dict[int, Appended]":
-        """What each session appended to a list, in its order, and where in the longest list that stands."""
+        """What each session appended to a list, in its order, and where in the longest list that is."""
         ends: Dict[str, int] = {}
         length = 0
         for element in self._longest.get(key, "").split():
@@ -687,7 +688,7 @@ class Lists:
         return {"sessions": len(self.sessions) + len(self.observers), "transactions": self.made, "keys": len(self._keys) + len(self._names),
                 "operations in a transaction": self.longest}
 
-    # What the records stand for.
+    # What the records represent.
 
     def real(self, label: str) -> str:
         """The label in the history of a transaction of the records."""

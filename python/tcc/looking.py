@@ -63,8 +63,9 @@ class Moment:
                 left -= len(part)
 
     def texts(self, taken: Set[str]) -> Iterator[str]:
-        """What ends those that hadn't. A session ends with what is of unknown outcome: of several of one session, which ended between the
-        look at the records and that at what is noted beside, all but the last have a session of their own. That takes pairs away."""
+        """What ends those that hadn't. A session ends with what is of unknown outcome. Of several of one session, which ended
+        between the look at the records and that at what is noted beside, all but the last have a session of their own. That takes
+        pairs away."""
         last = dict(sorted(self.open_ones))
         for (session, place), writes in sorted(self.open_ones.items()):
             name = session if place == last[session] else unused(taken)
@@ -146,8 +147,8 @@ def look(sources: Sequence[Source], *, level: str = "causal", large: bool = True
 
 @dataclass(frozen=True)
 class Asking:
-    """Who is told, and how answers are asked for while clients work: each time that the records have grown by so much, first once
-    they have so many bytes."""
+    """Who hears of answers, and how they are asked for while clients work: each time that the records have grown by so much, first
+    once they have this many bytes."""
 
     tell: Callable[[Told], None]
     level: str = "causal"

@@ -27,16 +27,16 @@ class Transaction:
         self.operations.append(("r", key, value))
 
     def write(self, key: str, value: int) -> None:
-        """Notes a write, before it goes out."""
+        """Notes a write, before it is sent."""
         self.operations.append(("w", key, value))
 
     def committing(self) -> None:
-        """Says that the COMMIT goes out: from here on nobody knows the outcome but who is told."""
+        """Says that the COMMIT is sent: from here on nobody knows the outcome but who hears it."""
         self.committed = None
 
 
 def session_name(client: int, session: int) -> str:
-    """The name of a client's session: c1, and behind an unknown outcome c1.2 and so on."""
+    """The name of a client's session: c1, and after an unknown outcome c1.2 and so on."""
     return "c%d" % client if session == 1 else "c%d.%d" % (client, session)
 
 

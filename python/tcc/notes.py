@@ -1,4 +1,4 @@
-"""Annotations of a history, in a file beside its records: what a reader wants to know of a transaction and `tcc` doesn't.
+"""Annotations of a history, in a file beside its records: what a reader wants to know about a transaction and `tcc` doesn't.
 
 The file is CSV. Its first row names the columns:
 
@@ -11,7 +11,7 @@ The file is CSV. Its first row names the columns:
   note         a text; of an event what happened
   whole        of a slice of a history, the label of the transaction in the whole
 
-Columns may stand in any order; all but `transaction` may be missing, each cell may be empty, and a column that isn't named
+Columns may be in any order; all but `transaction` may be missing, each cell may be empty, and a column that isn't named
 here is passed over. A cell that a spreadsheet would take for a formula, such as =1+1, has an apostrophe before it.
 """
 import csv
@@ -45,7 +45,7 @@ class Note:
     whole: str = ""
 
     def text(self) -> str:
-        """What a reader sees behind a label, such as `at n2, 1.25 s, index 5123: a note`; empty where nothing is known."""
+        """What a reader sees after a label, such as `at n2, 1.25 s, index 5123: a note`; empty where nothing is known."""
         parts = (("at %s", self.node), ("%s s", self.time), ("index %s", self.index), ("line %s", self.line),
                  ("%s of the whole", self.whole))
         said = ", ".join(form % part for form, part in parts if part)

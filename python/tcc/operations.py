@@ -10,8 +10,8 @@ TYPES = ("invoke", "ok", "fail", "info")
 STEPS = {"read": "r", "write": "w"}  # what one operation of a register does
 DOES = ("r", "w", "append")
 REGISTER = "register"
-# A map of EDN as Jepsen writes it: its fields in any order, and a transaction whose steps are [:does key value]. No text can be
-# matched in two ways, so that none takes more than one pass.
+# A map of EDN as Jepsen writes it. Its fields are in any order, and the steps of a transaction are [:does key value]. No text can
+# be matched in two ways, so that none takes more than one pass.
 ATOM = r'[^\s,;"(){}\[\]\\#^]+'
 FLAT = r'\[[^\t-\r\x1c-\x1f\x85;"(){}\[\]\\#^]*\]'  # words in a line, between brackets
 VALUE = r"(?:%s|%s)" % (ATOM, FLAT)
@@ -35,7 +35,7 @@ WRITE = re.compile(r"\[:(?:w|append) (%s) (%s)\]" % (ATOM, VALUE))
 
 
 class Untold(Exception):
-    """A line that can't be told as records, and why."""
+    """A line that can't be written as records, and why."""
 
     def __init__(self, line: int, why: str):
         super().__init__("line %d: %s" % (line, why))

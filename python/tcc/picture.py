@@ -1,10 +1,10 @@
-"""Draws an answer of `tcc explain --json` as a graph for Graphviz, or tells where its transactions stand in the records.
+"""Draws an answer of `tcc explain --json` as a graph for Graphviz, or tells where its transactions are in the records.
 
 Of an anomaly the picture has the transactions that it speaks of, each session a column, and its links:
 
   thick line     the order in a session
   dashed line    the second transaction reads what the first one wrote, with the key
-  double line    derived: the first transaction has to stand before the second, with the key and the reason
+  double line    derived: the first transaction has to come before the second, with the key and the reason
 
 Links of the cycle are numbered, `1.` and so on; a link marked `[2]` is one of the steps by which link 2 is derived, and one
 marked `[against 2]` is the read that it contradicts. Of an order the picture has all its transactions, numbered, each
@@ -78,7 +78,7 @@ class Marks:
 
 
 def marked(cycle: List[Link], with_reasons: bool) -> Dict[Link, Marks]:
-    """Each link and, where reasons are wanted, what stands for its reason, once, with its marks, in the order of the answer."""
+    """Each link and, where reasons are wanted, what represents its reason, once, with its marks, in the order of the answer."""
     found: Dict[Link, Marks] = {}
     for number, one in enumerate(cycle, 1):
         found.setdefault(one, Marks()).numbers.append("%d." % number)
@@ -109,7 +109,7 @@ def escaped(note: str) -> str:
 
 
 def quoted(lines: Iterable[str]) -> str:
-    """A text of Graphviz, each line to the left; labels, keys and words of the house need no escapes."""
+    """A text of Graphviz, each line to the left; labels, keys and words of the project need no escapes."""
     return '"%s"' % "".join(line + r"\l" for line in lines)
 
 

@@ -40,7 +40,7 @@ class Doing:
                 self.shown = False
 
     def say(self, line: str, out: TextIO) -> None:
-        """Prints a line, behind which the next one of this may come."""
+        """Prints a line, after which the next one of this may come."""
         self.clear()
         print(line, file=out, flush=True)
 

@@ -11,10 +11,10 @@
             store.commit()
 
 A transaction goes into the file once it has ended, whole, in one append. Left without an exception it committed. By an exception
-before `committing` it aborted, and so it did by one of those that `transaction(refused=..)` names; by another one after
+before `committing` it aborted, and so it did by one of those that `transaction(refused=..)` names. By another one after
 `committing` its outcome is unknown, and so it is recorded: with `unknown` in place of `commit`, and without what it read. Then its
-session ends with it: `session` goes on under a new name, and the client has to take a new connection. After a connection that broke say `session.renew()` too, unless what the store promises holds over
-connections.
+session ends with it: `session` goes on under a new name, and the client has to take a new connection. After a connection that broke
+say `session.renew()` too, unless what the store promises holds over connections.
 
 A transaction that is one request, as a put that takes effect at once, a MULTI or a stored procedure, has no COMMIT of its own:
 
@@ -83,10 +83,10 @@ class Recorder:
     """Records into a file, which may hold records of an earlier run: then it goes on after them.
 
     `number`, 0 to 4095, tells the values of several recorders of one store apart. `notes` is a file for annotations: node, time and
-    note of each transaction. With `syncs` what is appended reaches the disk before the call returns, so that it survives the end
-    of the machine, and not only of the process. `ask` is called with an answer for what was recorded so far, the first one and each
-    of another kind, from a thread that asks again and again, each time that the records have grown by a quarter. `versions` is a file
-    for the versions that the store tells of what was written, for `explain(.., versions=..)`.
+    note of each transaction. With `syncs` what is appended reaches the disk before the call returns, so that it survives the end of
+    the machine, and not only of the process. `ask` is called with an answer for what was recorded so far, the first one and each of
+    another kind. A thread asks again each time that the records have grown by a quarter. `versions` is a file for the versions that
+    the store gave to what was written, for `explain(.., versions=..)`.
     """
 
     def __init__(self, path: Path, number: int = 0, notes: Optional[Path] = None, syncs: bool = False,
@@ -465,7 +465,7 @@ class Noted:
             raise NoRecord("a transaction of session %s has ended" % self._session)
 
     def _write(self, key: str, value: int) -> Operation:
-        """Notes a write that is about to go out."""
+        """Notes a write that is about to be sent."""
         self._check()
         number = checked_value(value, 1, "a write")
         self._recorder._note_write(self._session, self._place, self.node, checked_name(key), number)
@@ -543,7 +543,7 @@ class Write:
 
 
 class Call(Noted):
-    """A transaction that is one request. Its operations are noted before it goes out, in the order in which the store does them,
+    """A transaction that is one request. Its operations are noted before it is sent, in the order in which the store does them,
     and what its reads returned once the answer is there."""
 
     def __init__(self, recorder: Recorder, session: str, place: int, node: str):
@@ -568,7 +568,7 @@ class Call(Noted):
         return (one.operation for one in self._operations if isinstance(one, Write) and not one.is_skipped)
 
     def parts(self, end: str) -> Iterator[Part]:
-        """What the store skipped is an aborted transaction, so that who reads it is told of it."""
+        """What the store skipped is an aborted transaction, so that who reads it hears of it."""
         writes = [one for one in self._operations if isinstance(one, Write)]
         skipped = [one.operation for one in writes if one.is_skipped]
         if end == "commit":

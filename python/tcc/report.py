@@ -315,7 +315,7 @@ def with_versions(history: History, versions: Versions, level: str, work: Work) 
 
 
 def is_large(history: History) -> bool:
-    """Whether a history passes the limits without --large."""
+    """Whether a history is above the default limits."""
     return (len(sessions_of(history)) > MAX_SESSIONS or len(history.transactions) > MAX_TRANSACTIONS
             or len(keys_of(history)) > MAX_KEYS)
 
@@ -741,7 +741,7 @@ def anomalies(told: Findings, examples: Examples) -> Iterator[str]:
 
 
 def example_of(told: Findings, name: str) -> Optional[List[Link]]:
-    """Of the first contradicted reads of a name one that is told in few steps."""
+    """Of the first contradicted reads of a name one that has few steps."""
     assert told.graph is not None
     found: List[List[Link]] = []
     by_versions = set(told.versioned.stale) if told.versioned else set()

@@ -33,8 +33,8 @@ class NoAnswer(Exception):
 
 @dataclass(frozen=True)
 class Step:
-    """A link of an anomaly: its first transaction has to stand before its second. `kind` is `session`, `reads` or `derived`; all
-    but the first have a key, and a derived one the reader whose read asks for it, and the walk by which that one knew of it."""
+    """A link of an anomaly: its first transaction has to come before its second. `kind` is `session`, `reads` or `derived`; all
+    but the first have a key, and a derived one the reader whose read asks for it, and the walk by which that one had observed it."""
 
     kind: str
     source: str

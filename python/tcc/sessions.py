@@ -1,7 +1,7 @@
 """One recording, two questions: a session for each client, as it was recorded, or one for each client and node.
 
-Over all nodes a session asks whether what a client did at one shows at the next, which a store promises only where it says so; a
-session for each node asks for what each node promises by itself. At which node a transaction was is told by annotations. As the
+Over all nodes a session asks whether what a client did at one shows at the next, which a store promises only where it says so. A
+session for each node asks for what each node promises by itself. At which node a transaction was is said by annotations. As the
 command `tcc-sessions`.
 """
 import argparse

@@ -53,7 +53,7 @@ class Terms:
     # What an anomaly says, in sentences.
 
     def sentence(self, one: Link) -> str:
-        """What a derived link says: who wrote, who knew of it, and what that one read instead."""
+        """What a derived link says: who wrote, who had observed it, and what that one read instead."""
         history = self.history
         write, value = history.find(one.source).written(one.key), history.value_read(one.target, one.reader, one.key)
         if write is None:
@@ -66,7 +66,7 @@ class Terms:
         return "%s; %s knew of that, %s, and read %s." % (wrote, session_of(one.reader), self.known_by(one.walk, one.key), read)
 
     def known_by(self, walk: Iterable[Link], key: str) -> str:
-        """By which way the last of a walk knew of the first."""
+        """By which way the last of a walk had observed the first."""
         every = list(walk)
         steps = joined(every)
         read = steps[-1] if steps[-1].kind == "reads" else None

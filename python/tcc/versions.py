@@ -1,15 +1,15 @@
 """Versions: a store that numbers the writes of a key says which of two writes came first, and records can say so too.
 
-Causal consistency by itself leaves the order of two writes open where neither client knew of the other. So a read of the older one by
-somebody who knew of both may be explained by putting the newer one first. Where the store tells versions, as etcd does by its
-mod_revision, it isn't: the history has to have an order in which the writes of each key stand by their versions.
+Causal consistency by itself leaves the order of two writes open where neither client had observed the other. So a read of the older one by
+somebody who had observed both may be explained by putting the newer one first. Where the store tells versions, as etcd does by its
+mod_revision, it isn't: the history has to have an order in which the writes of each key are in the order of their versions.
 
 Versions lie in a file beside the records: lines of CSV, `key,value,version`, a greater number for a later write of the key. The
 history with versions is the records and
 
   observers  of each key a session of its own, o.N, that reads its values in the order of their versions, a transaction each: there is
              an order of the history that has the versions' exactly where there is one with the observers
-  marks      where a read is older, by versions, than a write that its reader knew of, a register K.vN, N being that write's version,
+  marks      where a read is older, by versions, than a write that its reader had observed, a register K.vN, N being that write's version,
              which its writer writes and the reader reads as nothing: so `tcc survey` counts these reads
 
 docs/RECORDING.md has the proof.
@@ -119,7 +119,7 @@ class Versioned:
             found[key] = every
         return found
 
-    # Reads that are older than what their readers knew of.
+    # Reads that are older than what their readers had observed.
 
     def _older(self) -> List[_Candidate]:
         """The reads of a write of which the reader knew one with a greater version; a transaction's of a key from one write once."""
@@ -133,7 +133,7 @@ class Versioned:
                 key = read.operation.key
                 at = 0 if read.source == INIT else self.versions.get(key, {}).get(read.operation.value)
                 if key in lacking and at is not None and is_first(graph, _Candidate(number, read, [])):
-                    later = lacking[key].first_ones(at, position[number])  # of each session the first: who knew of a later one knew of it
+                    later = lacking[key].first_ones(at, position[number])  # of each session the first: who had observed a later one had observed it
                     writers = [one.number for one in later if one.number != number and 0 <= position[one.number] < position[number]]
                     if writers:
                         found.append(_Candidate(number, read, writers))

@@ -8,7 +8,7 @@ from typing import Iterator, TextIO, Union
 @contextlib.contextmanager
 def written_whole(path: Union[str, "os.PathLike[str]"]) -> Iterator[TextIO]:
     """A file of text that gets its name once all of it is on the disk; where something fails, what had the name keeps it. A
-    part of a history may be a lawful history, so no part may be taken for the whole."""
+    part of a history may be a lawful history, so no part may pass for the whole."""
     name = os.fspath(path)
     mask = os.umask(0)
     os.umask(mask)

@@ -11,7 +11,7 @@ def command_line(about: Optional[str], example: str) -> argparse.ArgumentParser:
 
 
 def add_files(ask: argparse.ArgumentParser, **told: str) -> None:
-    """Options that name a file each, with what is told of it."""
+    """Options that name a file each, with what is said of it."""
     for name, text in told.items():
         ask.add_argument("--" + name, metavar="FILE", help=text)
 

@@ -7,12 +7,12 @@ GREATEST_VALUE = 2**64 - 1
 RECORDERS = 4096
 # Above it a counter isn't taken over from what was written, so that there are always values left.
 GREATEST_COUNT = GREATEST_VALUE // RECORDERS // 2
-# So far behind the last counter in the table a new one may lie.
+# So far below the last counter in the table a new one may lie.
 MOST_AHEAD = 65536
 
 
 class Written:
-    """The values of one recorder, and those that it was told of.
+    """The values of one recorder, and those that others gave it.
 
     A value that it gave takes four bytes: the number of the key where it was first written. Others are held in a set.
     """

@@ -14,7 +14,7 @@ also until a client read something older than what its session had seen, for whi
 far, as on a busy machine, wasn't played: the status is 75. Played again with --patience it has more time for everything.
 
 Writes the records into the file of -o, the versions into that of --versions, and into that of --stale which reads are stale by etcd's
-own revisions: those older than a write of the key that their client knew of, by its session or by what it read. This is reckoned from
+own revisions: those older than a write of the key that their client had observed, by its session or by what it read. This is reckoned from
 the answers alone, beside `tcc`. The nodes are stopped and their folders go in the end, whatever comes. Needs etcd on the path (in Debian
 the package etcd-server), and the package in python/.
 """
@@ -235,7 +235,7 @@ class Client:
         """One transaction at a node, recorded and noted."""
         name = self.session.name
         mine = Seen("%s/%d" % (name, self.place.get(name, 0) + 1), {key: self.recorder.new_value() for key in writes})
-        if writes:  # it has a place even where nobody tells its outcome
+        if writes:  # it has a place even where its outcome is unknown
             self.place[name] = self.place.get(name, 0) + 1
             self.seen.append(mine)
         with self.session.call() as one:
@@ -258,9 +258,9 @@ class Client:
 
 
 def stale(seen: List[Seen]) -> Iterator[Tuple[str, str]]:
-    """The reads, each a label and a key, that are older than a write of the key that their client knew of, by its session or by what it
-    read: by the greatest revision of each key that a transaction knew of. The sessions go on side by side, each as far as what it read
-    from is done."""
+    """The reads, each a label and a key, that are older than a write of the key that their client had observed, by its session or
+    by what it read. That goes by the greatest revision of each key that a transaction had observed. The sessions go on side by
+    side, each as far as what it read from is done."""
     revision_of = {(key, found.value): found.revision for one in seen for key, found in one.reads.items()}
     writers = {pair: one.label for one in seen for pair in one.writes.items()}
     by_session: Dict[str, List[Seen]] = {}

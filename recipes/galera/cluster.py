@@ -144,7 +144,7 @@ class Cluster:
                 "stderr": subprocess.DEVNULL, **({"user": self.user, "group": self.user} if self.user else {})}
 
     def make(self) -> None:
-        """Makes the first node, and with its data the others, so that none needs a whole copy; a position in the history of the
+        """Makes the first node, and with its data the others, so that none needs a whole copy. A position in the history of the
         group is written by a server that ends, and by nothing else."""
         if self.user:
             shutil.chown(self.folder, self.user, self.user)

@@ -15,7 +15,7 @@ with --sync-wait 0 nobody promises that.
 
 Meanwhile, where that is asked for: --lag has n2 apply nothing for a while, again and again; --stop and --kill stop a node for
 three seconds (SIGSTOP), or kill it (SIGKILL) and start it again, one node after the other; --crash kills all at once.
-A transaction that the cluster refuses is noted as aborted, and so is one that broke off before its COMMIT went out; one that
+A transaction that the cluster refuses is noted as aborted, and so is one that broke off before its COMMIT was sent; one that
 broke off in its COMMIT is of unknown outcome.
 
 Standard output has the records, standard error what was left out. The nodes of an own cluster are stopped and their folder goes

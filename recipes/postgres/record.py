@@ -9,8 +9,8 @@ client's transaction reads two keys, which another client writes between, and th
 what a level or a place lets happen doesn't go by luck.
 
 A transaction that the server refuses (a conflict of two writers) is noted as aborted, and so is one that broke off before its
-COMMIT went out; one that broke off in its COMMIT is of unknown outcome. Then the client goes on in a new session with a
-connection of its own, as behind any broken connection; with --keep-sessions in the one that it has, if no outcome is unknown.
+COMMIT was sent; one that broke off in its COMMIT is of unknown outcome. Then the client goes on in a new session with a
+connection of its own, as after any broken connection; with --keep-sessions in the one that it has, if no outcome is unknown.
 
 Standard output has the records, standard error what was left out. The servers are stopped and their folder goes in the end,
 whatever comes. Where the script runs as root, the servers run as the user of --user, since PostgreSQL doesn't run as root;

@@ -120,7 +120,7 @@ class Servers(Store):
 
 
 def write(client: Client, server) -> str:
-    """Writes a new value at a key, which it gives; all goes out in one step, so what breaks there is of unknown outcome."""
+    """Writes a new value at a key, which it gives; all is sent in one step, so what breaks there is of unknown outcome."""
     key, value = client.some_key(), client.new_value()
     with client.transaction("primary") as mine, server.pipeline(transaction=True) as steps:
         steps.set(key, value)

@@ -33,7 +33,7 @@ class History:
         self.known_walks = {}
 
     def sources(self, done):
-        """The keys that are read before they are written, each with the number of the transaction that wrote the value."""
+        """The keys that are read before they are written, each with the index of the transaction that wrote the value."""
         own = set()
         for what, key, value in done:
             if what == "w":

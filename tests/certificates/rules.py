@@ -140,9 +140,9 @@ def large_cycle_rules(history, said):
 
 
 def is_bounded(history, order, cost, level):
-    """Whether the cost, the transactions from which a derived link leads back in the order, those to which one does, those over which
-    one does and that are near, and the keys by which one leads into `init` are within their limits. All but what is near is asked at
-    `causal`."""
+    """Whether the counts of rule 6 are within their limits. These are the cost, and the transactions from which a derived link
+    leads back in the order, and to which one does. They are also those over which one does and that are near, and the keys by which
+    one leads into `init`. All but what is near is asked at `causal`."""
     walks = history.walks("causal")
     reasons = [(b, a, key) for b, a, key, c in history.contradicted_by_key() if (b, c) in walks]
     back = {(b, a) for b, a, _ in reasons if a != INIT and not stands_before(order, b, a)}
@@ -153,8 +153,8 @@ def is_bounded(history, order, cost, level):
 
 
 def closings(history, order, cost, level):
-    """The derived links of the level that lead back in the order, not into `init`, each as (b, a, price), of so low a price that a cycle
-    which costs less has another link beside it."""
+    """The derived links of the level that lead back in the order, not into `init`, each as (b, a, price). Their price is so low
+    that a cycle which costs less has another link beside it."""
     walks = history.walks(level)
     return [(b, a, walks[b, c] + 1) for b, a, c in history.contradictions()
             if a != INIT and (b, c) in walks and not stands_before(order, b, a) and walks[b, c] + 2 < cost]
@@ -188,7 +188,7 @@ RULES = {(1, "order"): order_rules, (2, "order"): order_rules, (3, "order"): lar
 
 
 def is_true(history, said):
-    """Whether the claim is true, whatever stands beside it."""
+    """Whether the claim is true, whatever is beside it."""
     if said["kind"] == "order":
         order = said["order"] if "order" in said else told(history, said["runs"])
         return history.is_commit_order(order, said["level"])
@@ -196,7 +196,7 @@ def is_true(history, said):
 
 
 def claim_of(said):
-    """How an accepted claim is told."""
+    """How an accepted claim is printed."""
     if said["kind"] == "order":
         return "order"
     return "cycle, %d steps" % said["cost"] + (", least not claimed" if said.get("least", []) is None else "")

@@ -3,12 +3,12 @@
 
     run.py [--tcc PATH] [--count N] [--seed N]
 
-Of small examples each digit of a text is replaced by each other digit, and the text is cut after each byte but the last: of the
-texts that the program writes in version 2, and of the same claims in versions 1 and 3. Of random histories orders and cycles of
-version 3 are made by the definitions (`claims.py`), claimed as they are and with numbers altered and lines changed. What
-`tcc check`, or `tcc check --large`, has to answer of each is worked out from docs/FORMATS.md and docs/MODEL.md alone (`texts.py`,
-`definitions.py`, `rules.py`); and what `tcc explain --large` writes of these histories, past the small limits, has to be the text that
-is worked out of an order, and accepted of a cycle.
+Of small examples each digit of a text is replaced by each other digit, and the text is cut after each byte but the last. So it is
+of the texts that the program writes in version 2, and of the same claims in versions 1 and 3. Of random histories orders and cycles
+of version 3 are made by the definitions (`claims.py`), claimed as they are and with numbers altered and lines changed. What `tcc
+check`, or `tcc check --large`, has to answer of each is worked out from docs/FORMATS.md and docs/MODEL.md alone (`texts.py`,
+`definitions.py`, `rules.py`); and what `tcc explain --large` writes of these histories, past the small limits, has to be the text
+that is worked out of an order, and accepted of a cycle.
 
 Each difference is one line; the last line is `N passed, M failed`.
 """

@@ -85,7 +85,7 @@ def read(text, versions=(1, 2)):
 
 
 def small_claim(lines, version, level):
-    """What versions 1 and 2 say behind the first line."""
+    """What versions 1 and 2 say after the first line."""
     kind, count, *rest = lines.form(**SIZES)
     said = {"kind": kind, "count": count}
     if kind == "order":

@@ -3,11 +3,10 @@
 
     claims.py [--write]
 
-A page has the claim in words, the clauses that say it, and all definitions of this repository that they rest on: first those
-that the clauses cite, then those that these cite, and so on. Types that the code declares are shown as it declares them. What
-an earlier page has is named there with a link, and not repeated. What std defines isn't shown. With `--write` the pages are
-written anew. Without it a page that isn't what the sources give is one line; `run.py` asks this too. The last line is
-`N passed, M failed`.
+A page has the claim in words, the clauses that say it, and all definitions of this repository that they rest on. First come those
+that the clauses cite, then those that these cite, and so on. Types that the code declares are shown as it declares them. What an
+earlier page has is named there with a link, and not repeated. What std defines isn't shown. With `--write` the pages are written
+anew. Without it a page that isn't what the sources give is one line; `run.py` asks this too. The last line is `N passed, M failed`.
 """
 import collections
 import pathlib
@@ -56,7 +55,7 @@ CLAIMS = (
           (("tcc_large_run/src/laws.rt", "headline"),)),
     Claim("survey", "What `tcc survey` prints",
           "What a run of the survey says of the bytes that it reads and writes.",
-          (("tcc_survey_run/src/running.rt", "run_survey"),)),
+          (("tcc_survey_run/src/running.rt", "run_survey"), ("tcc_survey_run/src/running.rt", "run_survey_watched"))),
 )
 
 

@@ -3,7 +3,7 @@
 
     contracts.py [--write]
 
-For each library it has what the crate is, by the first paragraph of its root, and a table: each public call with the first
+For each library it has what the crate is, by the first paragraph of its root, and a table. That has each public call with the first
 paragraph of its doc comment, and with the definitions of this repository that its clauses cite. Calls that say and cite the same
 share a row, and so do, at the end, those whose clauses cite none. A call without a clause is shown as one. With `--write` the file
 is written anew. Without it a part that isn't what the sources give is one line, and so is a call without a doc comment; `run.py`

@@ -6,8 +6,8 @@
 What is between "```rust" and "```" in a doc comment is, line by line, the body of the function of `crates/tcc_examples` that is
 named for the item below: `example_resolve` for `resolve`, `example_rows` for the type `Rows`, `example_graph_build` for
 `Graph::build`. With `--write` each such text is written anew from there. Without it each one that is another is one line, as
-`run.py` has it, which asks this too, and so is a function there that no doc comment shows, or a text that no function has. The
-last line is `N passed, M failed`.
+`run.py` has it, which asks this too. So is a function there that no doc comment shows, or a text that no function has. The last
+line is `N passed, M failed`.
 """
 import pathlib
 import re

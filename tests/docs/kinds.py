@@ -3,12 +3,12 @@
 
     kinds.py [--write]
 
-That file has each kind once, in the order of ranks. `--write` writes from it the variants of row faults and their texts
-(`crates/tcc_rows/src/fault.rt`), the words and statuses that the program prints (`specs/Kinds.antt` and `src/kinds.rt` of `tcc_print`),
-the cases of a proof (`crates/tcc_full/proofs/NoFloats.antt`), the public names (`surface.txt`), the tables of docs/FORMATS.md, the lists
-of the man page and of GUIDE, the words of both schemas, the module `kinds` of the package, and the row cases that go through the kinds
-(`row-faults-as-json.json`, `check-row-faults.json`). Without it a part that is another is one line, as `run.py` has it, which asks this
-too; the last line is `N passed, M failed`.
+That file has each kind once, in the order of ranks. From it `--write` writes, in the sources, the variants of row faults and their
+texts (`crates/tcc_rows/src/fault.rt`), the words and statuses that the program prints (`specs/Kinds.antt` and `src/kinds.rt` of
+`tcc_print`), and the cases of a proof (`crates/tcc_full/proofs/NoFloats.antt`). So it writes the public names (`surface.txt`), the
+tables of docs/FORMATS.md, the lists of the man page and of GUIDE, the words of both schemas, the module `kinds` of the package, and
+the row cases that go through the kinds (`row-faults-as-json.json`, `check-row-faults.json`). Without it a part that is another is
+one line, as `run.py` has it, which asks this too; the last line is `N passed, M failed`.
 """
 import functools
 import json

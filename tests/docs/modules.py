@@ -3,11 +3,10 @@
 
     modules.py [--write]
 
-docs/MODULES.md has a row for each module but those of tests and benchmarks: its path in `src/`, and the first sentence of its `//!`;
-and above them that of the crate's root, and what the crate depends on, as crates.txt has it.
-With `--write` the page is written anew. Without it a page that is another is one line, as `run.py` has it, which asks this too, and
-so is a module whose first sentence is missing, has more than 60 words, or is that of another one in its crate. The last line is
-`N passed, M failed`.
+docs/MODULES.md has a row for each module but those of tests and benchmarks: its path in `src/`, and the first sentence of its
+`//!`. Above them it has that of the crate's root, and what the crate depends on, as crates.txt has it. With `--write` the page is
+written anew. Without it a page that is another is one line, as `run.py` has it, which asks this too. So is a module whose first
+sentence is missing, has more than 60 words, or is that of another one in its crate. The last line is `N passed, M failed`.
 """
 import pathlib
 import re

@@ -4,16 +4,21 @@
     plain.py [DOCUMENT..]
 
 Sentences are counted outside tables, headings, code and pages that a script makes: on average at most 18 words in each document,
-and in none more than 35. What is in backquotes is one word, and of a link its text counts. `WORDS` has the words that a reader
-stumbled over, each only in the sense in which another word is the usual one, with an example that has to be refused and one that
-has to pass. They are looked for in tables and headings too, and in the man page. Printed texts are code, so they keep their words.
-Each term of the glossary has to be used in some other document. Each difference is one line, as `run.py` has it, which asks this of
-all documents but CHANGELOG. With documents on the command line these are asked, and their average is shown. The last line is
-`N passed, M failed`.
+and in none more than 35. So are those of the man page, without its tags and its synopsis. What is in backquotes is one word, and of
+a link its text counts. README and the pages of docs/ have at most `MOST` words together, tables and headings counted too. `WORDS`
+has the words that a reader stumbled over, each only in the sense in which another word is the usual one. Each comes with an example
+that has to be refused and one that has to pass. They are looked for in tables and headings too, in the man page, and in the
+comments and docstrings of all scripts. So they are in the comments of the crates that have gone through it (`READ`), whose
+sentences are counted too. Printed texts are code, so they keep their words. Each term of the glossary has to be used in some other
+document. Each difference is one line, as `run.py` has it, which asks this of all documents. With documents on the command line
+these are asked, and their average is shown. The last line is `N passed, M failed`.
 """
+import ast
+import io
 import pathlib
 import re
 import sys
+import tokenize
 from typing import Iterator, List, NamedTuple, Tuple
 
 TOP = pathlib.Path(__file__).resolve().parent.parent.parent
@@ -22,13 +27,18 @@ from counted import Outcome, status_of  # noqa: E402
 
 MADE = {"CONTRACTS.md", "DEFINITIONS.md", "MODULES.md"}
 PAGE, GLOSSARY = TOP / "docs/tcc.1", TOP / "docs/GLOSSARY.md"
-AVERAGE, LONGEST = 18, 35
+AVERAGE, LONGEST, MOST = 18, 35, 24000
 FENCED = re.compile(r"```.*?```", re.DOTALL)
 SPAN = re.compile(r"`[^`\n]+`")
 BOLD = re.compile(r"\\fB.*?\\fR")
+# A line of the man page that goes on with a sentence in another font; every other macro ends the paragraph.
+FONT = re.compile(r"\.(?:[BI]|BR|RB|BI|IB|IR|RI) (.*)")
 IMAGE = re.compile(r"!\[[^\]]*\]\([^)]*\)")
 LINK = re.compile(r"\[([^\]]*)\]\([^)]*\)")
 TERM = re.compile(r"^\| ([^|]+?) \| [^-]", re.MULTILINE)
+# The crates whose comments have gone through `WORDS`, and what a comment is in their files.
+READ = ("tcc", "tcc_answer", "tcc_checker", "tcc_files", "tcc_full", "tcc_slices", "tcc_survey", "tcc_survey_run", "tcc_words")
+COMMENT = {".rt": re.compile(r"(?:^|(?<=\s))//[/!]?(.*)$"), ".antt": re.compile(r"--(.*)$")}
 ITEM = re.compile(r"^\s*(?:[-*]|\d+\.)\s+")
 # A full stop, with what closes after it, before a space and what may begin a sentence.
 END = re.compile(r"(?<=[a-z0-9A-Z)\"'*_%²])[.?!][)\"'*_]*\s+(?=[\"'(*_\[]*[A-Z0-9~])")
@@ -112,33 +122,110 @@ def faults_of_line(name: str, line: str) -> Iterator[Outcome]:
             yield name, "'%s': %s" % (line[max(0, use.start() - 20):use.end() + 12].strip(), word.better)
 
 
+def faults_of_length(name: str, found: List[Tuple[str, str]]) -> Iterator[Outcome]:
+    """Which of these sentences of a text are too long, each with its place, and whether they are on average."""
+    average = sum(length(sentence) for _, sentence in found) / max(len(found), 1)
+    yield name, None if average <= AVERAGE else "%.1f words a sentence, and %d are allowed" % (average, AVERAGE)
+    for place, sentence in found:
+        if length(sentence) > LONGEST:
+            yield place, "a sentence of %d words: %s.." % (length(sentence), sentence[:60])
+
+
 def faults_of(path: pathlib.Path) -> Iterator[Outcome]:
     """What is long in a document, and which of its words have a better one."""
     name, text = path.relative_to(TOP).as_posix(), path.read_text()
-    found = [(number, sentence, length(sentence)) for number, sentence in sentences(text)]
-    average = sum(count for _, _, count in found) / max(len(found), 1)
-    yield name, None if average <= AVERAGE else "%.1f words a sentence, and %d are allowed" % (average, AVERAGE)
-    for number, sentence, count in found:
-        if count > LONGEST:
-            yield "%s, line %d" % (name, number), "a sentence of %d words: %s.." % (count, sentence[:60])
+    yield from faults_of_length(name, [("%s, line %d" % (name, number), sentence) for number, sentence in sentences(text)])
     for number, line in enumerate(stripped(text), 1):
         yield from faults_of_line("%s, line %d" % (name, number), line)
 
 
 def faults_of_glossary() -> Iterator[Outcome]:
     """Whether the glossary has each term once, and some other document uses it."""
-    terms = [term.strip("`") for term in TERM.findall(GLOSSARY.read_text().partition("## Names in code")[0]) if term != "term"]
+    terms = [term.strip("`") for term in TERM.findall(GLOSSARY.read_text()) if term != "term"]
     others = " ".join(path.read_text().lower() for path in documents() if path != GLOSSARY)
     for term in sorted(set(terms)):
         is_used = re.search(r"(?<![\w-])%s" % re.escape(term.lower()), others)
         yield "glossary: %s" % term, "it has it twice" if terms.count(term) > 1 else None if is_used else "no other document uses it"
 
 
+def paragraphs_of_page(text: str) -> Iterator[Tuple[int, str]]:
+    """The paragraphs of the man page, each with the line at which it begins; neither its tags nor its synopsis, nor what is shown."""
+    first, words, is_left_out, is_tag = 0, "", False, False
+    for number, line in enumerate([*BOLD.sub(CODE, text).splitlines(), ".PP"], 1):
+        font = FONT.match(line)
+        if line.startswith(".") and not font:
+            if words:
+                yield first, words
+            words, is_tag = "", line == ".TP"
+            is_left_out = line in (".SH SYNOPSIS", ".nf") or (is_left_out and not line.startswith((".SH", ".fi")))
+        elif is_tag:
+            is_tag = False
+        elif not is_left_out:
+            first = first if words else number
+            words += (font.group(1) if font else line).replace('"', "").replace("\\", "") + " "
+
+
 def faults_of_page() -> Iterator[Outcome]:
-    """Which words of the man page have a better one; what is bold there is printed, or typed."""
-    for number, line in enumerate(BOLD.sub(CODE, PAGE.read_text()).splitlines(), 1):
+    """What is long in the man page, and which of its words have a better one; what is bold there is printed, or typed."""
+    text, name = PAGE.read_text(), str(PAGE.relative_to(TOP))
+    found = [("%s, line %d" % (name, number), one) for number, words in paragraphs_of_page(text) for one in END.split(words) if one.strip()]
+    yield from faults_of_length(name, found)
+    for number, line in enumerate(BOLD.sub(CODE, text).splitlines(), 1):
         if not line.startswith(".B"):
-            yield from faults_of_line("%s, line %d" % (PAGE.relative_to(TOP), number), line)
+            yield from faults_of_line("%s, line %d" % (name, number), line)
+
+
+def faults_of_all() -> Iterator[Outcome]:
+    """Whether README and the pages of docs/ have no more words together than they may have."""
+    pages = [path for path in documents() if path == TOP / "README.md" or path.parent == TOP / "docs"]
+    count = sum(length(line) for path in pages for line in stripped(path.read_text()))
+    yield "words of README and docs", None if count <= MOST else "%d, and %d are allowed" % (count, MOST)
+
+
+def comments(path: pathlib.Path) -> Iterator[Tuple[int, str]]:
+    """The comments of a file, each with its line; of a script its docstrings too."""
+    text = path.read_text()
+    if path.suffix != ".py":
+        yield from ((number, found.group(1)) for number, line in enumerate(text.splitlines(), 1)
+                    for found in COMMENT[path.suffix].finditer(line))
+        return
+    yield from ((one.start[0], one.string) for one in tokenize.generate_tokens(io.StringIO(text).readline) if one.type == tokenize.COMMENT)
+    for one in ast.walk(ast.parse(text)):
+        if isinstance(one, (ast.Module, ast.ClassDef, ast.FunctionDef)) and ast.get_docstring(one):
+            yield from enumerate(one.body[0].value.value.splitlines(), one.body[0].lineno)
+
+
+def paragraphs(path: pathlib.Path) -> Iterator[Tuple[int, str]]:
+    """The comments of a source that have lines of their own, those of neighbouring lines together, each with its first line."""
+    first, lines = 0, []
+    for number, line in enumerate([*path.read_text().splitlines(), ""], 1):
+        found = COMMENT[path.suffix].match(line.lstrip())
+        if found:
+            first = first if lines else number
+            lines.append(found.group(1))
+        elif lines:
+            yield first, "\n".join(lines)
+            lines = []
+
+
+def faults_of_crate(crate: str) -> Iterator[Outcome]:
+    """What is long in the comments of a crate; the lists of its proofs, `Lib.antt`, are tables."""
+    paths = [path for path in (TOP / "crates" / crate).rglob("*") if path.suffix in COMMENT and path.stem != "Lib"]
+    found = [("%s, line %d" % (path.relative_to(TOP), first + number - 1), sentence) for path in sorted(paths) if "out" not in path.parts
+             for first, text in paragraphs(path) for number, sentence in sentences(text)]
+    yield from faults_of_length("comments of " + crate, found)
+
+
+def faults_of_comments() -> Iterator[Outcome]:
+    """Which words of comments have a better one, in the scripts and in the crates of `READ`."""
+    scripts = (path for folder in ("python", "recipes", "tests", "bench") for path in (TOP / folder).rglob("*.py"))
+    sources = (path for crate in READ for path in (TOP / "crates" / crate).rglob("*") if path.suffix in COMMENT)
+    for path in (*scripts, *sources):
+        name = path.relative_to(TOP).as_posix()
+        if "out" not in name.split("/"):
+            yield name, None
+            for number, text in comments(path):
+                yield from faults_of_line("%s, line %d" % (name, number), SPAN.sub(CODE, text))
 
 
 def faults_of_patterns() -> Iterator[Outcome]:
@@ -149,8 +236,8 @@ def faults_of_patterns() -> Iterator[Outcome]:
 
 
 def documents() -> List[pathlib.Path]:
-    """What is asked: all documents that no script makes, but CHANGELOG."""
-    found = [TOP / "README.md", TOP / "CONTRIBUTING.md", TOP / "tests/rows/README.md", *(TOP / "docs").glob("*.md"),
+    """What is asked: all documents that no script makes."""
+    found = [TOP / "README.md", TOP / "CHANGELOG.md", TOP / "CONTRIBUTING.md", TOP / "tests/rows/README.md", *(TOP / "docs").glob("*.md"),
              *TOP.glob("*/README.md")]
     return sorted(path for path in found if path.name not in MADE)
 
@@ -159,7 +246,11 @@ def outcomes() -> Iterator[Outcome]:
     yield from faults_of_patterns()
     for document in documents():
         yield from faults_of(document)
+    yield from faults_of_all()
     yield from faults_of_page()
+    yield from faults_of_comments()
+    for crate in READ:
+        yield from faults_of_crate(crate)
     yield from faults_of_glossary()
 
 

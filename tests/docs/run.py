@@ -16,12 +16,13 @@ it names one, and what is in backquotes has to be there where it is
 
 ARCHITECTURE has to have each crate in a layer. CONTRACTS, DEFINITIONS, MODULES and the pages of claims/ have to be what the sources
 give (`contracts.py`, `definitions.py`, `modules.py`, `claims.py`). So have the examples in doc comments (`examples.py`), and what
-documents say about statuses and limits (`told.py`), and what names the kinds of faults (`kinds.py`). Sentences have to be short, and words usual (`plain.py`). The public names that
-callers rely on have to be there (`surface.py`), and the JSON schema of answers has to be that of the answers in the rows
-(`schema.py`). What has to be believed is in `specs/`, and nothing else is (`trust.py`). CHANGELOG is about the past, and is left
-out. No script may define a name twice at one level, and what a mutant replaces has to be once in its file. The man page and the
-completion for bash have to name each command and option of the program's help, and the completion to complete them; the stack that
-docs/GUIDE.md names has to be enough; and what documents show of the program is what it prints. Each difference is one line; the last line is `N passed, M failed`.
+documents say about statuses and limits (`told.py`), and what names the kinds of faults (`kinds.py`). Sentences have to be short,
+and words usual (`plain.py`). The public names that callers rely on have to be there (`surface.py`), and the JSON schema of answers
+has to be that of the answers in the rows (`schema.py`). What has to be believed is in `specs/`, and nothing else is (`trust.py`).
+CHANGELOG is about the past, and is left out. No script may define a name twice at one level, and what a mutant replaces has to be
+once in its file. The man page and the completion for bash have to name each command and option of the program's help, and the
+completion to complete them. The stack that docs/GUIDE.md names has to be enough, and what documents show of the program is what it
+prints. Each difference is one line; the last line is `N passed, M failed`.
 """
 import ast
 import collections
@@ -74,7 +75,7 @@ LEVELS = (ast.Module, ast.ClassDef, ast.FunctionDef)
 ELSEWHERE = {"Vec", "String", "Option", "Result", "Ordering", "Rattle"}
 MADE = re.compile(r"(?:history|names|places|records|answer|client-|certificate)\S*|store/|.*\bNAME\b.*|.*\bout/.*")
 COMPLETED = (
-    ("tcc ", "explain survey check help --help --version"),
+    ("tcc ", "explain survey watch check help --help --version"),
     ("tcc ex", "explain"),
     ("tcc explain --level ", "causal atomic"),
     ("tcc explain --level = at", "atomic"),

@@ -18,13 +18,14 @@ from typing import Any, Dict, Iterable, Iterator, List, Tuple, Union
 TOP = pathlib.Path(__file__).resolve().parent.parent.parent
 sys.path.insert(0, str(TOP / "tests"))
 from counted import Outcome, status_of  # noqa: E402
+from limits import ruled, with_limits  # noqa: E402
 
 Json = Dict[str, Any]
 Place = Tuple[Union[str, int], ...]
 TYPES = {"object": dict, "array": list, "string": str, "integer": int, "boolean": bool, "null": type(None)}
 OTHERS = {str: 7, int: "7", bool: 7, list: {}, dict: [], type(None): []}
 # What a line may lack, by its answer, and be one of another part.
-MAY_LACK = {("anomaly", "least"), ("row", "session"), ("none", "session")}
+MAY_LACK = {("consistent", "order"), ("anomaly", "least"), ("row", "session"), ("none", "session")}
 # How the lines of a program or a script begin.
 BEGINS = ('{"answer"', '{"contradicted"', '{"count"')
 ENUMS = (
@@ -66,8 +67,10 @@ def lines_of(paths: Iterable[pathlib.Path]) -> List[str]:
     for path in sorted(paths):
         case = json.loads(path.read_text())
         parts = [part for run in [case, *case.get("runs", [])] for part in run.get("output", []) if isinstance(run.get("output"), list)]
-        found |= {part for part in parts if isinstance(part, str) and part.startswith(BEGINS)}
-        found |= {json.dumps(part["json"]) for part in parts if isinstance(part, dict) and "answer" in part.get("json", {})}
+        lines = {part for part in parts if isinstance(part, str)}
+        lines |= {ruled(part["rule"]) for part in parts if isinstance(part, dict) and "rule" in part}
+        found |= {line for line in lines if line.startswith(BEGINS)}
+        found |= {json.dumps(with_limits(part["json"])) for part in parts if isinstance(part, dict) and "answer" in part.get("json", {})}
     return sorted(found)
 
 

@@ -29,7 +29,7 @@ RENAMED = re.compile(r"^pub use (tcc_\w+)::(\w+) as (\w+);", re.MULTILINE)
 
 @functools.lru_cache(maxsize=None)
 def made_public(crate: str) -> Set[str]:
-    """The calls, types and variants that a library makes public, and what it passes on, also under another name; `New` of
+    """The calls, types and variants that a library makes public, and what it passes on, also under another name. `New` of
     `NewWithin` counts for its calls, and a type has the calls of what it dereferences to."""
     source = TOP / "crates" / crate / "src"
     root = (source / "lib.rt").read_text()

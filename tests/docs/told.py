@@ -3,13 +3,13 @@
 
     told.py [--write]
 
-The words of a status are those of its variant in `crates/tcc_print/src/status.rt`, its number is that of `code` there, the
-limits are the constants of `crates/tcc_txn/src/limits.rt` and of `crates/tcc_workers/src/workers.rt`, and which status a
-fault has is in `crates/tcc_print/src/kinds.rt`. From these come the exit statuses and the limits of docs/GUIDE.md and of the man
-page, which `--write` writes anew. What else names a limit or a status is compared with them: the row faults of
-docs/FORMATS.md, the kinds that the man page names, help, and some sentences; where a limit changes, each of them that is
-wrong is named, with what has to be there. And README has no more words than it may have. Each difference is one line, as
-`run.py` has it, which asks this too; the last line is `N passed, M failed`.
+The words of a status are those of its variant in `crates/tcc_print/src/status.rt`, and its number is that of `code` there. The
+limits are the constants of `crates/tcc_txn/src/limits.rt` and of `crates/tcc_base/src/workers.rt`, and which status a fault has
+is in `crates/tcc_print/src/kinds.rt`. From these come the exit statuses and the limits of docs/GUIDE.md and of the man page, the
+limits of the package, and the sentences with a limit in documents and help (`HELD`). `--write` writes them all anew. What else
+names a status is compared with them: the row faults of docs/FORMATS.md, the kinds that the man page names, and help. And README has
+no more words than it may have. Each difference is one line, as `run.py` has it, which asks this too; the last line is `N passed, M
+failed`.
 """
 import pathlib
 import re
@@ -21,11 +21,11 @@ sys.path.insert(0, str(TOP / "tests"))
 from arguments import status_of_written  # noqa: E402
 from counted import Outcome  # noqa: E402
 from kinds import codes  # noqa: E402
-from limits import filled, limits  # noqa: E402
+from limits import filled, form_of, limits  # noqa: E402
 
 README, GUIDE, PAGE = TOP / "README.md", TOP / "docs/GUIDE.md", TOP / "docs/tcc.1"
 LIMITS_OF_PACKAGE = TOP / "python/tcc/limits.py"
-MOST_WORDS = 1000
+MOST_WORDS = 965
 VARIANT = re.compile(r"((?: *///.*\n)+) *(\w+),\n")
 FAULT = re.compile(r"(Row|Cert)FaultKind::(\w+)[^=]*=> Told::new\(\"\w+\", Status::(\w+)\)")
 QUOTED = re.compile(r"`([^`]+)`")
@@ -44,20 +44,17 @@ IN_GUIDE = """| of a history, at most | by default | with `--large` |
 IN_PAGE = (".SH LIMITS\n" + LIMITS % (", aborted ones counted,", " each", ",") + ".\n.PP\nWith \\fB\\-\\-large\\fR " + LARGE % ","
            + "; as many operations and seals.\n")
 HELD = {
-    "README.md": ("up to {MAX_TRANSACTIONS} transactions, or a million with `--large`",),
+    "README.md": ("up to {MAX_SESSIONS} sessions and {MAX_TRANSACTIONS} transactions, or {LARGE_SESSIONS} and a million with `--large`",),
     "docs/GUIDE.md": (
         "more than {MAX_SESSIONS} sessions or {MAX_TRANSACTIONS} transactions",
-        "Names of sessions and keys have 1 to {MAX_NAME_BYTES} bytes",
         "lets N threads search for an anomaly, 1 to {MAX_WORKERS}."),
     "recipes/README.md": (
         "takes {MAX_SESSIONS} sessions and {MAX_TRANSACTIONS} transactions, aborted ones counted, and `tcc explain --large` "
         "{LARGE_SESSIONS} and {LARGE_TRANSACTIONS}",),
     "docs/RECORDING.md": (
         "A history has at most {MAX_SESSIONS} sessions, or {LARGE_SESSIONS} with `--large`",
-        "at most {MAX_TRANSACTIONS} transactions, aborted ones counted, of {MAX_OPERATIONS} operations each, in {MAX_SESSIONS} "
-        "sessions on {MAX_KEYS} keys",
-        "up to {LARGE_TRANSACTIONS} transactions in {LARGE_SESSIONS} sessions on {LARGE_KEYS} keys, in {LARGE_INPUT_BYTES} bytes",
-        "that is at {MAX_TRANSACTIONS} transactions, aborted ones counted"),
+        "that is at {MAX_TRANSACTIONS} transactions, aborted ones counted",
+        "There are at most {MAX_SESSIONS}, each name once", "`TooManySessions` that {MAX_SESSIONS} are open"),
     "docs/FORMATS.md": (
         "names: 1 to {MAX_NAME_BYTES} bytes",
         "| TooManyOps | operation {MAX_OPERATIONS+1} of a transaction |",
@@ -68,9 +65,12 @@ HELD = {
         "gave more than {MAX_INPUT_BYTES} bytes",
         "TooManySessions at a {LARGE_SESSIONS+1}th session, TooManyTransactions at transaction {LARGE_TRANSACTIONS+1}, TooManyKeys "
         "at a {LARGE_KEYS+1}th key, and Read after {LARGE_INPUT_BYTES} bytes",
-        "up to {MAX_SESSIONS} sessions with up to {MAX_TRANSACTIONS} transactions"),
+        "up to {MAX_SESSIONS} sessions with up to {MAX_TRANSACTIONS} transactions",
+        "but a {MAX_SEALS+1}th is TooManySeals"),
     "docs/tcc.1": ("names: 1 to {MAX_NAME_BYTES} bytes", "N threads, 1 to {MAX_WORKERS}, search"),
     "docs/HEADLINE.md": ("`Workers`, a type of 1 to {MAX_WORKERS}",),
+    "docs/GLOSSARY.md": ("without `--large`: {MAX_SESSIONS} sessions, {MAX_TRANSACTIONS} transactions,",),
+    "docs/MODEL.md": ("more than {MAX_TRANSACTIONS} transactions, or those of more than {MAX_SESSIONS} sessions",),
     "crates/tcc_words/src/command_line.rt": ("so many workers, 1 to {!MAX_WORKERS};",),
     "crates/tcc_words/src/help.rt": (
         "1 to {!MAX_NAME_BYTES} of A-Z",
@@ -134,6 +134,11 @@ WRITTEN = (
 def write() -> None:
     for path, pattern, wanted in WRITTEN:
         path.write_text(re.sub(pattern, lambda _: wanted(), path.read_text(), flags=re.DOTALL))
+    for name, templates in HELD.items():
+        text = (TOP / name).read_text()
+        for template in templates:
+            text = re.sub(form_of(template), lambda _: filled(template), text)
+        (TOP / name).write_text(text)
 
 
 def faults_of_kinds() -> Iterator[Outcome]:
@@ -164,7 +169,8 @@ def outcomes() -> Iterator[Outcome]:
     for path, templates in HELD.items():
         text = (TOP / path).read_text()
         for template in templates:
-            yield "%s: '%s..'" % (path, template[:40]), None if filled(template) in text else "it has no '%s'" % filled(template)
+            fault = None if filled(template) in text else "it has no '%s': tests/docs/told.py --write" % filled(template)
+            yield "%s: '%s..'" % (path, template[:40]), fault
     yield from faults_of_kinds()
     yield from faults_of_help()
     count = len(README.read_text().split())

@@ -37,7 +37,7 @@ def read_all(session: str, keys: List[str]) -> Transactions:
 
 
 def waiting(late: int, early: int) -> Transactions:
-    """Each of `late` writes of x has to stand behind each of `early` others: who read one of the first knew of all of these. So
+    """Each of `late` writes of x has to come after each of `early` others: who read one of the first had observed all of these. So
     each waits for many, and is looked at again as each of them is placed."""
     for n in range(late):
         yield "late%d" % n, ["w,x,%d" % (n + 1)]
@@ -80,8 +80,8 @@ def written_twice(transactions: int, sessions: int = 15, keys: int = 256) -> Tra
 
 
 def overtaken(writers: int, readers: int, sources: int = 60, told: int = 136) -> Transactions:
-    """Sources write two keys each, which session b writes again and again; c knows what b did and reads the first values: so each
-    source stands behind what c has read of b, and is looked at again as each of that is placed."""
+    """Sources write two keys each, which session b writes again and again. Session c knows what b did and reads the first values:
+    so each source comes after what c has read of b, and is looked at again as each of that is placed."""
     keys = ["x%d" % key for key in range(2 * sources)]
     for n in range(sources):
         yield "a%d" % n, ["w,%s,1" % key for key in keys[2 * n:2 * n + 2]]
@@ -92,7 +92,7 @@ def overtaken(writers: int, readers: int, sources: int = 60, told: int = 136) ->
 
 
 def written_by_many(sessions: int, reads: int, keys: str = "abcdefgh") -> Transactions:
-    """Many sessions write each of a few keys three times, and c, who knows of all of them, reads older values of one session."""
+    """Many sessions write each of a few keys three times, and c, who has observed all of them, reads older values of one session."""
     for n in range(sessions):
         for time in range(3):
             yield "s%d" % n, ["w,%s,%d" % (key, 3 * n + time + 2) for key in keys]
@@ -104,8 +104,8 @@ def written_by_many(sessions: int, reads: int, keys: str = "abcdefgh") -> Transa
 
 
 def gathered(sessions: int, writes: int, again: int = 0) -> Transactions:
-    """Many sessions write x once each, c knows of all of them, and then reads one write of x by session a after the other; and
-    at the end the first of them again, so many times."""
+    """Many sessions write x once each, c has observed all of them, and then reads one write of x by session a after the other. At
+    the end the first of them again, so many times."""
     for n in range(sessions):
         yield "b%d" % n, ["w,x,%d" % (n + 1), "w,seen%d,1" % n]
     yield from read_all("c", ["seen%d" % n for n in range(sessions)])
@@ -118,8 +118,8 @@ def gathered(sessions: int, writes: int, again: int = 0) -> Transactions:
 
 
 def ring(links: int, copies: int, empty: int) -> Transactions:
-    """Each of many transactions overwrites what the next one overwrites too, and c, behind many empty ones, saw each in turn: so
-    each stands before the next, and the last, of which there are some, before the first."""
+    """Each of many transactions overwrites what the next one overwrites too, and c, after many empty ones, saw each in turn. So
+    each comes before the next, and the last, of which there are some, before the first."""
     yield "t0", ["w,x0,1", "w,z,1", "w,end,1"]
     for n in range(1, links):
         last = ["w,e%d,1" % copy for copy in range(copies)] if n == links - 1 else ["w,x%d,%d" % (n, n + 1)]
@@ -137,7 +137,7 @@ def ring(links: int, copies: int, empty: int) -> Transactions:
 
 
 def walked(links: int, sessions: int) -> Transactions:
-    """Transactions stand in a ring, each before the next, since c read what each overwrites in turn; and what c knows of any of them
+    """Transactions are in a ring, each before the next, since c read what each overwrites in turn; and what c has observed of any of them
     came to it through all sessions. So the answer has so many links, each with a walk of so many steps."""
     for n in range(links):
         yield "t%d" % n, ["w,x%d,%d" % (n, n + 1), "w,x%d,%d" % ((n - 1) % links, n + 1), "w,z%d,1" % n]
@@ -152,7 +152,7 @@ def walked(links: int, sessions: int) -> Transactions:
 
 def stale_beside(stale: int, keys: int, empty: int) -> Transactions:
     """Session a reads old values of some keys that it overwrote; each transaction that it read from has many other keys, which b
-    reads behind many empty transactions."""
+    reads after many empty transactions."""
     for n in range(stale):
         yield "a", ["w,y%d,1" % n, *("w,k%d,%d" % (key, n + 1) for key in range(keys))]
     for n in range(stale):
@@ -187,7 +187,7 @@ def one_stale_among_many(count: int, sessions: int) -> Transactions:
 
 
 def read_initial(writers: int, readers: int) -> Transactions:
-    """Session a writes x again and again, unseen by c, who knows of d alone and reads the initial x."""
+    """Session a writes x again and again, unseen by c, who has observed d alone and reads the initial x."""
     yield "d", ["w,z,1"]
     for n in range(writers):
         yield "a", ["w,x,%d" % (n + 1)]
@@ -197,7 +197,7 @@ def read_initial(writers: int, readers: int) -> Transactions:
 
 
 def known_by_steps(writers: int, readers: int) -> Transactions:
-    """Session a writes x again and again; c knows of all that by way of d, by no single pair, and reads the first write."""
+    """Session a writes x again and again; c has observed all that by way of d, by no single pair, and reads the first write."""
     for n in range(writers):
         yield "a", ["w,x,%d" % (n + 1)]
     yield "a", ["w,y,1"]
@@ -214,7 +214,7 @@ def each_its_own(sessions: int) -> Transactions:
 
 
 def ordinary(size: int) -> str:
-    """A history with so many bytes at least: 32 sessions, of whose transactions each writes a key and reads the last value of
+    """A history with at least this many bytes: 32 sessions, of whose transactions each writes a key and reads the last value of
     another one."""
     last = {}
     written = 0

@@ -3,12 +3,12 @@
 
     run.py [--tcc PATH]
 
-Values of one key that hash alike, and names of keys and sessions that do, may take no more than some times the processor
-time of as many others, and have the same answers; long records, and many faults, no more than some times their bytes of
-memory, and a long answer no more than some times its own; and histories that have many of what some loop goes through
-(`histories.py`) no more than ten times the processor time of an ordinary one of as many bytes. The values and names are made by
-`alike.c`, which needs a C compiler on the path (`cc` or `clang`); where there is none it says so and has failed. Each difference
-is one line; the last line is `N passed, M failed`.
+Values of one key that hash alike, and names of keys and sessions that do, may take no more than some times the processor time of as
+many others, and have the same answers. Long records, and many faults, may take no more than some times their bytes of memory, and a
+long answer no more than some times its own. All about an answer may take no more than some times the memory of the answer.
+Histories that have many of what some loop goes through (`histories.py`) may take no more than ten times the processor time of an
+ordinary one of as many bytes. The values and names are made by `alike.c`, which needs a C compiler on the path (`cc` or `clang`);
+where there is none it says so and has failed. Each difference is one line; the last line is `N passed, M failed`.
 """
 import itertools
 import os
@@ -32,8 +32,10 @@ TIMES, BESIDE = 3, 0.5
 MEGABYTE, LONG = 1 << 20, 16
 # So many times the processor time of an ordinary history, and so many seconds beside it, may a hard one take.
 TIMES_ORDINARY, BESIDE_ORDINARY = 10, 1.5
-# So many bytes of memory may a long answer take for each of its own.
+# The bytes of memory that a long answer may take for each of its own.
 BESIDE_ANSWER = 4
+# So many times the memory of an answer as JSON may all about it take.
+ALL_BESIDE_JSON = 1.5
 # So much memory may there be beside what goes by the bytes of the records.
 SPARE = 24 << 20
 
@@ -66,8 +68,8 @@ def many_names(names):
 
 
 def run(tcc, words, records):
-    """The status, the standard output, the seconds of processor time, and the most bytes of memory at a time, for records
-    that come in pieces: what this process holds itself counts as the program's memory until that begins."""
+    """The status, the standard output, the seconds of processor time, and the most bytes of memory at a time, for records that come
+    in pieces. What this process holds itself counts as the program's memory until that begins."""
     with tempfile.TemporaryFile() as given, tempfile.TemporaryFile() as said:
         given.writelines(records)
         given.seek(0)
@@ -103,8 +105,13 @@ def reads_of_nothing():
 
 
 def one_after_the_other():
-    """Many sessions write a key, and who knows of all of them then reads one write of another session after the other."""
+    """Many sessions write a key, and who has observed all of them then reads one write of another session after the other."""
     return [records_of(gathered(4000, 20000)).encode()]
+
+
+def long_walks():
+    """An anomaly of many links, each with a long walk."""
+    return [records_of(walked(700, 700)).encode()]
 
 
 # Words, records, the status, how the answer begins, and how many bytes of memory there may be for each byte of records.
@@ -129,10 +136,28 @@ def larger(tcc, words, records, status, begins, each):
 
 def longer(tcc):
     """What is wrong with an answer of many long walks, as JSON, or with the memory that it took; None if nothing is."""
-    status, said, _, most = run(tcc, ["explain", "--large", "--json"], [records_of(walked(700, 700)).encode()])
+    status, said, _, most = run(tcc, ["explain", "--large", "--json"], long_walks())
     if status != 1 or len(said) < LONG << 20:
         return "status %d, %d bytes of standard output" % (status, len(said))
     return "%d bytes of memory for an answer of %d" % (most, len(said)) if most > SPARE + BESIDE_ANSWER * len(said) else None
+
+
+# Words and records whose answer is long, with its status and the key of its list.
+FULL = [
+    ("all about faults", [], reads_of_nothing, 2, b'"faults":['),
+    ("all about long walks", ["--large"], long_walks, 1, b'"cycle":['),
+]
+
+
+def fuller(tcc, words, records, wanted, key):
+    """What is wrong with all about an answer, or with its memory beside that of the answer; None if nothing is."""
+    most = []
+    for asked in ("--json", "--full"):
+        status, said, _, memory = run(tcc, ["explain", asked, *words], records())
+        if status != wanted or key not in said[:1 << 10]:
+            return "%s: status %d, standard output %s" % (asked, status, shown(said[:200]))
+        most.append(memory)
+    return "%d bytes of memory, and %d as JSON" % (most[1], most[0]) if most[1] > SPARE + ALL_BESIDE_JSON * most[0] else None
 
 
 def harder(tcc, one):
@@ -151,6 +176,8 @@ def outcomes(tcc):
     for name, *large in LARGE:
         yield name, larger(tcc, *large)
     yield "long walks as JSON", longer(tcc)
+    for name, *full in FULL:
+        yield name, fuller(tcc, *full)
     for one in hard():
         yield one.name, harder(tcc, one)
     compiler = shutil.which("cc") or shutil.which("clang")

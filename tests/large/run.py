@@ -1,13 +1,16 @@
 #!/usr/bin/env python3
-"""Small histories, decided as large ones are: the same first order as `tcc explain` gives, and an anomaly exactly where it
-gives one, of at least as many steps; of as many where it is said to be a least one, which it has to be up to four steps, and wherever
-a least one has three at most.
+"""Small histories, decided as large ones are. That is the same first order as `tcc explain` gives, and an anomaly exactly where it
+gives one, of at least as many steps. It has as many where the answer calls it a least one, which it has to be up to four steps, and
+wherever a least one has three at most.
 
     run.py [--tcc PATH] [--stages PATH] [--kinds KIND ..] [--sizes N ..]
 
 The histories are those of bench/histories.py, by default of 255 and 1,023 transactions, each at both levels. `tcc_bench_stages` decides
 them as large ones (`large-answer`). The line before the last says of how many anomalies the cycle found has as few steps
 as the least: of those sizes it has to be all, of others it may be fewer.
+
+`tcc explain --large` is given each history with an anomaly too, with so many sessions more that it is a large one. They neither read
+nor write, so it has to say the same, link for link: up to three steps always, and up to 63 where the causal pairs make no circle.
 
 Each difference is one line; the last line is `N passed, M failed`.
 """
@@ -26,6 +29,11 @@ LEVELS = ("causal", "atomic")
 SECONDS = 600
 # Of these sizes each cycle that is found is a least one.
 LEAST_SIZES = (255, 1023)
+# So many sessions are past the small limits, whatever others there are. Up to so many steps the anomaly is the first one, whatever the
+# history; and up to so many more it is looked for, by an order of the causal pairs.
+MORE_SESSIONS = 65
+FIRST_STEPS = 3
+MOST_STEPS = 63
 
 
 def printed(words, history):
@@ -46,20 +54,32 @@ def numbers_of(labels):
 
 
 def small_answer(tcc, history, level):
-    """What `tcc explain` decides: an order's numbers, or how many steps a least cycle has."""
+    """What `tcc explain` decides: an order's numbers, or how many steps a least cycle has, and what is printed of it."""
     status, text = printed([tcc, "explain", "--json", "--level", level], history)
     answer = json.loads(text)
     if status == 0:
         return "order", numbers_of(answer["order"])
-    return "cycle", answer["steps"]
+    return "cycle", answer["steps"], text
+
+
+def with_more_sessions(records):
+    """The same records, and after them those of sessions that neither read nor write."""
+    return records + "".join("zzz%02d,begin\nzzz%02d,commit\n" % (number, number) for number in range(MORE_SESSIONS))
 
 
 def large_answer(stages, history, level):
-    """The same as a large history, and of a cycle whether it is said to be a least one."""
+    """The same as a large history, and of a cycle whether it is called a least one."""
     _, text = printed([stages, "large-answer"] + ([level] if level == "atomic" else []), history)
     word, _, rest = text.partition(" ")
     numbers = [int(number) for number in rest.split()]
     return ("order", numbers) if word == "order" else ("cycle", (numbers or [0])[0], word == "least")
+
+
+def is_first(tcc, history, level, steps):
+    """Whether an anomaly of so many steps is the first one in a large history too."""
+    if steps <= FIRST_STEPS:
+        return True
+    return steps <= MOST_STEPS and not printed([tcc, "survey", "--level", level], history)[1].startswith("circular")
 
 
 def difference(small, large):
@@ -72,7 +92,7 @@ def difference(small, large):
         return "a least cycle of %d steps, and one of %d" % (small[1], large[1])
     if small[0] == "cycle" and large[2] and large[1] > small[1]:
         return "a least cycle of %d steps, and one of %d is said to be least" % (small[1], large[1])
-    if small[0] == "cycle" and not large[2] and (large[1] <= 4 or small[1] <= 3):
+    if small[0] == "cycle" and not large[2] and (large[1] <= 4 or small[1] <= FIRST_STEPS):
         return "a least cycle of %d steps, and one of %d isn't said to be least" % (small[1], large[1])
     return None
 
@@ -84,15 +104,20 @@ def main():
     ask.add_argument("--kinds", nargs="+", choices=list(KINDS), default=list(KINDS), metavar="KIND", help="these alone")
     ask.add_argument("--sizes", nargs="+", type=int, default=list(LEAST_SIZES), metavar="N", help="so many transactions")
     asked = ask.parse_args()
-    passed = failed = anomalies = least = 0
+    passed = failed = anomalies = least = firsts = 0
     with tempfile.TemporaryDirectory() as folder:
         history = pathlib.Path(folder, "history.csv")
         for kind in asked.kinds:
             for size in asked.sizes:
                 history.write_text(text_of(kind, size))
+                more = pathlib.Path(folder, "more.csv")
+                more.write_text(with_more_sessions(text_of(kind, size)))
                 for level in LEVELS:
                     small, large = small_answer(asked.tcc, history, level), large_answer(asked.stages, history, level)
                     wrong = difference(small, large)
+                    if small[0] == "cycle" and is_first(asked.tcc, history, level, small[1]):
+                        first = printed([asked.tcc, "explain", "--large", "--json", "--level", level], more)[1]
+                        firsts, wrong = firsts + 1, wrong or (None if first == small[2] else "another anomaly with more sessions")
                     if small[0] == large[0] == "cycle":
                         anomalies, least = anomalies + 1, least + (small[1] == large[1])
                         if small[1] != large[1]:
@@ -104,7 +129,7 @@ def main():
                     passed, failed = passed + (not wrong), failed + bool(wrong)
                     if wrong:
                         print("%s-%d at %s: %s" % (kind, size, level, wrong))
-    print("%d of %d anomalies have as few steps as the least" % (least, anomalies))
+    print("%d of %d anomalies have as few steps as the least, %d are the first in a large history too" % (least, anomalies, firsts))
     print("%d passed, %d failed" % (passed, failed))
     return 1 if failed else 0
 

@@ -1,7 +1,8 @@
 #!/usr/bin/env python3
-"""What a run of `tcc explain --large` or `tcc check --large` shows at a terminal while it lasts: after two seconds what it is doing, on one
-line that is cleared before anything else is written; elsewhere, and where the run is short or its records are typed, nothing. A check
-says how far it is where it reads a file whose size is known.
+"""What a run of `tcc explain --large`, `tcc survey --large` or `tcc check --large` shows at a terminal while it lasts: after two seconds
+what it is doing, on one line that is cleared before anything else is written; elsewhere, and where the run is short or its records are
+typed, nothing. A check or a survey says how far it is where it reads a file whose size is known, and then by the blocks of sessions
+that are done.
 
     watched.py [--tcc PATH]
 
@@ -30,9 +31,11 @@ LONGEST = 1800.0  # what takes longer hangs
 # A run that is to be short is done again where it wasn't, as on a busy machine, so often in all.
 TURNS = 10
 BEGUN = 1 << 20  # bytes: a program that has read so many is at its work
-LINE = re.compile(rb"(reading records|reading the certificate|tracing reads|deciding|cutting a slice|judging)(?:, (\d+) %)?, (\d+) s\r")
+TURN, BETWEEN = 0.3, 0.05  # seconds: a run shows what it does after a quarter of one
+LINE = re.compile(rb"(reading records|reading the certificate|tracing reads|deciding|surveying|cutting a slice|judging)(?:, (\d+) %)?, (\d+) s\r")
 ONE = b"a,begin\na,w,x,1\na,commit\n"
 CONSISTENT = b"consistent: 1 transactions, 1 sessions\norder: init a/1\n"
+NOTHING_FOUND = b"0 contradicted reads of 0, 0 faults\nno read is contradicted, which is no answer: ask tcc explain\n"
 
 
 def terminal(held, number=None):
@@ -73,8 +76,8 @@ def read_until(screen, is_enough, seconds):
 
 
 def watched(words, parts, number=None):
-    """The run at a terminal, of this number if one is wanted, which is both standard output and standard error: what it shows, part by
-    part of the records, when it showed something first, and the status."""
+    """The run at a terminal, of this number if one is wanted, which is both standard output and standard error. Gives what it
+    shows, part by part of the records, when it showed something first, and the status."""
     with contextlib.ExitStack() as held:
         person, program = terminal(held, number)
         begun = time.monotonic()
@@ -179,6 +182,83 @@ def decided(words):
     return None if len(last) == 2 and last[0].startswith(b'{"answer":"consistent"') and not last[1] else "screen: %s" % shown(text[-200:])
 
 
+def surveyed(words):
+    """What is wrong where it is the survey that takes long, or None."""
+    records = b"".join(large(400000))
+    showed, _, status = watched(words, [b"", records])
+    text = b"".join(showed)
+    if status != 0 or stages_in(text) != ["reading records", "surveying"]:
+        return "status %d, shown %s" % (status, shown(text))
+    return first_difference("screen", NOTHING_FOUND, screen_after(text))
+
+
+def shared(sessions, rounds, keys):
+    """Records of a history in which each session writes keys that others write and read: so each block of sessions has writers that may
+    contradict a read, though none does. Before them there are aborted transactions, which take a while to read."""
+    latest = [0] * keys
+    yield (b"s0,begin\n" + b"s0,r,k0,0\n" * 250 + b"s0,abort\n") * 4000
+    for number in range(sessions * rounds):
+        session, read, written = number % sessions, number * 7 % keys, number * 11 % keys
+        yield b"s%d,begin\ns%d,r,k%d,%d\n" % (session, session, read, latest[read])
+        latest[written] = number + 1
+        yield b"s%d,w,k%d,%d\ns%d,commit\n" % (session, written, number + 1, session)
+
+
+def held_up(words):
+    """What a run shows at a terminal, and its status, where it is held up once it is reading. Then it is held up again and again
+    for longer than a turn, so that it shows each time what it does."""
+    with contextlib.ExitStack() as held:
+        person, program = terminal(held)
+        run = subprocess.Popen(words, stdin=subprocess.DEVNULL, stdout=program, stderr=program)
+        os.close(program)
+        text, seconds = b"", QUIET
+        while run.poll() is None and has_read(run.pid) < BEGUN:
+            time.sleep(0.01)
+        while run.poll() is None:
+            run.send_signal(signal.SIGSTOP)
+            time.sleep(seconds)
+            run.send_signal(signal.SIGCONT)
+            text += read_until(person, lambda text: False, BETWEEN)
+            seconds = TURN
+        return text + read_until(person, lambda text: False, LONGEST), run.wait(LONGEST)
+
+
+def surveyed_by_blocks(words):
+    """What is wrong with a survey of many blocks of sessions, or None: that it reads a file, and how far it is, which only grows. One
+    read is contradicted: the first session in the end doesn't read what it wrote."""
+    with tempfile.TemporaryDirectory() as made:
+        history = pathlib.Path(made) / "history"
+        history.write_bytes(b"".join(shared(2048, 20, 64)) + b"s0,begin\ns0,r,k0,0\ns0,commit\n")
+        plain = subprocess.run([*words, history], stdout=subprocess.PIPE, stderr=subprocess.STDOUT)
+        text, status = held_up([*words, history])
+    if status != plain.returncode or stages_in(text) != ["reading records", "surveying"]:
+        return "status %d, shown %s" % (status, shown(text))
+    return wrong_growth(text, "surveying", 50) or first_difference("screen", plain.stdout, screen_after(text))
+
+
+def checked_by_blocks(tcc):
+    """What is wrong with a check of an order of many blocks of sessions, or None: how far it is, which only grows."""
+    with tempfile.TemporaryDirectory() as made:
+        history, certificate = pathlib.Path(made) / "history", pathlib.Path(made) / "certificate"
+        history.write_bytes(b"".join(shared(4096, 40, 64)))
+        explain = [tcc, "explain", "--large", "--quiet", "--certificate", certificate, history]
+        subprocess.run(explain, stdout=subprocess.DEVNULL, check=True)
+        text, status = held_up([tcc, "check", "--large", history, certificate])
+    if status != 0 or "judging" not in stages_in(text):
+        return "status %d, shown %s" % (status, shown(text))
+    return wrong_growth(text, "judging", 50) or first_difference("screen", b"accepted: order\n", screen_after(text))
+
+
+def wrong_growth(text, stage, least):
+    """What is wrong with how far a stage is shown to be, or None. It shows at times, then always, never falls, grows, and comes to
+    at least that many hundredths of all, yet never to all."""
+    told = [percent for one, percent, _ in LINE.findall(text) if one.decode() == stage]
+    far = [int(percent) for percent in told if percent]
+    if any(told[:len(told) - len(far)]) or far != sorted(far):
+        return "how far falls: %s" % told
+    return None if len(set(far)) > 1 and least <= far[-1] < 100 else "how far doesn't grow: %s" % told
+
+
 def check_at_terminal(words, pipe, parts):
     """What a check at a terminal shows, and its status. A pipe that it reads gets its parts each once the line shows something; without
     parts the check is held up for a while once it is reading."""
@@ -254,7 +334,13 @@ def outcomes(tcc):
     yield "a long run at no terminal", elsewhere(words)
     yield "a long run of typed records", typed(words)
     yield "a long decision", decided(words)
+    survey = [tcc, "survey", "--large"]
+    yield "a long reading of a survey", wrong_with(survey, [b"", ONE], 0, NOTHING_FOUND, reading)
+    yield "a long survey", surveyed(survey)
+    yield "a survey of many blocks of sessions", surveyed_by_blocks(survey)
+    yield "a short survey", wrong_with(survey, [ONE], 0, NOTHING_FOUND, [])
     yield from checks(tcc)
+    yield "a check of many blocks of sessions", checked_by_blocks(tcc)
 
 
 def main():

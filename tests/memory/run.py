@@ -4,8 +4,8 @@ after it stands the line `memory`, status 5.
 
     run.py [--tcc PATH] [--recorders PATH]
 
-Where a transaction of the recorders is refused it is recorded again, and they say so on standard error: in one thread,
-where the allocations of all runs are the same, each recorder's last one has to be among these, with all answers.
+Where a transaction of the recorders is refused it is recorded again, and they say so on standard error. In one thread, where the
+allocations of all runs are the same, each recorder's last one has to be among these, with all answers.
 
 Two workers share the allocations out anew in each run: there the refusals go on until so many runs in a row as CALM says had
 no allocation left to refuse. A thread that is refused changes no answer.
@@ -14,6 +14,7 @@ Needs a C compiler on the path (`cc` or `clang`); where there is none it says so
 line; the last line is `N passed, M failed`, a run a refused allocation.
 """
 import argparse
+import json
 import os
 import pathlib
 import shutil
@@ -27,6 +28,7 @@ HERE = pathlib.Path(__file__).resolve().parent
 TOP = HERE.parent.parent
 sys.path.insert(0, str(TOP / "tests"))
 from counted import status_of  # noqa: E402
+from limits import of_answer  # noqa: E402
 
 MEMORY = b"memory\n"
 JSON_MEMORY = b'{"answer":"memory"}\n'
@@ -37,13 +39,6 @@ session init -> a/1
 derived a/1 -> init by x, read by a/2
   session a/1 -> a/2
   against init -> a/2 by x
-"""
-# The same past the small limits, where a cycle begins with the link that closes it.
-LARGE_STALE_READ = b"""anomaly: 3 steps, stale-initial-read
-derived a/1 -> init by x, read by a/2
-  session a/1 -> a/2
-  against init -> a/2 by x
-session init -> a/1
 """
 CONFLICT = b"""anomaly: 4 steps, conflict-cycle
 derived a/1 -> b/1 by x, read by c/1
@@ -111,8 +106,7 @@ SURVEYED = [b"contradicted a/2 op 1 x 0: knew of a/1, read your writes\n", b"rea
 SURVEYED_FAULTS = [b"unresolved: 2 faults\nAborted b/1 op 1 x 1\nThinAir b/1 op 2 z 7\n", b"0 contradicted reads of 0, 2 faults\n"]
 SURVEYED_JSON = [b'{"contradicted":"a/2","key":"x","name":"read your writes","op":1,"value":0,"writer":"a/1"}\n',
                  b'{"count":1,"name":"read your writes"}\n', b'{"answer":"survey","contradicted":1,"faults":0,"reads":1}\n']
-SMALL_LIMITS = b'{"bytes":134217728,"keys":1024,"operations":256,"seals":256,"sessions":64,"transactions":4095}'
-LARGE_LIMITS = b'{"bytes":1073741824,"keys":1048576,"operations":256,"seals":256,"sessions":65535,"transactions":1048575}'
+SMALL_LIMITS, LARGE_LIMITS = (json.dumps(of_answer(large), separators=(",", ":")).encode() for large in (False, True))
 
 
 def full(form, large=False):
@@ -128,8 +122,8 @@ FULL_DERIVED = b'{"from":"a/1","key":"x","kind":"derived","missed":2,"read":5,"r
 "walk":[{"from":"a/1","kind":"session","to":"a/2"}],"written":null}'
 FULL_STALE = b'{"answer":"anomaly","cycle":[' + FULL_SESSION + b"," + FULL_DERIVED + b'],"large":LARGE,"least":true,"level":"causal",\
 "limits":LIMITS,"sessions":1,"shape":"stale-initial-read","status":1,"steps":3,"transactions":2,"version":"0.1.0"}'
-LARGE_FULL_STALE = b'{"answer":"anomaly","cycle":[' + FULL_DERIVED + b"," + FULL_SESSION + b'],"large":LARGE,"least":true,"level":"causal",\
-"limits":LIMITS,"sessions":65,"shape":"stale-initial-read","status":1,"steps":3,"transactions":2,"version":"0.1.0"}'
+# The same in a history of more sessions than a small one has.
+LARGE_FULL_STALE = FULL_STALE.replace(b'"sessions":1', b'"sessions":65')
 FULL_FAULTS = b'{"answer":"unresolved","faults":[\
 {"key":"x","kind":"Aborted","name":"G1a","op":1,"place":1,"row":5,"session":"b","value":1},\
 {"key":"z","kind":"ThinAir","name":null,"op":2,"place":1,"row":6,"session":"b","value":7}],"large":LARGE,"level":"causal",\
@@ -162,8 +156,8 @@ ANSWERS = [
     (None, ["check", "--large", FORK, "@large-order"], b"accepted: order\n", 0),
     (None, ["check", "--large", FORK, "@certificate"], b"accepted: order\n", 0),
     (None, ["check", "--large", FORK, "@large-cycle"], b"rejected: rule 1 at 0 0\n", 7),
-    # behind the answer its certificate takes memory, in whose place the line may stand
-    ("@past", ["explain", "--large", "--certificate", "/dev/null"], [LARGE_STALE_READ, b""], 1),
+    # after the answer its certificate takes memory, in whose place the line may come
+    ("@past", ["explain", "--large", "--certificate", "/dev/null"], [STALE_READ, b""], 1),
     (STALE, ["survey"], SURVEYED, 1),
     (EXAMPLES / "aborted-read.csv", ["survey", "--large"], SURVEYED_FAULTS, 2),
     (STALE, ["survey", "--json"], SURVEYED_JSON, 1),
@@ -229,7 +223,7 @@ class Shim:
 def refusals(run, shim):
     """For each allocation of a run, what is answered where it is refused, whether that is right, and standard error.
 
-    Before the words of the command line are read the line `memory` stands, as nobody knows yet that JSON is wanted;
+    Before the words of the command line are read it is the line `memory`, as nobody knows yet that JSON is wanted;
     from the first line of JSON on, that one. With `--full` that is an object, or the shortest line where it has no room either.
     """
     json = run.cut_off(JSON_MEMORY) if {"--json", "--full"} & set(run.words) else []

@@ -60,7 +60,7 @@ def ends(folder: pathlib.Path, tcc: List[str]) -> Iterator[Outcome]:
 
 
 def compared(folder: pathlib.Path, tcc: List[str]) -> Iterator[Outcome]:
-    """Compare-and-put: where the comparison fails its write didn't happen, and who reads it is told so."""
+    """Compare-and-put: where the comparison fails its write didn't happen, and who reads it hears so."""
     from tcc import Recorder
     for read_at_last, wanted in ((6, 0), (8, 2)):
         path = folder / ("compared%d.csv" % read_at_last)

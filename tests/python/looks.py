@@ -195,7 +195,7 @@ def wait(what) -> None:
 
 
 def seals(folder: pathlib.Path, library: str, tcc: List[str]) -> Iterator[Outcome]:
-    """A seal waits for what is under way, and none begins meanwhile; of several recorders seals stand in step, and each has an answer."""
+    """A seal waits for what is under way, and none begins meanwhile; of several recorders seals are in step, and each has an answer."""
     from tcc import Recorder, seal
     path = folder / "sealed.csv"
     with Recorder(path) as recorder:

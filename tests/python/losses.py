@@ -31,7 +31,7 @@ recorder.close()
 
 @contextlib.contextmanager
 def full(bytes_left: int, path: pathlib.Path) -> Iterator[None]:
-    """No file grows past the size of this one and so many bytes: what is more is written in part, and then fails."""
+    """No file grows past the size of this one by more than these bytes: what is more is written in part, and then fails."""
     _, most = resource.getrlimit(resource.RLIMIT_FSIZE)
     resource.setrlimit(resource.RLIMIT_FSIZE, (path.stat().st_size + bytes_left, most))
     try:

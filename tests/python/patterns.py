@@ -1,5 +1,5 @@
-"""No pattern of the package takes more than one pass of a text, whatever the text: each is tried on texts of 100,000 characters of each
-class that it repeats, behind what leads there, and on as many of each body of a repetition, with ends at which it fails."""
+"""No pattern of the package takes more than one pass of a text, whatever the text. Each is tried on texts of 100,000 characters of
+each class that it repeats, after what leads there, and on as many of each body of a repetition, with ends at which it fails."""
 import ast
 import importlib
 import pathlib

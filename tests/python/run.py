@@ -3,8 +3,8 @@
 
     run.py [--tcc PATH]
 
-Into a new folder: what is asked of it is asked of what stands there. That its types are right is asked of mypy, its fixtures are
-run by pytest, and calls and rounds go to an etcd and a Redis; before that, that no pattern of it is slow (`patterns.py`). Where
+Into a new folder: what is asked of it is asked of what is there. That its types are right is asked of mypy, its fixtures are run by
+pytest, and calls and rounds go to an etcd and a Redis. Before that it asks that no pattern of it is slow (`patterns.py`). Where
 pip, mypy, pytest, etcd or redis-server isn't there, what needs it is passed over, which is said. Each difference is one line; the
 last line is `N passed, M failed`.
 """
@@ -83,7 +83,7 @@ def record(recorder, value):
     with session.transaction() as one:
         one.read("x", value)
 """
-# What pytest's report says of each test, and what stands in its message.
+# What pytest's report says of each test, and what is in its message.
 REPORTED = {"test_kept": None, "test_broken": "anomaly: 3 steps, stale-initial-read", "test_untraced": "ThinAir a/2 op 1 x 7",
             "test_nothing": "only 0 transactions", "test_no_records": "Unfinished"}
 
@@ -174,7 +174,7 @@ def refusals(folder: pathlib.Path) -> Iterator[Outcome]:
 
 
 def crash(folder: pathlib.Path, library: str) -> Iterator[Outcome]:
-    """A process is killed in a COMMIT: what was under way is known, a run that goes on behind it ends it by what is read."""
+    """A process is killed in a COMMIT: what was under way is known, a run that goes on after it ends it by what is read."""
     from tcc import Recorder
     path = folder / "crash.csv"
     done = run([sys.executable, "-c", DYING, str(path)], library)

@@ -113,7 +113,7 @@ def work(store: Store, recorder, number: int) -> None:
 
 
 def at_work(folder: pathlib.Path, tcc: List[str]) -> Iterator[Outcome]:
-    """Three recorders at work: put together, there is an order, and somebody read what another recorder didn't know of."""
+    """Three recorders at work: put together, there is an order, and somebody read what another recorder hadn't observed."""
     from tcc import NoRecord, Recorder
     store, paths = Store(), [folder / ("three%d.csv" % number) for number in range(3)]
     recorders = [Recorder(path, number=number) for number, path in enumerate(paths)]

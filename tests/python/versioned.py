@@ -13,7 +13,7 @@ from typing import Dict, Iterator, List, NamedTuple, Optional, Set, Tuple
 from counted import Outcome
 from helpers import SECONDS, differs, raises, run
 
-# Two writes of x of which neither client knew of the other; c reads the later one, and then the earlier one.
+# Two writes of x of which neither client had observed the other; c reads the later one, and then the earlier one.
 RECORDS = ["a,begin", "a,w,x,1", "a,commit", "b,begin", "b,w,x,2", "b,commit", "c,begin", "c,r,x,2", "c,commit", "c,begin", "c,r,x,1", "c,commit"]
 OBSERVED = ["o.1,begin", "o.1,r,x,1", "o.1,commit", "o.1,begin", "o.1,r,x,2", "o.1,commit"]
 
@@ -122,7 +122,7 @@ class Slow:
         return 0 if number < 0 else self.versions[key].get(self.every[number].writes[key])
 
     def contradicted(self, is_by_versions: bool, is_atomic: bool = False) -> Set[Tuple[str, str]]:
-        """The reads, of which the reader knew a write that is newer: by what reached it, or by its version. At `atomic` a reader knows of its
+        """The reads, of which the reader knew a write that is newer: by what reached it, or by its version. At `atomic` a reader has observed its
         session and of those that it reads from, and of nothing else."""
         knows = self.direct if is_atomic else self.reaches
         found = set()

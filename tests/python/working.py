@@ -1,4 +1,4 @@
-"""The clients that the recorders of recipes/ share: their values, their limits, and how what they did goes out."""
+"""The clients that the recorders of recipes/ share: their values, their limits, and how what they did is written."""
 import argparse
 import contextlib
 import io
@@ -12,7 +12,7 @@ from typing import Iterator, List
 from counted import Outcome
 from helpers import SECONDS, differs, run
 
-# A recorder whose clients write to nothing; one of them ends early where it is told so.
+# A recorder whose clients write to nothing; one of them ends early where it is asked to.
 RECORDER = """
 import sys
 from tcc import clients
@@ -90,7 +90,7 @@ def limits() -> Iterator[Outcome]:
 
 
 def written(folder: pathlib.Path, library: str) -> Iterator[Outcome]:
-    """How records go out: whole, or under no name; and the status where a client ended early."""
+    """How records are written: whole, or under no name; and the status where a client ended early."""
     words = [sys.executable, "-c", RECORDER, "--clients", "2", "--transactions", "3"]
     whole = ["c%d,%s" % (number, each) for number in (1, 2) for count in range(1, 4)
              for each in ("begin", "w,x,%d" % (4096 * count + number), "commit")]

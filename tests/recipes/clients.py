@@ -1,9 +1,9 @@
 """The clients that the documents show, and the one that recorders use: their connections are cut at every call.
 
-A store of one map counts the calls of its connections, those that open one too. At the calls of `cuts` a connection breaks
-before the call was done or behind it, or the store refuses the transaction; a connection that broke takes what it hasn't
-committed with it. Whatever was cut, the whole work has to be done, what is recorded as committed or aborted has to be what
-happened, names of sessions are used one after the other, and `tcc` has to find an order.
+A store of one map counts the calls of its connections, those that open one too. At the calls of `cuts` a connection breaks before
+the call was done or after it, or the store refuses the transaction; a connection that broke takes what it hasn't committed with it.
+Whatever was cut, the whole work has to be done, and what is recorded as committed or aborted has to be what happened. Names of
+sessions are used one after the other, and `tcc` has to find an order.
 """
 import contextlib
 import importlib.util
@@ -67,7 +67,7 @@ class Server:
 
 
 class Connection:
-    """A connection, with what its transaction has written so far; behind a cut nothing may be asked of it."""
+    """A connection, with what its transaction has written so far; after a cut nothing may be asked of it."""
 
     def __init__(self, server: Server):
         self.server, self.pending, self.is_cut = server, {}, False
@@ -116,7 +116,7 @@ Done = List[Tuple[str, List[Tuple[str, str, int]], str]]
 
 
 def documented(cuts: Dict[int, str], keeps: bool) -> Tuple[Server, Done]:
-    """What the client of RECORDING notes, and behind it another one that reads all."""
+    """What the client of RECORDING notes, and after it another one that reads all."""
     names, done = example("docs/RECORDING.md"), []
     server, until = Server(cuts, names["Refused"]), time.monotonic() + SECONDS
     names["client"](1, server.connect, WORK, done, until, keeps)
@@ -126,7 +126,7 @@ def documented(cuts: Dict[int, str], keeps: bool) -> Tuple[Server, Done]:
 
 
 def recorded(cuts: Dict[int, str], keeps: bool) -> Tuple[Server, Done]:
-    """What the client of the recorders notes, and behind it another one that reads all."""
+    """What the client of the recorders notes, and after it another one that reads all."""
     from tcc import clients
 
     clients.PAUSE_SECONDS = 0.0

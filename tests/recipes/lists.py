@@ -1,5 +1,6 @@
-"""Random histories of lists beside a slow checker of the definition, which uses nothing of `tcc.lists`: by all orders where a history is
-small, else by what the definition comes to (no fault, each list has what the past appended, and neighbours fit into one order)."""
+"""Random histories of lists beside a slow checker of the definition, which uses nothing of `tcc.lists`. That goes by all orders
+where a history is small, else by what the definition comes to (no fault, each list has what the past appended, and neighbours fit
+into one order)."""
 import itertools
 import os
 import pathlib
@@ -93,7 +94,7 @@ def broken(pick: random.Random, history: List[Txn]) -> None:
             elements.insert(at, pick.choice(every + ["9999"] if pick.random() < 0.1 else every or ["9999"]))
         elif way == 3:
             elements = elements[:at]
-        elif way == 4:  # at every replica behind this
+        elif way == 4:  # at every replica after this
             if len(elements) > 1:
                 one_of, other = pick.sample(elements, 2)
                 for each in history[history.index(one):]:

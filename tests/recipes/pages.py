@@ -1,4 +1,4 @@
-"""The pages that recipes/report.py makes: what stands in them, that they are whole by themselves, and, where Chromium is there, what
+"""The pages that recipes/report.py makes: what is in them, that they are whole by themselves, and, where Chromium is there, what
 a browser makes of them."""
 import gzip
 import html.parser
@@ -19,7 +19,7 @@ TOP = pathlib.Path(__file__).resolve().parent.parent.parent
 REPORT = TOP / "recipes/report.py"
 SECONDS = 1800
 VOID = {"meta", "link", "br", "img", "line", "rect", "path", "circle"}
-# What a browser is asked once the page stands: what happens at a click, how wide all is, and what is there.
+# What a browser is asked once the page is there: what happens at a click, how wide all is, and what is there.
 QUESTIONS = """
 <script>
 window.addEventListener('load', function () {
@@ -45,7 +45,7 @@ window.addEventListener('load', function () {
 
 
 def chain(count: int) -> str:
-    """A write that is known by so many reads, one session each, and isn't seen: 2 steps more than reads."""
+    """A write that is known by this many reads, one session each, and isn't seen: 2 steps more than reads."""
     lines = ["s0,begin", "s0,w,x,1", "s0,w,k0,1", "s0,commit"]
     for number in range(1, count):
         name = "s%d" % number
@@ -55,7 +55,7 @@ def chain(count: int) -> str:
 
 
 def ring(count: int) -> str:
-    """So many writes of a key, each of which a reader knows of and reads the next one: twice as many steps."""
+    """So many writes of a key, each of which a reader has observed and reads the next one: twice as many steps."""
     lines: List[str] = []
     for number in range(count):
         lines += ["w%d,%s" % (number, word) for word in ("begin", "w,x,%d" % (number + 1), "w,y%d,1" % number, "commit")]
@@ -83,7 +83,7 @@ d,begin
 d,r,x,1
 d,commit
 """
-# An aborted write is read, and b reads x, whose write it knew of, as nil, twice in one transaction.
+# An aborted write is read, and b reads x, whose write it had observed, as nil, twice in one transaction.
 ABORTED_TOO = """a,begin
 a,w,y,7
 a,abort
@@ -132,7 +132,7 @@ c/2,n1,1.000000,
 c/3,n1,1.500000,
 ,,2.000000,move-leader
 """
-# Two writes of which neither client knew of the other; c reads the one of version 20, and then that of version 10.
+# Two writes of which neither client had observed the other; c reads the one of version 20, and then that of version 10.
 VERSIONED = "a,begin\na,w,x,1\na,commit\nb,begin\nb,w,x,2\nb,commit\nc,begin\nc,r,x,2\nc,commit\nc,begin\nc,r,x,1\nc,commit\n"
 VERSIONED_EDN = r"""
 {:type :ok, :f :txn, :value [[:w "a key" [10 5]]], :process 0, :index 0}
@@ -324,7 +324,7 @@ def inputs(tcc: List[str]) -> Iterator[Outcome]:
 
 
 def drawn(tcc: List[str]) -> Iterator[Outcome]:
-    """No line of a picture runs behind a box that isn't one of its ends; each nemesis has a lane of its own."""
+    """No line of a picture runs under a box that isn't one of its ends; each nemesis has a lane of its own."""
     from tcc import chart, lanes
     from tcc.answers import cycle_of
     from tcc.rows import read_history

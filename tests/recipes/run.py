@@ -11,7 +11,8 @@ A case is a JSON object:
                that of the program. Where there is no `dot` on the path, the cases that want Graphviz's are passed over,
                which is said
     input      what the first command reads, lines as parts; a part {"bytes": ".."} is bytes (latin-1) without a line
-               feed, a part {"json": ..} is a line of compact JSON, a part {"file": ".."} a file of the repository
+               feed, a part {"json": ..} is a line of compact JSON, in which "limits" may be "default" or "large" in the
+               place of the numbers, a part {"file": ".."} a file of the repository
     files      files of that folder: names, and parts
     statuses   the exit status of each command; all 0 if left out
     output     what the last command prints, as parts
@@ -19,13 +20,12 @@ A case is a JSON object:
     written    files of that folder after the run: names, and parts
     runs       several runs, each with fields of its own over those of the case
 
-Behind the cases, the help of each script has to show an example, the clients in Python that README and RECORDING show have
-to write what they saw, also where their connections are cut at every call (`clients.py`), each way of reading a history has to
-give the same records, a script that is interrupted to say what it has, and the lines of RECORDING for a large history to end
-with its status (`scripts.py`); the pages of report.py have to be whole, and right in a browser where Chromium is there
-(`pages.py`); and the demos of recipes/redis, recipes/postgres, recipes/galera and recipes/etcd have to find what they show;
-where their servers or their library for Python aren't there, or a round couldn't be played on this machine, they are passed over,
-which is said.
+After the cases, the help of each script has to show an example. The clients in Python that README and RECORDING show have to write
+what they saw, also where their connections are cut at every call (`clients.py`). Each way of reading a history has to give the same
+records, and a script that is interrupted to say what it has. The lines of RECORDING for a large history have to end with its status
+(`scripts.py`). The pages of report.py have to be whole, and right in a browser where Chromium is there (`pages.py`). The demos of
+recipes/redis, recipes/postgres, recipes/galera and recipes/etcd have to find what they show. Where their servers or their library
+for Python aren't there, or a round couldn't be played on this machine, they are passed over, which is said.
 
 The wanted texts were worked out by hand from the definitions. Each difference is one line; the last line is
 `N passed, M failed`.
@@ -52,6 +52,7 @@ import scripts  # noqa: E402
 from arguments import ask_for_tcc  # noqa: E402
 from compared import first_difference, shown  # noqa: E402
 from counted import Outcome, guarded, status_of  # noqa: E402
+from limits import with_limits  # noqa: E402
 
 CASES = HERE / "cases"
 RECIPES = TOP / "recipes"
@@ -93,7 +94,7 @@ def part(one) -> bytes:
     if isinstance(one, str):
         return one.encode() + b"\n"
     if "json" in one:
-        return json.dumps(one["json"], separators=(",", ":")).encode() + b"\n"
+        return json.dumps(with_limits(one["json"]), separators=(",", ":")).encode() + b"\n"
     return (TOP / one["file"]).read_bytes() if "file" in one else one["bytes"].encode("latin-1")
 
 
@@ -182,7 +183,7 @@ def demonstrated(command: List[str]) -> Tuple[int, bytes, bytes]:
 
 
 def unknown_outcomes() -> Iterator[Outcome]:
-    """What recorders make of outcomes that nobody told: a record of their own."""
+    """What recorders make of unknown outcomes: a record of their own."""
     from tcc import noted as record  # which clients.py put on the path
     done = [record.Transaction("a", [("w", "x", 1)], None), record.Transaction("b", [("w", "x", 2)], False, note="why"),
             record.Transaction("c", [("r", "x", 1), ("w", "y", 2)], True)]

@@ -1,5 +1,5 @@
-"""What the scripts of recipes/ do that no case can show: on a history of random operations by either way of reading, when they are
-interrupted, at a terminal, and in the lines of RECORDING that answer for a large history."""
+"""What the scripts of recipes/ do that no case can show. That is on a history of random operations by either way of reading, when
+they are interrupted, at a terminal, and in the lines of RECORDING that answer for a large history."""
 import array
 import fcntl
 import importlib.util
@@ -147,7 +147,7 @@ def lines_of_edn_py() -> Iterator[Outcome]:
 
 
 def random_records(seed: int) -> str:
-    """A few transactions of up to four sessions on two keys, one behind the other, that read some write before, or the initial value."""
+    """A few transactions of up to four sessions on two keys, one after the other, that read some write before, or the initial value."""
     pick = random.Random(seed)
     lines, written = [], {"x": [0], "y": [0]}
     for number in range(pick.randrange(2, 14)):
@@ -382,7 +382,7 @@ def by_survey(tcc: List[str]) -> Iterator[Outcome]:
         program.write_text("#!/bin/sh\ncase \"$*\" in\n'survey --help') ;;\nsurvey*) cat > /dev/null < /dev/null; echo '%s'; echo '%s'; "
                            "exit 1 ;;\n*) exec %s \"$@\" ;;\nesac\n" % (json.dumps(found), json.dumps(last), os.path.abspath(tcc[-1])))
         program.chmod(0o755)
-        records = pathlib.Path(folder, "records.csv")  # the read that is told of is done twice
+        records = pathlib.Path(folder, "records.csv")  # the read that is reported is done twice
         records.write_text("a,begin\na,w,x,1\na,commit\na,begin\na,r,x,0\na,r,x,0\na,w,x,2\na,r,x,2\na,commit\n")
         done = subprocess.run([sys.executable, str(RECIPES / "all.py"), "--tcc", str(program), str(records)], capture_output=True,
                               timeout=SECONDS, check=False)
@@ -395,7 +395,7 @@ def by_survey(tcc: List[str]) -> Iterator[Outcome]:
 
 
 def at_terminal() -> Iterator[Outcome]:
-    """Behind two seconds a script says at a terminal what it does, and takes that away before it ends."""
+    """After two seconds a script says at a terminal what it does, and takes that away before it ends."""
     mine, its = pty.openpty()
     with subprocess.Popen([sys.executable, str(RECIPES / "jepsen.py")], stdin=subprocess.PIPE, stdout=subprocess.PIPE, stderr=its) as script:
         os.close(its)

@@ -1,12 +1,12 @@
 #!/usr/bin/env python3
-"""Runs `tcc explain` where a file that it writes takes only so many bytes, as on a full disk.
+"""Runs `tcc explain` where a file that it writes takes only some bytes, as on a full disk.
 
     filled.py [--tcc PATH]
 
-The system refuses to let a file grow beyond a limit of the process. For each length from 0 to one byte less than the whole text, of a
-slice and of a certificate, the answer is printed and `device` after it, the status is 6, and the file is empty: no part of a slice may
-pass for a history, least of all one that says `consistent`. At the whole length all of it is written. Each difference is one line; the
-last line is `N passed, M failed`.
+The system refuses to let a file grow beyond a limit of the process. For each length from 0 to one byte less than the whole text, of
+a slice and of a certificate, the answer is printed and `device` after it. The status is 6, and the file is empty. No part of a
+slice may pass for a history, least of all one that says `consistent`. At the whole length all of it is written. Each difference is
+one line; the last line is `N passed, M failed`.
 """
 import pathlib
 import resource
@@ -25,7 +25,7 @@ RECORDS = STALE + "".join("s%02d,begin\ns%02d,commit\n" % (i, i) for i in range(
 
 
 def run(tcc, option, folder, most):
-    """A run whose files may have so many bytes, and what it leaves in the file of the option."""
+    """A run whose files may have this many bytes, and what it leaves in the file of the option."""
     left = pathlib.Path(folder, "left")
 
     def limit():
@@ -37,7 +37,7 @@ def run(tcc, option, folder, most):
 
 
 def wrong_with(tcc, option, folder, most, whole):
-    """What is otherwise than wanted where so many bytes of a whole text fit, or None."""
+    """What is otherwise than wanted where this many bytes of a whole text fit, or None."""
     done, left = run(tcc, option, folder, most)
     wanted = (6, b"") if most < len(whole) else (1, whole)
     if done.returncode != wanted[0]:

@@ -4,8 +4,8 @@ the one may go to the other.
 
     numbers.py [--tcc PATH]
 
-The last line is `N passed, M failed`. A number is given by the file system, so files are made on one that is held in
-memory until one has the number of a file that is there; where that can't be, it is said and nothing is run.
+The last line is `N passed, M failed`. A number is given by the file system, so files are made on one that is held in memory until
+one has the number of a file that is there. Where that can't be, that is reported and nothing is run.
 """
 import os
 import pathlib

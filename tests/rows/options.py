@@ -23,6 +23,7 @@ sys.path.insert(0, str(TOP / "tests"))
 from arguments import status_on_tcc  # noqa: E402
 from compared import first_difference, shown  # noqa: E402
 from counted import Outcome  # noqa: E402
+from limits import of_answer  # noqa: E402
 from machine import processors  # noqa: E402
 
 STALE = "a,begin\na,w,x,1\na,commit\na,begin\na,r,x,0\na,commit\n"
@@ -32,10 +33,7 @@ DERIVED = {"from": "a/1", "key": "x", "kind": "derived", "reader": "a/2", "to": 
 CYCLE = [{"from": "init", "kind": "session", "to": "a/1"}, {**DERIVED, "walk": WALK}]
 CYCLE_IN_FULL = [CYCLE[0], {**DERIVED, "walk": WALK, "missed": 2, "read": 5, "value": 0, "written": None}]
 MANY = ["s%02d" % i for i in range(1, 66)]
-LIMITS = {
-    False: {"bytes": 134217728, "keys": 1024, "operations": 256, "seals": 256, "sessions": 64, "transactions": 4095},
-    True: {"bytes": 1073741824, "keys": 1048576, "operations": 256, "seals": 256, "sessions": 65535, "transactions": 1048575},
-}
+LIMITS = {large: of_answer(large) for large in (False, True)}
 VERSION = "0.1.0"
 ASKS = [["--level", "atomic"], ["--workers", "3"], ["--json"], ["--quiet"], ["--full"], ["--require", "ENOUGH"], ["--require", "MORE"],
         ["--certificate", "certificate"], ["--slice", "slice"]]
@@ -86,7 +84,7 @@ HISTORIES = {
 
 
 def line(value: object) -> str:
-    """A line of JSON: the compact text, whose keys stand in byte order."""
+    """A line of JSON: the compact text, whose keys are in byte order."""
     return json.dumps(value, sort_keys=True, separators=(",", ":")) + "\n"
 
 

@@ -3,11 +3,10 @@
 
     run.py [--tcc PATH] [--only TEXT] [--workers N [--searched] | --checker [PATH]] [NAME ..]
 
-PATH is split into words, so that "env X=1 tcc" will do. Each difference is one
-line; the last line is `N passed, M failed`. README.md says what a case holds.
-With --workers each run of `explain` gets that number of workers, unless it says one itself, and has to do
-the same as without it; with --searched only those are done that get it and show an anomaly, for which workers search. With
---checker the runs of `check` alone are done, by the program that has nothing else, called `tcc` by a link.
+PATH is split into words, so that "env X=1 tcc" will do. Each difference is one line; the last line is `N passed, M failed`.
+README.md says what a case holds. With --workers each run of `explain` gets that number of workers, unless it says one itself, and
+has to do the same as without it. With --searched only those are done that get it and show an anomaly, for which workers search.
+With --checker the runs of `check` alone are done, by the program that has nothing else, called `tcc` by a link.
 """
 import concurrent.futures
 import contextlib
@@ -53,7 +52,7 @@ def value(rule, known):
 
 
 class Ruled(string.Formatter):
-    """Fills in texts in which `{rule}` and `{rule:form}` stand for values."""
+    """Fills in texts in which `{rule}` and `{rule:form}` represent values."""
 
     def get_field(self, rule, arguments, known):
         return value(rule, known), rule
@@ -185,7 +184,7 @@ def given(run, folder, held):
 
 
 def broken_off(taken, held):
-    """A pipe to write to, whose reader takes so many bytes and then closes it."""
+    """A pipe to write to, whose reader takes this many bytes and then closes it."""
     reading, writing = os.pipe()
 
     def take():
@@ -216,7 +215,7 @@ def terminal(held):
 
 
 def seen_on(screen):
-    """What a terminal has shown, part by part: the system may hand on one write after the other."""
+    """What a terminal has shown, part by part: the system may forward one write after the other."""
     with contextlib.suppress(BlockingIOError):
         while True:
             yield os.read(screen, 1 << 16)
@@ -229,7 +228,7 @@ def is_searched(run):
 
 
 def by_workers(run, workers, searched):
-    """The run by so many workers, where it is an explanation and doesn't say the number itself; else as it is. None where
+    """The run by this many workers, where it is an explanation and doesn't say the number itself; else as it is. None where
     searches alone are wanted and it is none."""
     command, *others = run["arguments"] or [""]
     says = {word.split("=")[0] for word in others if isinstance(word, str)} & {"--workers", "--help", "-h"}

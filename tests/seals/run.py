@@ -3,11 +3,11 @@
 
     run.py [--tcc PATH]
 
-The input has 100 seals. First writes go from session to session, each answered by an order. Then a session reads a value
-that is gone by the first of these writes, over a chain of 18 reads: an anomaly of 20 steps. Readers at earlier positions
-of the chain make it cheaper by one step each, down to 3, and each such answer is followed by four more: at a seal with nothing
-new, at one where a read can't be traced, at one where it can, and at one behind a session that sorts first, so that all
-transactions have other numbers. Both levels, 1, 2 and 32 workers.
+The input has 100 seals. First writes go from session to session, each answered by an order. Then a session reads a value that is
+gone by the first of these writes, over a chain of 18 reads: an anomaly of 20 steps. Readers at earlier positions of the chain make
+it cheaper by one step each, down to 3, and each such answer is followed by four more. These are at a seal with nothing new, at one
+where a read can't be traced, and at one where it can. The last is at one after a session that sorts first, so that all transactions
+have other numbers. Both levels, 1, 2 and 32 workers.
 
 Each difference is one line; the last line is `N passed, M failed`.
 """

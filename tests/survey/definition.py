@@ -203,7 +203,7 @@ def all_from(out: List[Set[int]], start: int) -> Set[int]:
 
 
 class Survey(NamedTuple):
-    """What is told: the contradicted reads, or None where pairs are on a circle, the faults, and how many reads are judged."""
+    """What is printed: the contradicted reads, or None where pairs are on a circle, the faults, and how many reads are judged."""
 
     history: History
     contradicted: Optional[List[Contradicted]]

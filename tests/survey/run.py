@@ -3,10 +3,10 @@
 
     run.py [--tcc PATH] [--count N] [--seed N]
 
-A read of x from a by c is contradicted by b where b is another writer of x, b reaches c by a walk of pairs (at `atomic` by one
-pair), and a reaches b by a walk of pairs. `tcc survey` lists such reads, each with its name, and what can't be judged, or names
-transactions in a circle of pairs; `definition.py` follows all walks instead. Most histories are small, some have more sessions than
-one block or two have room for, and are surveyed with --large; in some, operations are altered, so that reads can't be judged.
+A read of x from a by c is contradicted by another writer b of x where b reaches c and a reaches b by a walk of pairs; b at `atomic`
+by one pair. `tcc survey` lists such reads, each with its name, and what can't be judged, or names transactions in a circle of
+pairs; `definition.py` follows all walks instead. Most histories are small, some have more sessions than one block or two have room
+for, and are surveyed with --large; in some, operations are altered, so that reads can't be judged.
 
 Each difference is one line; the last line is `N passed, M failed`.
 """

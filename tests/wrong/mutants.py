@@ -1,4 +1,4 @@
-"""The mutants of a crate, wrong bodies of its functions: what each replaces, in which function, and which are tried together."""
+"""The mutants of a crate, bodies of its functions with a planted mistake: what each replaces, in which function, and which are tried together."""
 import pathlib
 import re
 from typing import Dict, Iterator, List, NamedTuple, Optional, Set, Tuple
@@ -16,14 +16,14 @@ class Unusable(Exception):
 
 
 class Pair(NamedTuple):
-    """A text that stands once in a file, and what comes in its place."""
+    """A text that is once in a file, and what comes in its place."""
     file: str
     old: str
     new: str
 
 
 class Mutant:
-    """A mutant, with the function in whose body all that it replaces stands; None where there is no such function."""
+    """A mutant, with the function in whose body all that it replaces is; None where there is no such function."""
 
     def __init__(self, path: pathlib.Path):
         self.path, self.name = path, path.parent.parent.name + "/" + path.stem

@@ -3,8 +3,8 @@
 
     run.py [--after-gate] [--lanes N] [--anew] [--kept FOLDER] [--top FOLDER] [CRATE ..]
 
-A mutant is a wrong body of a function, in a file crates/CRATE/wrong/NAME.edit: a line `why:`, which names the clause that
-refuses it, a line `file:`, and pairs of lines `old:` and `new:`. Each old text stands once in its file.
+A mutant is a body of a function with a planted mistake, in a file crates/CRATE/wrong/NAME.edit: a line `why:`, which names the clause that
+refuses it, a line `file:`, and pairs of lines `old:` and `new:`. Each old text is once in its file.
 
 One check tries as many mutants as there are functions with one. A round of a crate has one mutant of a function at most, all of
 them in one copy, and checks these functions alone with what they call (`rattle check --only`). The obligations of a function are
@@ -85,7 +85,7 @@ def words_of_kit(top: pathlib.Path) -> Dict[str, List[str]]:
 
 
 class Repository:
-    """The crates of a repository, and the libraries that stand for them in a check."""
+    """The crates of a repository, and the libraries that represent them in a check."""
 
     def __init__(self, top: pathlib.Path):
         self.top, self.libraries = top, stands_on(top)

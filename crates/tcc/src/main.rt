@@ -1,5 +1,5 @@
 //! `tcc explain` reads the records of a history, says whether it is consistent at a level, and gives a certificate of
-//! that; `tcc check` judges one; `tcc survey` lists the contradicted reads of a history.
+//! that; `tcc check` judges one; `tcc survey` lists the contradicted reads of a history. `tcc watch` answers while records come.
 #![tactic(auto)]
 
 mod watch;
@@ -10,19 +10,25 @@ use std::process::ExitCode;
 use std::sync::Wait;
 use std::thread::{self, Threads};
 use std::time::Clock;
+use tcc_base::Workers;
 use tcc_files::{
-    Apart, Input, Quiet, Telling, are_waited_for, check_files, check_opened, exit_code,
-    is_waited_for, open_both, open_input, open_output, open_outputs, print_unopened, size_of,
+    Apart, Quiet, RecordInput, Telling, are_waited_for, check_files, exit_code, is_waited_for,
+    open_both, open_input, open_output, open_outputs, print_unopened, size_of,
 };
-use tcc_full_run::{Asked, Limits, Run, run_full, tell_unread};
+use tcc_full::{Asked, Limits, RunContext, run_full, tell_unread};
+use tcc_large_check::run_check_large_watched;
 use tcc_large_run::run_large;
 use tcc_run::{OpenGate, Options, run_explain};
-use tcc_survey_run::{SurveyOptions, run_survey};
+use tcc_survey_run::{SurveyOptions, run_survey, run_survey_watched};
+use tcc_watch_run::run_watch;
 use tcc_words::{Request, VERSION, read};
 use watch::Watch;
 use watched::{WatchedReader, WatchedWriter};
 
-/// The paths of the files for what comes behind the answers, if they are given: the certificate of the last, and a slice.
+/// What a run does while it reads its records.
+const READING: &str = "reading records";
+
+/// The paths of the files for what comes after the answers, if they are given: the certificate of the last, and a slice.
 #[derive(Clone, Copy)]
 struct Paths<'a> {
     certificate: Option<&'a str>,
@@ -35,7 +41,7 @@ fn run_shown<W: Write>(
     rt: &HostRuntime,
     threads: &(impl Threads + Wait + Clock + Sync),
     options: Options,
-    input: Telling<'_, Input>,
+    input: Telling<'_, RecordInput>,
     certificate: Option<Telling<'_, Apart>>,
     slice: Option<Telling<'_, Apart>>,
     out: &mut W,
@@ -67,12 +73,12 @@ fn run_shown<W: Write>(
 }
 
 /// Explains the records of the input, up to the large limits, and gives the status of the run. If paths are given, their files are
-/// for what comes behind the answers: the certificate of the last, and a slice.
+/// for what comes after the answers: the certificate of the last, and a slice.
 fn explain_large<W: Write>(
     rt: &HostRuntime,
     threads: &(impl Threads + Wait + Clock + Sync),
     options: Options,
-    input: Telling<'_, Input>,
+    input: Telling<'_, RecordInput>,
     paths: Paths<'_>,
     out: &mut W,
 ) -> u8 {
@@ -91,7 +97,7 @@ fn explain<W: Write>(
     rt: &HostRuntime,
     threads: &(impl Threads + Wait + Clock + Sync),
     options: Options,
-    input: Telling<'_, Input>,
+    input: Telling<'_, RecordInput>,
     certificate: Option<&str>,
     out: &mut W,
 ) -> u8 {
@@ -131,7 +137,7 @@ fn explain_full<W: Write>(
     };
     match open_input(rt, history) {
         Ok(input) => {
-            let run = Run {
+            let run = RunContext {
                 rt: threads,
                 alloc: rt.alloc(),
                 options: &options,
@@ -147,7 +153,7 @@ fn explain_full<W: Write>(
 }
 
 /// Explains the records at the path, or of the standard input, and gives the status of the run. If paths are given, their files are
-/// for what comes behind the answers.
+/// for what comes after the answers.
 fn explain_records<W: Write>(
     rt: &HostRuntime,
     threads: &(impl Threads + Wait + Clock + Sync),
@@ -169,21 +175,85 @@ fn explain_records<W: Write>(
     }
 }
 
+/// How many bytes the records have, if they are those of a file; else 0.
+fn size_of_input(input: &RecordInput) -> u64 {
+    match input {
+        RecordInput::File(file) => size_of(file),
+        RecordInput::Standard(_) => 0,
+    }
+}
+
+/// Lists the contradicted reads of records up to the large limits, and gives the status of the run. At a terminal a run that takes longer
+/// shows what it is doing, and how far it is: how much of a file it has read, and how many blocks of sessions are done.
+fn survey_shown<W: Write>(
+    rt: &HostRuntime,
+    threads: &(impl Threads + Wait + Clock + Sync),
+    options: SurveyOptions,
+    input: Telling<'_, RecordInput>,
+    out: &mut W,
+) -> u8 {
+    let is_shown = is_waited_for(rt, input.stream());
+    let size = size_of_input(input.stream());
+    let watch = Watch::new(threads, rt.stderr());
+    let watch = &watch;
+    thread::scope(thread::scope_env(), threads, move |scope| -> u8 {
+        if is_shown {
+            let _ = scope.spawn(move || watch.show());
+        }
+        let records = WatchedReader::new(input, watch, READING, size, "surveying");
+        let mut out = WatchedWriter::new(out, watch);
+        let mut notes = WatchedWriter::new(rt.stderr(), watch);
+        let code = run_survey_watched(rt.alloc(), records, &mut out, &mut notes, options, watch);
+        watch.finish();
+        code
+    })
+}
+
 /// Lists the contradicted reads of the records at the path, or of the standard input, and gives the status of the run.
 fn survey<W: Write>(
     rt: &HostRuntime,
+    threads: &(impl Threads + Wait + Clock + Sync),
     options: SurveyOptions,
     history: Option<&str>,
     out: &mut W,
 ) -> u8 {
     match open_input(rt, history) {
-        Ok(input) => run_survey(rt.alloc(), input, out, &mut rt.stderr(), options),
+        Ok(input) => {
+            if options.large {
+                survey_shown(rt, threads, options, input, out)
+            } else {
+                run_survey(rt.alloc(), input, out, &mut rt.stderr(), options)
+            }
+        }
+        Err(error) => print_unopened(error.kind(), options.json, out),
+    }
+}
+
+/// Answers for the records at the path, or of the standard input, while they come, and gives the status of the run.
+fn watch_records<W: Write>(
+    rt: &HostRuntime,
+    threads: &(impl Threads + Sync),
+    options: Options,
+    history: Option<&str>,
+    out: &mut W,
+) -> u8 {
+    match open_input(rt, history) {
+        Ok(input) => run_watch(
+            threads,
+            rt.alloc(),
+            input,
+            out,
+            &mut rt.stderr(),
+            options,
+            &OpenGate,
+        ),
         Err(error) => print_unopened(error.kind(), options.json, out),
     }
 }
 
 /// Checks the certificate of the one path for the history of the other, within the large limits, and gives the status of the run. At a
-/// terminal a run that takes longer shows what it is doing, and how much of a file it has read.
+/// terminal a run that takes longer shows what it is doing, and how far it is: how much of a file it has read, and how many blocks of
+/// sessions are done.
 fn check_large<W: Write>(
     rt: &HostRuntime,
     threads: &(impl Threads + Wait + Clock + Sync),
@@ -203,13 +273,7 @@ fn check_large<W: Write>(
         if is_shown {
             let _ = scope.spawn(move || watch.show());
         }
-        let records = WatchedReader::new(
-            history,
-            watch,
-            "reading records",
-            sizes.0,
-            "tracing reads",
-        );
+        let records = WatchedReader::new(history, watch, READING, sizes.0, "tracing reads");
         let text = WatchedReader::new(
             certificate,
             watch,
@@ -219,7 +283,7 @@ fn check_large<W: Write>(
         );
         let mut out = WatchedWriter::new(out, watch);
         let mut notes = WatchedWriter::new(rt.stderr(), watch);
-        let code = check_opened(rt.alloc(), Ok((records, text)), true, &mut out, &mut notes);
+        let code = run_check_large_watched(rt.alloc(), records, text, &mut out, &mut notes, watch);
         watch.finish();
         code
     })
@@ -261,7 +325,22 @@ fn main(rt: HostRuntime) -> ExitCode {
             },
         ) => {
             let options = SurveyOptions { level, json, large };
-            survey(&rt, options, history.as_deref(), &mut out)
+            survey(&rt, &rt, options, history.as_deref(), &mut out)
+        }
+        Ok(
+            Request::Watch {
+                level,
+                json,
+                history,
+            },
+        ) => {
+            let options = Options {
+                level,
+                workers: Workers::ONE,
+                json,
+                required: 0,
+            };
+            watch_records(&rt, &rt, options, history.as_deref(), &mut out)
         }
         Ok(Request::Check(files)) => {
             let (history, certificate) = (files.history.as_str(), files.certificate.as_str());

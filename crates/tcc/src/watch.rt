@@ -1,8 +1,9 @@
-//! What a run of `explain --large` or `check --large` is doing, on one line of the terminal that shows the errors.
+//! What a run of `explain --large`, `survey --large` or `check --large` is doing, on one line of the terminal that shows the errors.
 
 use std::io::{self, Write};
 use std::sync::{Condvar, Mutex, Wait};
 use std::time::{Clock, Duration, Instant};
+use tcc_base::Progress;
 use tcc_large_run::{Stage, Watcher};
 use tcc_run::Gate;
 
@@ -19,7 +20,7 @@ const BLANK: &[u8] = b"                                        \r";
 #[derive(Clone, Copy)]
 struct Doing {
     words: &'static str,
-    /// How many bytes were read, and how many there are; 0 where nobody knows, or where nothing is read.
+    /// How many bytes were read, or parts of the work done, and how many there are; 0 where nobody knows.
     done: u64,
     all: u64,
 }
@@ -49,7 +50,7 @@ fn percent(done: u64, all: u64) -> Option<u64> {
 }
 
 impl Line {
-    /// Shows what is being done, how far it is, if that is known, and for how many seconds the run has lasted. What is written next stands in its place.
+    /// Shows what is being done, how far it is, if that is known, and for how many seconds the run has lasted. What is written next takes its place.
     fn show(&mut self, seconds: u64) {
         if let Some(Doing { words, done, all }) = self.doing {
             // What standard error takes changes nothing.
@@ -61,7 +62,7 @@ impl Line {
         }
     }
 
-    /// Clears the line, if something stands on it.
+    /// Clears the line, if something is on it.
     fn clear(&mut self) {
         if self.is_shown {
             let _ = self.errors.write_all(BLANK);
@@ -101,7 +102,7 @@ impl<'a, R: Wait + Clock> Watch<'a, R> {
         Some(self.start?.elapsed(self.rt).ok()?.as_secs())
     }
 
-    /// The run does this from now on, and reads so many bytes for it, if that is known; else 0.
+    /// The run does this from now on, and reads this many bytes for it, if that is known; else 0.
     pub fn now(&self, words: &'static str, all: u64) {
         let mut line = self.line.lock(self.rt);
         line.clear();
@@ -112,7 +113,7 @@ impl<'a, R: Wait + Clock> Watch<'a, R> {
         });
     }
 
-    /// So many bytes more were read.
+    /// This many bytes more were read.
     pub fn read(&self, count: usize) {
         let mut line = self.line.lock(self.rt);
         if let Some(doing) = &mut line.doing {
@@ -163,5 +164,15 @@ impl<R: Wait + Clock + Sync> Watcher for Watch<'_, R> {
 
     fn end(&self) {
         self.pause();
+    }
+}
+
+impl<R: Wait + Clock + Sync> Progress for Watch<'_, R> {
+    fn done(&self, count: usize, all: usize) {
+        let mut line = self.line.lock(self.rt);
+        if let Some(doing) = &mut line.doing {
+            doing.done = count as u64;
+            doing.all = all as u64;
+        }
     }
 }

@@ -1,11 +1,11 @@
-//! Readers and writers whose watcher is told what a run is doing.
+//! Readers and writers that tell a watcher what a run is doing.
 
 use crate::watch::Watch;
 use std::io::{self, Read, Write};
 use std::sync::Wait;
 use std::time::Clock;
 
-/// A reader whose watcher is told what the run does while it is read, and what it does after that.
+/// A reader that tells its watcher what the run does while it is read, and what it does after that.
 #[derive(Drop)]
 pub struct WatchedReader<'a, R, T: Wait + Clock> {
     stream: R,
@@ -18,7 +18,7 @@ pub struct WatchedReader<'a, R, T: Wait + Clock> {
 }
 
 impl<'a, R, T: Wait + Clock> WatchedReader<'a, R, T> {
-    /// The stream, which has so many bytes, or 0 if nobody knows: the run does the one while it is read, and the other after that.
+    /// The stream, which has this many bytes, or 0 if nobody knows: the run does the one while it is read, and the other after that.
     pub fn new(
         stream: R,
         watch: &'a Watch<'a, T>,

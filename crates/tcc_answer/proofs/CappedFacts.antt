@@ -1,4 +1,4 @@
--- Rows that go out capped, one after the other.
+-- Rows that are written capped, one after the other.
 use Rattle.std.proofs.Common.{◌≡◌, ◌<◌, ◌+◌, ◌++◌, ℕ, List, [], ◌∷◌, Option, length, map, take, get_or, sym, ap, ◌∙◌, arith}
 use Rattle.std.proofs.lemmas.List.{get_or-map, length-map}
 use Rattle.tcc_bits.specs.Packed.{at_most}

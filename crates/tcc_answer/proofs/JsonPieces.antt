@@ -14,7 +14,7 @@ use Rattle.tcc_answer.specs.Shapes.{shape_of}
 use Rattle.tcc_answer.specs.Texts.{shape_word}
 use Rattle.tcc_answer.specs.private.Pieces.{derived_head, later_item}
 
--- the items behind the first, and the bracket
+-- the items after the first, and the bracket
 later_items : {X : Type 0} (form : X → Data) (xs : List X) → items_text true (items_of (map form xs)) ≡ flat_map (later_item form) xs ++ 93 ∷ []
 later_items form [] = refl
 later_items form (x ∷ xs) =
@@ -33,7 +33,7 @@ derived_object : (labels : List (List ℕ)) (from to : ℕ) (key : List ℕ) (re
 unfolding serde_json_on_literals word_text
 derived_object labels from to key reader walk = simp append_assoc refl
 
--- a derived link whose pieces stand behind a text
+-- a derived link whose pieces come after a text
 pub derived_behind : (labels : List (List ℕ)) (one : Link) (from to : ℕ) (key : List ℕ) (reader : ℕ) (walk : List Step)
     → one ≡ link.Derived from to key reader walk → (start end : ℕ) → start ≡ link_from one → end ≡ link_to one
     → (old begun walked all : List ℕ) → begun ≡ old ++ derived_head labels start end key reader

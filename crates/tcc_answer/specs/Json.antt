@@ -1,4 +1,4 @@
--- The JSON of an answer: one line with the compact text of one object, whose keys stand in byte order.
+-- The JSON of an answer: one line with the compact text of one object, whose keys are in byte order.
 use Rattle.std.specs.Prelude.{ℕ, ◌-◌, Bool, true, false, List, ◌++◌, length, map, codes, if◌then◌else◌}
 use Rattle.serde_json.specs.Data.{Data, Members, boolean, number, unsigned, string, array, object, no_members, member}
 use Rattle.serde_json.specs.View.{items_of}
@@ -8,7 +8,7 @@ use Rattle.tcc_graph.specs.declared.step.Step.{Step}
 use Rattle.tcc_graph.specs.declared.step.Step.TheVariants as step
 use Rattle.tcc_graph.specs.declared.link.Link.{Link}
 use Rattle.tcc_graph.specs.declared.link.Link.TheVariants as link
-use Rattle.tcc_answer.specs.Labels.{label_at}
+use Rattle.tcc_graph.specs.Labels.{label_at}
 use Rattle.tcc_answer.specs.Shapes.{shape_of}
 use Rattle.tcc_answer.specs.Texts.{shape_word}
 use Rattle.tcc_answer.specs.Answers.{LabelledOrder, LabelledCycle}
@@ -78,6 +78,6 @@ answer_json (answer.Anomaly c) = cycle_json c
 abbrev pub json_line : Data → List ℕ
 json_line value = compact_text value ++ codes "\n"
 
--- a text in quotation marks, as it stands in a line
+-- a text in quotation marks, as it is in a line
 unfoldable pub word_text : List ℕ → List ℕ
 word_text text = compact_text (string text)

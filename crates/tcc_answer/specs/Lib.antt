@@ -1,4 +1,3 @@
-pub mod Labels
 pub mod Shapes
 pub mod Answers
 pub mod Claims

@@ -1,11 +1,11 @@
--- The text of an answer, as it goes out: ASCII, each line ended by one line feed.
+-- The text of an answer, as it is written: ASCII, each line ended by one line feed.
 use Rattle.std.specs.Prelude.{ℕ, ◌-◌, Bool, true, List, [], ◌++◌, length, flat_map, codes, decimal, if◌then◌else◌}
 use Rattle.tcc_graph.specs.Links.{cost}
 use Rattle.tcc_graph.specs.declared.step.Step.{Step}
 use Rattle.tcc_graph.specs.declared.step.Step.TheVariants as step
 use Rattle.tcc_graph.specs.declared.link.Link.{Link}
 use Rattle.tcc_graph.specs.declared.link.Link.TheVariants as link
-use Rattle.tcc_answer.specs.Labels.{label_at}
+use Rattle.tcc_graph.specs.Labels.{label_at}
 use Rattle.tcc_answer.specs.Shapes.{shape_of}
 use Rattle.tcc_answer.specs.Answers.{LabelledOrder, LabelledCycle}
 use Rattle.tcc_answer.specs.declared.answer.Answer.{Answer}
@@ -48,8 +48,8 @@ step_text labels (step.Reads u v key) = codes "reads " ++ read_text labels u v k
 abbrev pub walk_text : List (List ℕ) → List Step → List ℕ
 walk_text labels walk = flat_map (λ s. codes "  " ++ step_text labels s) walk
 
--- a step's line; or derived B -> A by KEY, read by C, then the walk from B to C, and then the read against which it
--- stands: against A -> C by KEY, after two spaces
+-- a step's line; or derived B -> A by KEY, read by C, then the walk from B to C, and then the read that it
+-- contradicts: against A -> C by KEY, after two spaces
 abbrev pub link_text : List (List ℕ) → Link → List ℕ
 link_text labels (link.Session u v) = step_text labels (step.Session u v)
 link_text labels (link.Reads u v key) = step_text labels (step.Reads u v key)

@@ -9,7 +9,6 @@ ghost use Rattle.tcc_answer.specs.Claims.{certificate_of, cycle_claim, order_cla
 
 use crate::CappedRows;
 use crate::cycle::Cycle;
-use crate::labels::Labels;
 use crate::shape::{Shape, shape_of};
 use std::alloc::Global;
 use std::io::Write;
@@ -18,7 +17,7 @@ use tcc_cert::{
     CertWriteFault, Certificate, CycleTable, CycleWriter, Links, Numbers, OrderClaim, Table,
     Version, write, write_first_lines,
 };
-use tcc_graph::{Level, Link};
+use tcc_graph::{Labels, Level, Link};
 
 /// A commit order of a history at a level, with its certificate and the names that it prints.
 #[derive(Drop)]
@@ -157,7 +156,7 @@ impl Anomaly {
     }
 
     /// Writes the text of the certificate, with the answer's own level and links, row by row; no memory is taken. Where a
-    /// write fails, a part of the text, from its front, went out; an interrupted write and one that takes no bytes are
+    /// write fails, a part of the text, from its front, was written; an interrupted write and one that takes no bytes are
     /// failures too.
     pub fn write_certificate<W: Write>(&self, out: &mut W) -> Result<(), CertWriteFault>
         ensures whole { OnOk result (Appends (W.contents out.old) (W.contents out.new)
@@ -209,7 +208,7 @@ impl Anomaly {
         &self.labels
     }
 
-    /// The cycle as it is told; none has fewer steps.
+    /// The cycle as it is reported; none has fewer steps.
     pub(crate) fn cycle(&self) -> Cycle<'_>
         ensures labels { result.labels.now ≡ self.now.labels }
         ensures links { result.links.now ≡ self.now.links }
@@ -263,7 +262,7 @@ pub enum Answer {
 
 impl Answer {
     /// Writes the text of the certificate, with the answer's own level, order or links; no memory is taken. Where a write
-    /// fails, a part of the text, from its front, went out; an interrupted write and one that takes no bytes are failures too.
+    /// fails, a part of the text, from its front, was written; an interrupted write and one that takes no bytes are failures too.
     pub fn write_certificate<W: Write>(&self, out: &mut W) -> Result<(), CertWriteFault>
         ensures whole { OnOk result (Appends (W.contents out.old) (W.contents out.new) (certificate_text (certificate_of self.now))) }
         ensures part { OnErr result ((n : ℕ) × Appends (W.contents out.old) (W.contents out.new) (take n (certificate_text (certificate_of self.now)))) }

@@ -77,7 +77,7 @@ impl Anomaly {
 }
 
 impl Answer {
-    /// The certificate, with the answer's own level, order or links, as a value of its own. That of an order is lent by
+    /// The certificate, with the answer's own level, order or links, as a value of its own. That of an order is borrowed by
     /// `Commit::certificate`.
     pub fn certificate(&self, alloc: Global) -> Result<Certificate, NoMemory>
         ensures { IfOk result (λ certificate. certificate ≡ certificate_of self.now) }

@@ -1,9 +1,8 @@
-//! Cycles as they are told.
+//! Cycles as they are reported.
 ghost use Rattle.std.specs.Prelude.{◌≡◌};
 ghost use Rattle.tcc_graph.specs.Links.{cost};
 
-use crate::labels::Labels;
-use tcc_graph::Link;
+use tcc_graph::{Labels, Link};
 
 /// The links of a cycle, with the names of the transactions.
 #[derive(Clone, Copy)]
@@ -12,7 +11,7 @@ pub struct Cycle<'a> {
     pub links: &'a [Link],
     /// How many steps the links have together.
     pub steps: usize,
-    /// It is proved that no cycle has fewer steps. Where it isn't, that is told.
+    /// It is proved that no cycle has fewer steps. Where it isn't, that is reported.
     pub least: bool,
     ghost counted: { steps ≡ cost links.now },
 }

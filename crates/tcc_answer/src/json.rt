@@ -7,7 +7,6 @@ ghost use Rattle.serde_json.specs.Written.{has_float};
 ghost use Rattle.tcc_answer.specs.declared.fault.WriteFault.TheVariants as fault;
 ghost use Rattle.tcc_answer.specs.Json.{label_json, order_json, anomaly_json, answer_json, json_line};
 
-use crate::labels::Labels;
 use crate::links_json::quoted;
 use crate::pieces::{joined, push, push_objects, unless};
 use crate::text::shape_word;
@@ -16,7 +15,8 @@ use crate::{Answer, Commit, Cycle, WriteFault, shape_of};
 use serde_json::{Value, json};
 use std::alloc::{AllocError, Global};
 use std::io::Write;
-use tcc_sending::send;
+use tcc_base::send;
+use tcc_graph::Labels;
 use tcc_txn::NoMemory;
 
 impl Values<u32> for Labels {
@@ -95,8 +95,8 @@ fn json_line(alloc: Global, answer: &Answer) -> Result<Vec<u8>, NoMemory>
     }
 }
 
-/// Writes the answer as one line of JSON. All memory for it is had before a byte goes out. An interrupted write and one
-/// that takes no bytes are failures too; then a part of the line, from its front, went out.
+/// Writes the answer as one line of JSON. All memory for it is had before a byte is written. An interrupted write and one
+/// that takes no bytes are failures too; then a part of the line, from its front, was written.
 pub fn write_json<W: Write>(alloc: Global, answer: &Answer, out: &mut W) -> Result<(), WriteFault>
     ensures whole { OnOk result (Appends (W.contents out.old) (W.contents out.new) (json_line (answer_json answer.now))) }
     ensures part { OnErr result ((n : ℕ) × Appends (W.contents out.old) (W.contents out.new) (take n (json_line (answer_json answer.now)))) }

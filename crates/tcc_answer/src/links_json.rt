@@ -6,11 +6,10 @@ ghost use Rattle.tcc_graph.specs.declared.step.Step.TheVariants as step;
 ghost use Rattle.tcc_answer.specs.Json.{link_json, step_json, word_text};
 ghost use Rattle.tcc_answer.specs.private.Pieces.{derived_head};
 
-use crate::labels::Labels;
 use crate::pieces::{Objects, push, push_objects, push_value};
 use serde_json::{Value, json};
 use std::alloc::{AllocError, Global};
-use tcc_graph::{Link, Step};
+use tcc_graph::{Labels, Link, Step};
 use tcc_txn::{Name, NoMemory};
 
 fn session_json(alloc: Global, labels: &Labels, from: u32, to: u32) -> Result<Value, AllocError>
@@ -124,7 +123,7 @@ impl Objects<Link> for Labels {
     }
 }
 
-/// Adds the objects of links, and the bracket behind them: what a list of links has behind its first bracket.
+/// Adds the objects of links, and the bracket after them: what a list of links has after its first bracket.
 pub fn push_links_json(
     alloc: Global,
     text: &mut Vec<u8>,

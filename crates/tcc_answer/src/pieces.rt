@@ -56,7 +56,7 @@ pub trait Objects<T> {
         ensures { OnOk result (text.new.items ≡ text.old.items ++ compact_text (json self.now item.now)) };
 }
 
-/// Adds the objects of items, each behind a comma.
+/// Adds the objects of items, each after a comma.
 fn push_later<T, O: Objects<T>>(
     alloc: Global,
     text: &mut Vec<u8>,
@@ -72,7 +72,7 @@ fn push_later<T, O: Objects<T>>(
     Ok(())
 }
 
-/// Adds the objects of items and the bracket behind them: what a list has behind its first bracket. It is made step by
+/// Adds the objects of items and the bracket after them: what a list has after its first bracket. It is made step by
 /// step, since a value of all items would take many times the room of their text.
 pub fn push_objects<T, O: Objects<T>>(
     alloc: Global,

@@ -5,13 +5,12 @@ ghost use Rattle.tcc_graph.specs.declared.step.Step.TheVariants as step;
 ghost use Rattle.tcc_answer.specs.declared.fault.WriteFault.TheVariants as fault;
 ghost use Rattle.tcc_answer.specs.Texts.{labels_text, order_text, pair_text, read_text, step_text, walk_text, link_text, shape_word, anomaly_text, answer_text};
 
-use crate::labels::Labels;
 use crate::pieces::{joined, push, unless};
 use crate::{Answer, Commit, Cycle, Shape, WriteFault, shape_of};
 use std::alloc::Global;
 use std::io::Write;
-use tcc_graph::{Link, Step};
-use tcc_sending::send;
+use tcc_base::send;
+use tcc_graph::{Labels, Link, Step};
 use tcc_txn::{Name, NoMemory};
 
 /// The labels, each after a space.
@@ -179,8 +178,8 @@ fn text_of(alloc: Global, answer: &Answer) -> Result<Vec<u8>, NoMemory>
     }
 }
 
-/// Writes the answer as text. All memory for it is had before a byte goes out. An interrupted write and one that takes
-/// no bytes are failures too; then a part of the text, from its front, went out.
+/// Writes the answer as text. All memory for it is had before a byte is written. An interrupted write and one that takes
+/// no bytes are failures too; then a part of the text, from its front, was written.
 ///
 /// ```rust
 /// let mut text = Vec::new(alloc);

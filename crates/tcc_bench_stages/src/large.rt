@@ -44,7 +44,7 @@ fn steps(links: &[Link]) -> u32 {
 /// How many steps the cycle has that is found, 0 where there is none; or how many sessions its slice has.
 fn decided(alloc: Global, snapshot: &LargeSnapshot, level: Level, stage: Stage) -> Option<u32> {
     let graph = graph_of(alloc, snapshot)?;
-    let decision = decide(alloc, &graph, level).ok()?;
+    let (decision, _order) = decide(alloc, &graph, level).ok()?;
     let Some(links) = decision.links() else {
         return Some(0);
     };
@@ -86,10 +86,8 @@ fn numbers(alloc: Global, order: &[u32]) -> Option<String> {
 /// `least`, or `cycle` where that isn't known, and how many steps the cycle has.
 pub fn large_answer<R: Read + Drop>(alloc: Global, reader: R, level: Level) -> Option<String> {
     let snapshot = large_snapshot_of(alloc, reader).ok()?;
-    let LargeAnswer {
-        graph: _graph,
-        decision,
-    } = explain_large(alloc, &snapshot, level).ok()?;
+    let (answer, _order) = explain_large(alloc, &snapshot, level).ok()?;
+    let LargeAnswer { decision, .. } = answer;
     match decision {
         Decision::Order(order) => numbers(alloc, &order),
         Decision::Least(links) => {

@@ -35,3 +35,4 @@ mod OneDigit
 mod OneSizes
 mod VersionFacts
 mod RunFacts
+mod SlackFacts

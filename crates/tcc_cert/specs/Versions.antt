@@ -2,7 +2,7 @@
 use Rattle.std.specs.Prelude.{ℕ, true, false, ◌≡◌, ◌⊎◌, List, Option, Result, Ok, Err}
 use Rattle.tcc_cert.specs.declared.fault.CertFault.{CertFault}
 use Rattle.tcc_cert.specs.declared.ranges.TheConstants.{MAX_HEADER_BYTES}
-use Rattle.tcc_cert.specs.declared.reading.versions.LargeReader.{LargeReader}
+use Rattle.tcc_cert.specs.declared.reading.large_reader.LargeReader.{LargeReader}
 use Rattle.tcc_cert.specs.declared.reading.versions.VersionReader.{VersionReader}
 use Rattle.tcc_cert.specs.declared.reading.versions.VersionReader.TheVariants as version
 use Rattle.tcc_cert.specs.InputBytes.{HasFailed, IsAt}

@@ -5,7 +5,7 @@ ghost use Rattle.tcc_cert.specs.{private.Writing.IsSent, declared.digits.TheCons
 use crate::digits::{NUMBER_BYTES, set_numbers};
 use std::io::{self, Write};
 use std::marker::Model;
-use tcc_sending::write_out;
+use tcc_base::write_out;
 
 /// So many bytes are gathered before a write.
 const OUTGOING_BYTES: usize = 8192;

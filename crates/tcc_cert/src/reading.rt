@@ -1,6 +1,6 @@
 //! How a certificate's text is read.
 ghost use Rattle.std.specs.Prelude.{◌≡◌, ◌<◌, ◌++◌, ◌∷◌, ℕ, [], IfErr, IfSome, List, OnOk, false, true};
-ghost use Rattle.tcc_cert.specs.{private.Collecting.Collects, private.Collecting.HasRow, private.Inputs.AsBefore, private.Inputs.Gives, InputBytes.IsAt, declared.ranges.TheConstants.MAX_HEADER_BYTES, Outcomes.IsReading, private.Showing.Shows, Parts.Parts, Parts.parts_read};
+ghost use Rattle.tcc_cert.specs.{private.Collecting.Collects, private.Collecting.HasRow, private.Inputs.AsBefore, private.Inputs.Gives, private.Slack.KeepsSlack, InputBytes.IsAt, declared.ranges.TheConstants.MAX_HEADER_BYTES, Outcomes.IsReading, private.Showing.Shows, Parts.Parts, Parts.parts_read};
 ghost use Rattle.tcc_cert.specs.Ahead.{IsAhead, is_new, line_wanted};
 ghost use Rattle.tcc_cert.specs.Reading.{Position, header_line, next, word_line, words, words_of};
 
@@ -10,6 +10,7 @@ mod held;
 mod input;
 mod large;
 mod large_forms;
+mod large_reader;
 mod links;
 mod parts;
 mod rows;
@@ -25,12 +26,13 @@ use crate::ranges::{MAX_HEADER_BYTES, Scale};
 use crate::{CertFault, CertFaultKind, Certificate, Links, Numbers, Part, Table, Version};
 use input::{Input, at_line};
 pub use large::read_large;
+pub use large_reader::LargeReader;
 pub use links::with_walk;
 pub use parts::CertReader;
 use std::alloc::Global;
 use std::io::Read;
 use tcc_graph::{Level, Link};
-pub use versions::{LargeReader, VersionReader, reader_of};
+pub use versions::{VersionReader, reader_of};
 use words::words_of;
 
 /// Whether a line is this word alone.
@@ -58,6 +60,7 @@ fn mark<R: Read>(
     wanted: &[u8],
 ) -> Result<(), CertFault>
     ensures works { OnOk result (AsBefore input.old input.new) }
+    ensures slack { OnOk result (KeepsSlack R.remaining input.old.source input.new.source) }
     ensures gives { (at : Position) → IsAt R.remaining input.old at → Gives R.remaining at (words scale (word_line wanted.now) at) result input.new }
 {
     let line = input.next_of(scale)?;

@@ -1,4 +1,4 @@
-//! `tcc check` as a program of its own, which has none of the searches: for those who take answers from others, and trust only
+//! `tcc check` as a program of its own, which has none of the searches. It is for those who take answers from others, and trust only
 //! the check.
 #![tactic(auto)]
 

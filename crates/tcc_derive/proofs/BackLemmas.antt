@@ -1,5 +1,5 @@
 -- Walks from the last step backwards, and the first of them.
-use Rattle.std.proofs.Common.{ℕ, ◌+◌, ◌<◌, ◌≡◌, ◌≢◌, ◌⊎◌, inl, inr, true, List, [], ◌∷◌, ◌++◌}
+use Rattle.std.proofs.Common.{ℕ, ◌+◌, ◌<◌, ◌≡◌, ◌≢◌, ◌⊎◌, ◌↔◌, inl, inr, true, List, [], ◌∷◌, ◌++◌}
 use Rattle.std.proofs.Common.{length, length-append, get_or, reverse, refl, sym, ◌∙◌, subst, arith}
 use Rattle.std.specs.Cmp.Lexicographic.{slice_cmp}
 use Rattle.std.specs.declared.cmp.Ordering.TheVariants.{Greater}
@@ -77,8 +77,42 @@ same_allowed : (level : Level) (walk other : List Step) → IsAllowed level walk
 same_allowed level.Causal walk other is same = tt
 same_allowed level.Atomic walk other is same = same ∙ is
 
--- the way back to the start
+-- a row has the length of each shortest walk from b that has fewer steps than a limit
+abbrev pub HasLengths : Judged → ℕ → ℕ → List ℕ → Type 0
+HasLengths j b top steps = (v n : ℕ) → v < count j.history → 0 < n → n < top → (get_or steps v 0 ≡ n) ↔ IsShortest j b v n
+
+-- as each row of a table of walk lengths has
 module _ (j : Judged) (near : NearTable) (b : ℕ) (nears : IsNearOf j near) (from : b < count j.history) where
+  pub lengths_of : HasLengths j b NONE (row_of near.rows b)
+  lengths_of v n below some few = (there, back)
+    where
+      there : get_or (row_of near.rows b) v 0 ≡ n → IsShortest j b v n
+      there at = go (distance_cases j near b v nears from below)
+        where
+          go : IsOut j b v ⊎ IsNearby j b v (get_or (row_of near.rows b) v 0) → IsShortest j b v n
+          go (inl none) = absurd (omega (arith, no_distance j near b v nears from below none))
+          go (inr near') = rw at at near'.shortest
+
+      back : IsShortest j b v n → get_or (row_of near.rows b) v 0 ≡ n
+      back shortest = go (distance_cases j near b v nears from below)
+        where
+          go : IsOut j b v ⊎ IsNearby j b v (get_or (row_of near.rows b) v 0) → get_or (row_of near.rows b) v 0 ≡ n
+          go (inl none) = let (walk, allowed, long) = shortest.attained in absurd (none walk allowed)
+          go (inr near') =
+              let (walk, allowed, long) = shortest.attained in
+              let (other, others, same) = near'.shortest.attained in
+              omega (arith, near'.shortest.least walk allowed, shortest.least other others, long, same)
+
+  -- at the end of the walk
+  pub at_end : (c : ℕ) → c < count j.history → get_or (row_of near.rows b) c 0 < NONE → IsShortest j b c (get_or (row_of near.rows b) c 0)
+  at_end c to reached = go (distance_cases j near b c nears from to)
+    where
+      go : IsOut j b c ⊎ IsNearby j b c (get_or (row_of near.rows b) c 0) → IsShortest j b c (get_or (row_of near.rows b) c 0)
+      go (inl none) = absurd (omega (arith, no_distance j near b c nears from to none))
+      go (inr near') = near'.shortest
+
+-- the way back to the start
+module _ (j : Judged) (b top : ℕ) (steps : List ℕ) (exact : HasLengths j b top steps) where
   no_steps : (u : ℕ) (os : List Step) → length os ≡ 0 → LeadsBack j.history b u os → b ≡ u
   no_steps u [] long back = back
   no_steps u (o ∷ os) long back = absurd (omega (arith, long))
@@ -93,51 +127,40 @@ module _ (j : Judged) (near : NearTable) (b : ℕ) (nears : IsNearOf j near) (fr
   way_allowed v n o os shortest back long some =
       ((omega (arith, length-reverse os), leads_of_back j.history b (step_from o) os back.2), several_allowed v n (reverse os) shortest some)
 
-  stands_nearby : (v n : ℕ) (o : Step) (os : List Step) → IsShortest j b v (n + 1) → LeadsBack j.history b v (o ∷ os) → length os ≡ n → 0 < n
-      → IsOut j b (step_from o) ⊎ IsNearby j b (step_from o) (get_or (row_of near.rows b) (step_from o) 0) → get_or (row_of near.rows b) (step_from o) 0 ≡ n
-  stands_nearby v n o os shortest back long some (inl none) = absurd (none (reverse os) (way_allowed v n o os shortest back long some))
-  stands_nearby v n o os shortest back long some (inr near') =
-      let at_most = near'.shortest.least (reverse os) (way_allowed v n o os shortest back long some) in
-      let walk = near'.shortest.attained in
-      let whole : IsWalk j.history b v (walk.0 ++ o ∷ []) =
-      (omega (arith, length-append walk.0 (o ∷ [])), leads_append j.history b (step_from o) v walk.0 (o ∷ []) walk.1.0.1 (refl, back.1, back.0)) in
-      let longer = shortest.least (walk.0 ++ o ∷ []) (whole, several_allowed v n (walk.0 ++ o ∷ []) shortest some) in
-      omega (arith, at_most, longer, walk.2, length-append walk.0 (o ∷ []), length-reverse os, long)
+  -- and nothing shorter leads there
+  way_shortest : (v n : ℕ) (o : Step) (os : List Step) → IsShortest j b v (n + 1) → LeadsBack j.history b v (o ∷ os) → length os ≡ n → 0 < n
+      → IsShortest j b (step_from o) n
+  way_shortest v n o os shortest back long some = record {
+    attained = (reverse os, way_allowed v n o os shortest back long some, length-reverse os ∙ long);
+    least = λ walk allowed.
+        let whole : IsWalk j.history b v (walk ++ o ∷ []) =
+        (omega (arith, length-append walk (o ∷ [])), leads_append j.history b (step_from o) v walk (o ∷ []) allowed.0.1 (refl, back.1, back.0)) in
+        let longer = shortest.least (walk ++ o ∷ []) (whole, several_allowed v n (walk ++ o ∷ []) shortest some) in
+        omega (arith, longer, length-append walk (o ∷ []));
+  }
 
-  pub stands_of : (v n : ℕ) (o : Step) (os : List Step) → IsLeft j b v (n + 1) → LeadsBack j.history b v (o ∷ os) → length os ≡ n
-      → stands_at (row_of near.rows b) b (step_from o) n ≡ true
-  stands_of v n o os left back long = go (cases_eq n 0)
+  pub stands_of : (v n : ℕ) (o : Step) (os : List Step) → n < top → IsLeft j b v (n + 1) → LeadsBack j.history b v (o ∷ os) → length os ≡ n
+      → stands_at steps b (step_from o) n ≡ true
+  stands_of v n o os few left back long = go (cases_eq n 0)
     where
-      go : (n ≡ 0) ⊎ (n ≡ 0 → ⊥) → stands_at (row_of near.rows b) b (step_from o) n ≡ true
+      go : (n ≡ 0) ⊎ (n ≡ 0 → ⊥) → stands_at steps b (step_from o) n ≡ true
       go (inl none) = rw none (eq-eqb (step_from o) b (sym (no_steps (step_from o) os (long ∙ none) back.2)))
       go (inr some) =
-          let at : get_or (row_of near.rows b) (step_from o) 0 ≡ n
+          let at : get_or steps (step_from o) 0 ≡ n
           =
-          stands_nearby v n o os (left.some (omega arith)) back long (omega arith)
-          (distance_cases j near b (step_from o) nears from (step_below j.history o back.1).0) in
-          rw (ne_eqb n 0 some) (eq-eqb (get_or (row_of near.rows b) (step_from o) 0) n at)
+          (exact (step_from o) n (step_below j.history o back.1).0 (omega (arith, some)) few).1
+          (way_shortest v n o os (left.some (omega arith)) back long (omega (arith, some))) in
+          rw (ne_eqb n 0 some) (eq-eqb (get_or steps (step_from o) 0) n at)
 
-  pub left_of : (u n : ℕ) → u < count j.history → n < NONE → stands_at (row_of near.rows b) b u n ≡ true → IsLeft j b u n
+  pub left_of : (u n : ℕ) → u < count j.history → n < top → stands_at steps b u n ≡ true → IsLeft j b u n
   left_of u n below few stands = go (cases_eq n 0)
     where
-      shortest : get_or (row_of near.rows b) u 0 ≡ n → IsOut j b u ⊎ IsNearby j b u (get_or (row_of near.rows b) u 0) → IsShortest j b u n
-      shortest at (inl none) = absurd (omega (arith, no_distance j near b u nears from below none))
-      shortest at (inr near') = rw at at near'.shortest
-
       go : (n ≡ 0) ⊎ (n ≡ 0 → ⊥) → IsLeft j b u n
       go (inl none) = record { some = λ l. absurd (omega arith); none = λ e. sym (eqb-true u b (rw none at stands)) }
       go (inr some) = record {
-        some = λ l. shortest (eqb-true (get_or (row_of near.rows b) u 0) n (rw (ne_eqb n 0 some) at stands)) (distance_cases j near b u nears from below);
+        some = λ l. (exact u n below l few).0 (eqb-true (get_or steps u 0) n (rw (ne_eqb n 0 some) at stands));
         none = λ e. absurd (some e);
       }
-
-  -- at the end of the walk
-  pub at_end : (c : ℕ) → c < count j.history → get_or (row_of near.rows b) c 0 < NONE → IsShortest j b c (get_or (row_of near.rows b) c 0)
-  at_end c to reached = go (distance_cases j near b c nears from to)
-    where
-      go : IsOut j b c ⊎ IsNearby j b c (get_or (row_of near.rows b) c 0) → IsShortest j b c (get_or (row_of near.rows b) c 0)
-      go (inl none) = absurd (omega (arith, no_distance j near b c nears from to none))
-      go (inr near') = near'.shortest
 
   some_left : (c n : ℕ) → IsShortest j b c n → 0 < n
   some_left c n shortest = omega (arith, shortest.attained.1.0.0, shortest.attained.2)
@@ -149,23 +172,23 @@ module _ (j : Judged) (near : NearTable) (b : ℕ) (nears : IsNearOf j near) (fr
   nothing_taken c n = record { back = refl; first = λ others back long. tt }
 
   -- there is a step to take
-  pub never_stuck : (v n : ℕ) → IsLeft j b v (n + 1)
-      → ((o : Step) → IsStep j.history o → step_to o ≡ v → stands_at (row_of near.rows b) b (step_from o) n ≡ true → ⊥) → ⊥
-  never_stuck v n left none =
+  pub never_stuck : (v n : ℕ) → n < top → IsLeft j b v (n + 1)
+      → ((o : Step) → IsStep j.history o → step_to o ≡ v → stands_at steps b (step_from o) n ≡ true → ⊥) → ⊥
+  never_stuck v n few left none =
       let walk = (left.some (omega arith)).attained in
       go (reverse walk.0) (back_of_leads j.history b v walk.0 walk.1.0.1) (omega (arith, walk.2, length-reverse walk.0))
     where
       go : (ss : List Step) → LeadsBack j.history b v ss → length ss ≡ n + 1 → ⊥
       go [] back long = omega (arith, long)
-      go (o ∷ os) back long = none o back.1 back.0 (stands_of v n o os left back (omega (arith, long)))
+      go (o ∷ os) back long = none o back.1 back.0 (stands_of v n o os few left back (omega (arith, long)))
 
-  pub taken_more : (c total v n : ℕ) (taken : List Step) (s : Step) → IsTakenBack j.history b c total v taken → IsLeft j b v (n + 1)
-      → IsLastStep j.history (row_of near.rows b) b v n s → total ≡ length taken + (n + 1)
+  pub taken_more : (c total v n : ℕ) (taken : List Step) (s : Step) → n < top → IsTakenBack j.history b c total v taken → IsLeft j b v (n + 1)
+      → IsLastStep j.history steps b v n s → total ≡ length taken + (n + 1)
       → IsTakenBack j.history b c total (step_from s) (taken ++ s ∷ [])
-  taken_more c total v n taken s before left last long = record {
+  taken_more c total v n taken s few before left last long = record {
     back = back_join j.history (step_from s) v c taken (s ∷ []) before.back (last.to, last.step, refl);
     first = λ others back same. ahead_more j.history b c v taken others s n (before.first others back same) before.back back (same ∙ long)
-        (λ o os steps m. last.first o steps.1 steps.0 (stands_of v n o os left steps m));
+        (λ o os way m. last.first o way.1 way.0 (stands_of v n o os few left way m));
   }
 
   pub walk_of : (c n : ℕ) (taken : List Step) → IsTakenBack j.history b c n b taken → length taken ≡ n → IsShortest j b c n → IsFirstWalk j b c (reverse taken)

@@ -5,13 +5,13 @@ use Rattle.tcc_reads.specs.Sources.{history}
 use Rattle.tcc_graph.specs.Links.{cost}
 use Rattle.tcc_graph.specs.declared.level.Level.{Level}
 use Rattle.tcc_answer.specs.Answers.{LabelledCycle}
-use Rattle.tcc_answer.specs.Labels.{labels_of}
+use Rattle.tcc_graph.specs.Labels.{labels_of}
 use Rattle.tcc_answer.specs.declared.answer.Answer.{Answer}
 use Rattle.tcc_answer.specs.declared.answer.Answer.TheVariants as answer
-use Rattle.tcc_growth.specs.Growth.{Grows, IsFirstMissing, link_in}
-use Rattle.tcc_growth.specs.Moved.{moved}
+use Rattle.tcc_slices.specs.Growth.{Grows, IsFirstMissing, link_in}
+use Rattle.tcc_slices.specs.Moved.{moved}
 use Rattle.tcc_graph.specs.Renumbered.{link_by}
-use Rattle.tcc_growth.proofs.Keeping.{keeps_anomalies, costs_no_more, none_missing}
+use Rattle.tcc_slices.proofs.GrowthKeeps.{keeps_anomalies, costs_no_more, none_missing}
 use Rattle.tcc_explain.specs.Explained.{IsAnswerOfHistory}
 use Rattle.tcc_explain.specs.Next.{IsAnomalyOf, IsNextRefusal}
 use Rattle.tcc_explain.specs.declared.fault.NextFault.TheVariants as refusal

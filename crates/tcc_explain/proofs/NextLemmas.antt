@@ -8,9 +8,9 @@ use Rattle.tcc_graph.specs.Links.{IsLink}
 use Rattle.tcc_graph.specs.declared.level.Level.{Level}
 use Rattle.tcc_graph.specs.declared.link.Link.{Link}
 use Rattle.tcc_answer.specs.Answers.{LabelledCycle}
-use Rattle.tcc_answer.specs.Labels.{labels_of}
-use Rattle.tcc_growth.specs.Growth.{IsFirstMissing}
-use Rattle.tcc_growth.specs.Moved.{moved}
+use Rattle.tcc_graph.specs.Labels.{labels_of}
+use Rattle.tcc_slices.specs.Growth.{IsFirstMissing}
+use Rattle.tcc_slices.specs.Moved.{moved}
 use Rattle.tcc_graph.specs.Renumbered.{link_by}
 use Rattle.tcc_explain.specs.Explained.{IsAnswerOfHistory}
 use Rattle.tcc_explain.specs.Next.{links_in}

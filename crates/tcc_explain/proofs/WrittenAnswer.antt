@@ -39,7 +39,7 @@ use Rattle.tcc_explain.specs.Keys.{HasNames}
 use Rattle.tcc_explain.proofs.CertifiedCycle as least_cycle
 use Rattle.tcc_explain.proofs.CertifiedOrder as commit_order
 use Rattle.tcc_explain.proofs.ReadKeys.{key_named}
-use Rattle.tcc_growth.proofs.Labels.{place_few}
+use Rattle.tcc_slices.proofs.Labels.{place_few}
 use Rattle.tcc_explain.proofs.FewTransactions.{count_few}
 
 -- a table whose rows are as long, in other words

@@ -7,7 +7,7 @@ use Rattle.tcc_graph.specs.Levels.{Judged, judged}
 use Rattle.tcc_graph.specs.Links.{cost}
 use Rattle.tcc_graph.specs.Answers as first
 use Rattle.tcc_graph.specs.declared.level.Level.{Level}
-use Rattle.tcc_answer.specs.Labels.{labels_of}
+use Rattle.tcc_graph.specs.Labels.{labels_of}
 use Rattle.tcc_explain.specs.Certificates.{IsNearTable, IsFarTable, IsClocksAt}
 use Rattle.tcc_answer.specs.declared.answer.Answer.{Answer}
 use Rattle.tcc_answer.specs.declared.answer.Answer.TheVariants as answer

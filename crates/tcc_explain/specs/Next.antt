@@ -8,10 +8,10 @@ use Rattle.tcc_graph.specs.Links.{IsLink}
 use Rattle.tcc_graph.specs.Answers as first
 use Rattle.tcc_graph.specs.declared.link.Link.{Link}
 use Rattle.tcc_answer.specs.Answers.{LabelledCycle}
-use Rattle.tcc_answer.specs.Labels.{labels_of}
+use Rattle.tcc_graph.specs.Labels.{labels_of}
 use Rattle.tcc_answer.specs.declared.answer.Answer.{Answer}
-use Rattle.tcc_growth.specs.Growth.{IsFirstMissing}
-use Rattle.tcc_growth.specs.Moved.{moved}
+use Rattle.tcc_slices.specs.Growth.{IsFirstMissing}
+use Rattle.tcc_slices.specs.Moved.{moved}
 use Rattle.tcc_graph.specs.Renumbered.{link_by}
 use Rattle.tcc_explain.specs.Explained.{IsAnswerOfSnapshot}
 use Rattle.tcc_reads.specs.Refusals.{IsRefusal}

@@ -3,7 +3,7 @@ ghost use Rattle.std.specs.Prelude.{◌≡◌, IfOk, MatchResult};
 ghost use Rattle.tcc_graph.specs.{Orders.IsFirstOrder, Routes.HasCycle, Levels.Judged, Levels.judged};
 ghost use Rattle.tcc_near.specs.WalkLengths.{IsNearOf};
 ghost use Rattle.tcc_derive.specs.Prices.{IsPricesOf};
-ghost use Rattle.tcc_answer.specs.Labels.{labels_of};
+ghost use Rattle.tcc_graph.specs.Labels.{labels_of};
 ghost use Rattle.tcc_answer.specs.declared.answer.Answer.TheVariants as answer;
 ghost use Rattle.tcc_reads.specs.Refusals.{IsRefusal};
 ghost use Rattle.tcc_explain.specs.{Explained.IsAnswerOfSnapshot, Explained.IsAnswerOfHistory};
@@ -14,6 +14,7 @@ use crate::warm_start::{lesser, offered};
 use std::alloc::Global;
 use std::thread::Threads;
 use tcc_answer::{Anomaly, Answer, Commit, Labels};
+use tcc_base::Workers;
 use tcc_bits::PackedRow;
 use tcc_cert::{Links, Numbers};
 use tcc_core::seed;
@@ -26,7 +27,6 @@ use tcc_order::order;
 use tcc_reads::{ResolveFault, resolve};
 use tcc_steal::{AllStart, Gate, search_with};
 use tcc_txn::{NoMemory, Snapshot};
-use tcc_workers::Workers;
 
 /// What the searches have found where there is a cycle.
 #[derive(Drop)]

@@ -7,10 +7,10 @@ use crate::fault::NextFault;
 use std::alloc::Global;
 use std::thread::Threads;
 use tcc_answer::{Anomaly, Answer};
-use tcc_growth::{carried, first_missing};
+use tcc_base::Workers;
+use tcc_slices::{carried, first_missing};
 use tcc_steal::Gate;
 use tcc_txn::Snapshot;
-use tcc_workers::Workers;
 
 /// The answer that `explain` gives for the history of a snapshot at the level of an earlier anomaly, where each link of that
 /// anomaly, found by the labels of its transactions, is a link of this history: the search begins with what such a cycle

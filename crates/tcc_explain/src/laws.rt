@@ -10,7 +10,7 @@ ghost use Rattle.tcc_cert.specs.{Texts.HasText, Texts.certificate_text, Reading.
 ghost use Rattle.tcc_cert.specs.Rules.{Certifies, CertifiesCycle, CertifiesOrder};
 ghost use Rattle.tcc_answer.specs.{Answers.LabelledCycle, Claims.certificate_of, Texts.answer_text, Json.answer_json, declared.answer.Answer.Answer};
 ghost use Rattle.tcc_answer.specs.declared.answer.Answer.TheVariants as answer;
-ghost use Rattle.tcc_growth.specs.Growth.{Grows};
+ghost use Rattle.tcc_slices.specs.Growth.{Grows};
 ghost use Rattle.tcc_explain.specs.{Explained.IsAnswerOfHistory, Keys.HasNames, Next.IsAnomalyOf, Next.IsNextRefusal};
 ghost use Rattle.tcc_explain.specs.Certificates.{IsNearTable, IsFarTable, IsClocksAt, IsNumbered};
 ghost use Rattle.tcc_explain.specs.declared.fault.NextFault.TheVariants as refusal;

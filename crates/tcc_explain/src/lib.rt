@@ -12,6 +12,6 @@ pub use explaining::explain;
 pub use fault::NextFault;
 pub use incremental::explain_next;
 pub use tcc_answer::{Anomaly, Answer, Commit, Shape};
+pub use tcc_base::Workers;
 pub use tcc_reads::ResolveFault as ExplainFault;
 pub use tcc_steal::{Gate, OpenGate};
-pub use tcc_workers::Workers;

@@ -2,12 +2,13 @@
 use Rattle.std.specs.Prelude.{ℕ, Bool, List, Option, None, Some, false, true}
 use Rattle.std.specs.declared.io.ErrorKind.{ErrorKind}
 use Rattle.std.specs.declared.io.ErrorKind.TheVariants.{OutOfMemory}
-use Rattle.tcc_files.specs.declared.input.Input.{Input}
-use Rattle.tcc_files.specs.declared.input.Input.TheVariants as input
+use Rattle.tcc_files.specs.declared.input.RecordInput.{RecordInput}
+use Rattle.tcc_files.specs.declared.input.RecordInput.TheVariants as input
 use Rattle.tcc_print.specs.declared.status.Status.{Status}
 use Rattle.tcc_print.specs.declared.status.Status.TheVariants.{Memory, Device}
 use Rattle.tcc_print.specs.Printed.{Prints, device_line, memory_line}
-use Rattle.tcc_verdict.specs.Checking.{IsRun, PrintsOutcome}
+use Rattle.tcc_files.specs.Opened.{IsAside}
+use Rattle.tcc_verdict.specs.Checking.{IsCheckRunBy, PrintsOutcome}
 use Rattle.tcc_verdict.specs.Checks.{IsCheckRun, PrintsSome}
 use Rattle.tcc_large_check.specs.LargeChecks.{large_check}
 
@@ -27,7 +28,7 @@ PrintsUnopened json kind before after code = Prints before after (unopened_text 
 -- what a check does with the bytes of both files, within the large limits or the small ones
 abbrev pub IsRunWithin : Bool → List ℕ → List ℕ → Option (List ℕ) → Option (List ℕ) → ℕ → Type 0
 IsRunWithin false records text before after code = IsCheckRun records text before after code
-IsRunWithin true records text before after code = IsRun large_check records text before after code
+IsRunWithin true records text before after code = IsCheckRunBy large_check records text before after code
 
 -- the text of some outcome of such a check and its status, whatever is known of the bytes
 abbrev pub PrintsWithin : Bool → Option (List ℕ) → Option (List ℕ) → ℕ → Type 0
@@ -41,8 +42,8 @@ AreBothGiven (Some a) (Some b) = Unit {0}
 AreBothGiven None (Some b) = ⊥
 AreBothGiven (Some a) None = ⊥
 
--- the input is the file that is named, or the standard input where none is
-abbrev pub IsInputOf : {A : Type 0} → Option A → Input → Type 0
-IsInputOf (Some path) (input.File file) = Unit {0}
+-- the input is the file that is named, in the place of no standard stream, or the standard input where none is named
+abbrev pub IsInputOf : {A : Type 0} → Option A → RecordInput → Type 0
+IsInputOf (Some path) (input.File file) = IsAside file
 IsInputOf None (input.Standard stdin) = Unit {0}
 IsInputOf _ _ = ⊥

@@ -1,2 +1,4 @@
 pub mod Files
 pub mod FileIds
+pub mod Opened
+pub mod HandedOn

@@ -3,6 +3,7 @@ ghost use Rattle.std.specs.Prelude.{◌≡◌, ◌⊎◌, IfOk, IfSome, MatchRes
 ghost use Rattle.std.specs.IoError.{error_kind};
 ghost use Rattle.std.specs.declared.io.ErrorKind.{ErrorKind};
 ghost use Rattle.tcc_files.specs.Files.{IsRunWithin, PrintsUnopened, PrintsWithin};
+ghost use Rattle.tcc_files.specs.Opened.{IsAside};
 
 use crate::files::{open, print_unopened};
 use crate::telling::Telling;
@@ -20,6 +21,8 @@ pub fn open_both<'a>(
 ) -> io::Result<(Telling<'a, File>, Telling<'a, File>)>
     ensures history { IfOk result (λ both. both.0.name ≡ history.entry) }
     ensures certificate { IfOk result (λ both. both.1.name ≡ certificate.entry) }
+    ensures history_aside { IfOk result (λ both. IsAside both.0.stream) }
+    ensures certificate_aside { IfOk result (λ both. IsAside both.1.stream) }
 {
     let history = open(rt, history)?;
     let certificate = open(rt, certificate)?;
@@ -27,7 +30,7 @@ pub fn open_both<'a>(
 }
 
 /// Checks the certificate that the second of two readers gives for the history of the first, within the large limits if these are
-/// wanted, or writes that one of them couldn't be opened, and gives the status of the run. What to mend goes to the notes.
+/// wanted. Or writes that one of them couldn't be opened. Gives the status of the run. What to mend goes to the notes.
 pub fn check_opened<H: Read + Drop, C: Read + Drop, W: Write, N: Write>(
     alloc: Global,
     opened: io::Result<(H, C)>,

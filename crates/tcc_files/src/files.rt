@@ -1,9 +1,10 @@
 //! The files that the command line names.
-ghost use Rattle.std.specs.Prelude.{◌≡◌, ◌↔◌, ⊤, IfOk, IsTrue, MatchOption, false};
+ghost use Rattle.std.specs.Prelude.{◌≡◌, ◌↔◌, ⊤, IfOk, IfSome, IsTrue, MatchOption, codes, false};
 ghost use Rattle.tcc_files.specs.FileIds.{AreSame};
 ghost use Rattle.tcc_files.specs.Files.{AreBothGiven, IsInputOf, PrintsUnopened};
+ghost use Rattle.tcc_files.specs.Opened.{IsAside};
 
-use crate::input::Input;
+use crate::input::RecordInput;
 use crate::opening::{self, Apart};
 use crate::telling::Telling;
 use std::fs::File;
@@ -22,22 +23,31 @@ fn told<T: Drop>(rt: &HostRuntime, path: &str, opened: io::Result<T>) -> io::Res
 
 /// Opens a file to read, which tells why where that fails, or a read does.
 pub(crate) fn open<'a>(rt: &HostRuntime, path: &'a str) -> io::Result<Telling<'a, File>>
-    ensures { IfOk result (λ telling. telling.name ≡ path.entry) }
+    ensures name { IfOk result (λ telling. telling.name ≡ path.entry) }
+    ensures aside { IfOk result (λ telling. IsAside telling.stream) }
 {
     let file = told(rt, path, opening::open(rt, path))?;
     Ok(Telling::new(file, path, rt.stderr()))
 }
 
 /// Opens the file of the records, if one is given; without it they are those of the standard input.
-pub fn open_input<'a>(rt: &HostRuntime, path: Option<&'a str>) -> io::Result<Telling<'a, Input>>
-    ensures { IfOk result (λ telling. IsInputOf path.entry telling.stream) }
+pub fn open_input<'a>(
+    rt: &HostRuntime,
+    path: Option<&'a str>,
+) -> io::Result<Telling<'a, RecordInput>>
+    ensures stream { IfOk result (λ telling. IsInputOf path.entry telling.stream) }
+    ensures name { IfOk result (λ telling. MatchOption path.entry (telling.name.now ≡ codes "standard input") (λ name. telling.name ≡ name)) }
 {
     match path {
         Some(path) => {
             let file = told(rt, path, opening::open(rt, path))?;
-            Ok(Telling::new(Input::File(file), path, rt.stderr()))
+            Ok(Telling::new(RecordInput::File(file), path, rt.stderr()))
         }
-        None => Ok(Telling::new(Input::Standard(rt.stdin()), "standard input", rt.stderr())),
+        None => Ok(Telling::new(
+            RecordInput::Standard(rt.stdin()),
+            "standard input",
+            rt.stderr(),
+        )),
     }
 }
 
@@ -46,9 +56,11 @@ pub fn open_input<'a>(rt: &HostRuntime, path: Option<&'a str>) -> io::Result<Tel
 pub fn open_output<'a>(
     rt: &HostRuntime,
     path: Option<&'a str>,
-    input: &Input,
+    input: &RecordInput,
 ) -> io::Result<Option<Telling<'a, Apart>>>
-    ensures { IfOk result (AreBothGiven path.entry) }
+    ensures given { IfOk result (AreBothGiven path.entry) }
+    ensures name { IfOk result (λ file. IfSome file (λ telling. IfSome path.entry (λ name. telling.name ≡ name))) }
+    ensures aside { IfOk result (λ file. IfSome file (λ telling. IsAside telling.stream.file)) }
 {
     match path {
         Some(path) => {
@@ -75,10 +87,14 @@ pub fn open_outputs<'a>(
     rt: &HostRuntime,
     certificate: Option<&'a str>,
     slice: Option<&'a str>,
-    input: &Input,
+    input: &RecordInput,
 ) -> io::Result<(Option<Telling<'a, Apart>>, Option<Telling<'a, Apart>>)>
     ensures certificate { IfOk result (λ both. AreBothGiven certificate.entry both.0) }
     ensures slice { IfOk result (λ both. AreBothGiven slice.entry both.1) }
+    ensures certificate_name { IfOk result (λ both. IfSome both.0 (λ telling. IfSome certificate.entry (λ name. telling.name ≡ name))) }
+    ensures slice_name { IfOk result (λ both. IfSome both.1 (λ telling. IfSome slice.entry (λ name. telling.name ≡ name))) }
+    ensures certificate_aside { IfOk result (λ both. IfSome both.0 (λ telling. IsAside telling.stream.file)) }
+    ensures slice_aside { IfOk result (λ both. IfSome both.1 (λ telling. IsAside telling.stream.file)) }
     ensures two { IfOk result (λ both. MatchOption both.0 ⊤ (λ a. MatchOption both.1 ⊤ (λ b. AreSame a.stream.id b.stream.id → ⊥))) }
 {
     let first = open_output(rt, certificate, input)?;

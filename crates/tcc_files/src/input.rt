@@ -5,18 +5,18 @@ use std::io::{self, Read, Stdin};
 
 /// Where records come from.
 #[derive(Drop)]
-pub enum Input {
+pub enum RecordInput {
     /// The standard input.
     Standard(Stdin),
     /// A file of their own.
     File(File),
 }
 
-impl Read for Input {
+impl Read for RecordInput {
     fn read(&mut self, buffer: &mut [u8]) -> io::Result<usize> {
         match self {
-            Input::Standard(stdin) => stdin.read(buffer),
-            Input::File(file) => file.read(buffer),
+            RecordInput::Standard(stdin) => stdin.read(buffer),
+            RecordInput::File(file) => file.read(buffer),
         }
     }
 }

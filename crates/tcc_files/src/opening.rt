@@ -1,12 +1,12 @@
 //! Files opened beside the standard streams: none takes the place of one that is closed, and none is made empty that is the
 //! input, the output or standard error.
-ghost use Rattle.std.specs.Prelude.{◌≡◌, ◌↔◌, ◌≤ℤ◌, pos, Some, IfOk, IsTrue, MatchResult};
-ghost use Rattle.std.specs.Fd.{file_raw_fd};
+ghost use Rattle.std.specs.Prelude.{◌≡◌, ◌↔◌, Some, IfOk, IsTrue, MatchResult};
 ghost use Rattle.std.specs.Fs.{metadata_mode};
+ghost use Rattle.tcc_files.specs.Opened.{IsAside, LeavesAsIs};
 ghost use Rattle.std.specs.IoError.{error_kind};
 ghost use Rattle.tcc_files.specs.FileIds.{AreSame, FailsAs, HasId, IsTaken, is_character_device, id_with};
 
-use crate::input::Input;
+use crate::input::RecordInput;
 use std::fs::{self, File, Metadata, OpenOptions};
 use std::io::{self, ErrorKind, Write};
 use std::os::fd::AsRawFd;
@@ -64,7 +64,7 @@ fn is_same(one: Option<FileId>, other: Option<FileId>) -> bool
     }
 }
 
-/// The id of the file that a standard stream is open on, by what the system tells of it.
+/// The id of the file that a standard stream is open on, by what the system says of it.
 fn told_id(told: io::Result<Metadata>) -> io::Result<Option<FileId>>
     ensures { MatchResult told (λ metadata. IfOk result (HasId (metadata_mode metadata))) (λ error. FailsAs (error_kind error) result) }
 {
@@ -83,10 +83,10 @@ fn stream(rt: &HostRuntime, link: &str) -> io::Result<Option<FileId>> {
 }
 
 /// The id of the file that the records come from.
-fn input_id(rt: &HostRuntime, input: &Input) -> io::Result<Option<FileId>> {
+fn input_id(rt: &HostRuntime, input: &RecordInput) -> io::Result<Option<FileId>> {
     match input {
-        Input::Standard(_) => stream(rt, INPUT),
-        Input::File(file) => Ok(FileId::of(&file.metadata()?)),
+        RecordInput::Standard(_) => stream(rt, INPUT),
+        RecordInput::File(file) => Ok(FileId::of(&file.metadata()?)),
     }
 }
 
@@ -108,7 +108,7 @@ struct Streams {
 
 impl Streams {
     /// Those of a run with this input; an error where the input or the output is closed, or the system doesn't tell.
-    fn of(rt: &HostRuntime, input: &Input) -> io::Result<Streams> {
+    fn of(rt: &HostRuntime, input: &RecordInput) -> io::Result<Streams> {
         Ok(Streams {
             input: input_id(rt, input)?,
             output: stream(rt, OUTPUT)?,
@@ -176,7 +176,7 @@ impl Write for Apart {
 /// The file by a descriptor that is none of the first three. One that is opened while a standard stream is closed has
 /// that stream's.
 fn aside(file: File) -> io::Result<File>
-    ensures { IfOk result (λ file. pos 3 ≤ℤ file_raw_fd file) }
+    ensures { IfOk result IsAside }
 {
     let moved = file.try_clone()?;
     if moved.as_raw_fd() < 3 {
@@ -188,17 +188,27 @@ fn aside(file: File) -> io::Result<File>
 
 /// Opens a file to read.
 pub fn open(rt: &HostRuntime, path: &str) -> io::Result<File>
-    ensures { IfOk result (λ file. pos 3 ≤ℤ file_raw_fd file) }
+    ensures { IfOk result IsAside }
 {
     aside(fs::open(rt, path)?)
 }
 
-/// Makes a file to write, and makes it empty where it is there; but where it is the input, the output or standard error, or one of
-/// the first two is closed, nothing that it holds is touched.
-pub fn make(rt: &HostRuntime, path: &str, input: &Input) -> io::Result<Apart>
-    ensures { IfOk result (λ made. pos 3 ≤ℤ file_raw_fd made.file) }
+/// How a file to write is opened: made where it isn't there, else left as it is.
+fn as_it_is() -> OpenOptions
+    ensures { LeavesAsIs result }
 {
-    let opened = OpenOptions::new().write(true).create(true).open(rt, path)?;
+    let mut options = OpenOptions::new();
+    options.write(true);
+    options.create(true);
+    options
+}
+
+/// Makes a file to write, and makes it empty where it is there. But where it is the input, the output or standard error, or one of
+/// the first two is closed, nothing that it holds is touched.
+pub fn make(rt: &HostRuntime, path: &str, input: &RecordInput) -> io::Result<Apart>
+    ensures { IfOk result (λ made. IsAside made.file) }
+{
+    let opened = as_it_is().open(rt, path)?;
     let file = aside(opened)?;
     let metadata = file.metadata()?;
     let made = Apart::new(file, FileId::of(&metadata), Streams::of(rt, input)?)?;

@@ -1,6 +1,7 @@
 //! A writer that leaves out the orders of consistent histories, where that is asked for.
-ghost use Rattle.std.specs.Prelude.{◌≤◌, length};
+ghost use Rattle.std.specs.Prelude.{◌≡◌, ◌≤◌, length};
 ghost use Rattle.std.specs.Io.{WritesAtMost};
+ghost use Rattle.tcc_files.specs.HandedOn.{handed_on};
 
 use std::io::{self, Write};
 
@@ -9,22 +10,22 @@ const ORDER: &[u8] = b"order: ";
 
 /// What is known of the line that is being written.
 #[derive(Clone, Copy)]
-enum Line {
-    /// It begins with so many bytes of `ORDER`, which are held back, and nothing more was written of it.
+enum LineState {
+    /// It begins with this many bytes of `ORDER`, which are held back, and nothing more was written of it.
     Begun(usize),
-    /// It is none of an order, and goes out.
+    /// It is none of an order, and is written.
     Shown,
     /// It is that of an order.
     LeftOut,
 }
 
-/// A writer that hands on at once what it is given, but for the lines of orders once these are to be left out. The end of a text that
+/// A writer that forwards at once what it is given, but for the lines of orders once these are to be left out. The end of a text that
 /// isn't ended by a line feed may be held back until it is flushed.
 #[derive(Drop)]
 pub struct Quiet<W> {
     stream: W,
     is_quiet: bool,
-    line: Line,
+    line: LineState,
 }
 
 /// How many bytes there are up to the first line feed and with it; all, where there is none.
@@ -54,22 +55,29 @@ fn shown_end(bytes: &[u8]) -> usize
 
 impl<W: Write> Quiet<W> {
     /// The stream, of which nothing is left out yet.
-    pub fn new(stream: W) -> Quiet<W> {
+    pub fn new(stream: W) -> Quiet<W>
+        ensures stream { result.stream ≡ stream }
+        ensures contents { handed_on W.contents result ≡ W.contents stream }
+    {
         Quiet {
             stream,
             is_quiet: false,
-            line: Line::Begun(0),
+            line: LineState::Begun(0),
         }
     }
 
     /// From here on lines of orders are left out, or aren't.
-    pub fn leave_out_orders(&mut self, is_quiet: bool) {
+    pub fn leave_out_orders(&mut self, is_quiet: bool)
+        ensures stream { self.new.stream ≡ self.old.stream }
+        ensures line { self.new.line ≡ self.old.line }
+        ensures quiet { self.new.is_quiet ≡ is_quiet }
+    {
         self.is_quiet = is_quiet;
     }
 
-    /// Writes what was held back of a line that goes out.
+    /// Writes what was held back of a line that is written.
     fn give_back(&mut self, held: usize) -> io::Result<()> {
-        self.line = Line::Shown;
+        self.line = LineState::Shown;
         self.stream.write_all(&ORDER[..held.min(ORDER.len())])
     }
 
@@ -86,21 +94,21 @@ impl<W: Write> Quiet<W> {
         }
         let held = held.saturating_add(1);
         self.line = if held < ORDER.len() {
-            Line::Begun(held)
+            LineState::Begun(held)
         } else {
-            Line::LeftOut
+            LineState::LeftOut
         };
         Ok(1)
     }
 
-    /// Takes bytes of a line that goes out.
+    /// Takes bytes of a line that is written.
     fn show(&mut self, bytes: &[u8]) -> io::Result<usize>
         ensures { WritesAtMost result bytes.now }
     {
         let shown = &bytes[..shown_end(bytes)];
         let count = self.stream.write(shown)?;
         if shown[..count].last() == Some(&b'\n') {
-            self.line = Line::Begun(0);
+            self.line = LineState::Begun(0);
         }
         Ok(count)
     }
@@ -111,27 +119,29 @@ impl<W: Write> Quiet<W> {
     {
         let end = line_end(bytes);
         if bytes[..end].last() == Some(&b'\n') {
-            self.line = Line::Begun(0);
+            self.line = LineState::Begun(0);
         }
         end
     }
 }
 
 impl<W: Write> Write for Quiet<W> {
+    ghost contents = { handed_on W.contents };
+
     fn write(&mut self, bytes: &[u8]) -> io::Result<usize> {
         if !self.is_quiet {
             return self.stream.write(bytes);
         }
         match self.line {
-            Line::Begun(held) => self.begin(held, bytes),
-            Line::Shown => self.show(bytes),
-            Line::LeftOut => Ok(self.leave_out(bytes)),
+            LineState::Begun(held) => self.begin(held, bytes),
+            LineState::Shown => self.show(bytes),
+            LineState::LeftOut => Ok(self.leave_out(bytes)),
         }
     }
 
     fn flush(&mut self) -> io::Result<()> {
         match self.line {
-            Line::Begun(held) if held > 0 => self.give_back(held)?,
+            LineState::Begun(held) if held > 0 => self.give_back(held)?,
             _ => {}
         }
         self.stream.flush()

@@ -32,7 +32,7 @@ impl<'a, S> Telling<'a, S> {
     }
 }
 
-/// Hands on what a stream did, and tells why it failed, if it did. What standard error takes changes nothing.
+/// Forwards what a stream did, and reports why it failed, if it did. What standard error takes changes nothing.
 fn told<T: Drop>(errors: &mut io::Stderr, name: &str, done: io::Result<T>) -> io::Result<T>
     ensures { result ≡ done }
 {

@@ -1,6 +1,6 @@
 //! Whether somebody at a terminal waits for the end of a run.
 
-use crate::input::Input;
+use crate::input::RecordInput;
 use crate::opening::is_device;
 use std::fs::{self, File, Metadata};
 use std::io;
@@ -20,7 +20,7 @@ fn major(device: u64) -> u64 {
     (device >> 8) & 0xfff
 }
 
-/// Whether a file is a terminal, by what the system tells of it; not where it doesn't tell.
+/// Whether a file is a terminal, by what the system says of it; not where it doesn't tell.
 fn is_terminal(told: io::Result<Metadata>) -> bool {
     match told {
         Ok(metadata) => is_device(metadata.mode()) && major(metadata.rdev()) != MEMORY,
@@ -29,10 +29,10 @@ fn is_terminal(told: io::Result<Metadata>) -> bool {
 }
 
 /// Whether the records are typed at a terminal.
-fn is_typed(rt: &HostRuntime, input: &Input) -> bool {
+fn is_typed(rt: &HostRuntime, input: &RecordInput) -> bool {
     match input {
-        Input::Standard(_) => is_terminal(fs::metadata(rt, INPUT)),
-        Input::File(file) => is_terminal(file.metadata()),
+        RecordInput::Standard(_) => is_terminal(fs::metadata(rt, INPUT)),
+        RecordInput::File(file) => is_terminal(file.metadata()),
     }
 }
 
@@ -51,6 +51,6 @@ pub fn size_of(file: &File) -> u64 {
 }
 
 /// Whether the standard error is a terminal, at which nobody types the records.
-pub fn is_waited_for(rt: &HostRuntime, input: &Input) -> bool {
+pub fn is_waited_for(rt: &HostRuntime, input: &RecordInput) -> bool {
     is_terminal(fs::metadata(rt, ERRORS)) && !is_typed(rt, input)
 }

@@ -1,8 +1,8 @@
 -- Ways of two steps at most and cycles of three, by their links.
-use Rattle.std.proofs.Common.{ℕ, ◌≡◌, ◌≢◌, ◌<◌, ◌≤◌, ◌+◌, ◌-◌, ◌⊎◌, inl, inr, Bool, false, List, [], ◌∷◌, ◌++◌, length, length-append, refl, sym, ◌∙◌, ap, subst, arith}
+use Rattle.std.proofs.Common.{ℕ, ◌≡◌, ◌≢◌, ◌<◌, ◌≤◌, ◌+◌, ◌-◌, ◌⊎◌, inl, inr, Bool, List, [], ◌∷◌, ◌++◌, length, length-append, refl, sym, ◌∙◌, ap, subst, arith}
 use Rattle.std.specs.Prelude.{◌↔◌, IsTrue, slice_index_or}
 use Rattle.std.specs.List.{Contains}
-use Rattle.std.proofs.lemmas.Bool.{cases_lt, cases_eq, false≢true}
+use Rattle.std.proofs.lemmas.Bool.{cases_lt, cases_eq}
 use Rattle.std.proofs.lemmas.List.Elements.{All-contains, Contains-append_right}
 use Rattle.tcc_reads.specs.History.{History, IsBySession, count}
 use Rattle.tcc_graph.specs.Relations.{IsSessionPair, IsCausalPair}
@@ -23,7 +23,7 @@ use Rattle.tcc_least.proofs.ReadLemmas.{AreReadsAt}
 use Rattle.tcc_least.proofs.ReturnLemmas.{place_of}
 use Rattle.tcc_least.proofs.Sessions.{not_itself}
 use Rattle.tcc_first.specs.private.Starts.{IsFirstStart}
-use Rattle.tcc_first.specs.private.Ways.{IsTwoStep, IsWay, IsAround}
+use Rattle.tcc_first.specs.private.Ways.{IsTwoStep, IsWay, HasPairs, IsAround, IsAroundByPairs, HasStaleSource}
 use Rattle.tcc_first.proofs.WayLemmas.{rises_to}
 
 -- the last of some links
@@ -117,14 +117,14 @@ module _ (j : Judged) where
 
   -- ---- cycles
   pub around_cycle : (n s : ℕ) → IsAround j.history n s → (links : List Link) × IsCycle j s links × (cost links ≡ n)
-  around_cycle n s (inl (u, (x, read), (m, sum, way))) =
+  around_cycle n s (inl (u, (x, read), up, (m, sum, way))) =
       let (front, lead, costs) = lead_of m s u way in
       let last : Link = link.Reads u s x in (
         front ++ last ∷ [],
         (rw length-append (omega arith), lead_append j s u s front (last ∷ []) lead (refl, read, refl)),
         omega (arith, sum, costs, cost_append front (last ∷ []), one_cost last),
       )
-  around_cycle n s (inr (three, (b, (short, back)))) =
+  around_cycle n s (inr (three, (b, (short, back), up))) =
       let l = pair_link j s b back in
       let m = two_step_link b s short in (
         l.0 ∷ m.0 ∷ [],
@@ -166,6 +166,7 @@ module _ (j : Judged) where
             inl (
               link_from l,
               read_back (link_from l) m above (into (IsCausalPair j.history) (pair_of l parts.2.1 one)),
+              above,
               (cost front, omega (arith, sum, one), way_of front (cost front) m (link_from l) (omega (arith, low, sum, one)) there refl),
             )
         go (inr other) (inl two) = short (way_of front (cost front) m (link_from l) (omega (arith, low, sum, two)) there refl)
@@ -173,7 +174,7 @@ module _ (j : Judged) where
             short : IsWay j.history (cost front) m (link_from l) → IsAround j.history n m
             short (inl (none, same)) = absurd (apart l parts.2.1 (omega (arith, two)) (sym same ∙ sym to))
             short (inr (inl (one, pair))) =
-                inr (omega (arith, sum, one, two), (link_from l, (into (IsTwoStep j.history) (two_step_of l parts.2.1 two), pair)))
+                inr (omega (arith, sum, one, two), (link_from l, (into (IsTwoStep j.history) (two_step_of l parts.2.1 two), pair), above))
             short (inr (inr (more, way))) = absurd (omega (arith, sum, low, two, more))
         go (inr other) (inr another) =
             let none : cost front ≡ 0 = omega (arith, low, sum, other, another, some_cost l) in
@@ -218,33 +219,61 @@ module _ (j : Judged) where
 
 -- it begins at a transaction
 pub around_below : (h : History) (n s : ℕ) → IsAround h n s → s < count h
-around_below h n s (inl (u, (x, read), way)) = read.1
-around_below h n s (inr (three, (b, (short, back)))) = (pair_below h s b back).0
+around_below h n s (inl (u, (x, read), up, way)) = read.1
+around_below h n s (inr (three, (b, (short, back), up))) = (pair_below h s b back).0
 
--- ---- the loop over what s reads
+-- ---- what leads round, by its last link
+pub pairs_way : (h : History) (n s u : ℕ) → HasPairs h n s u → IsWay h n s u
+pairs_way h n s u (inl here) = inl here
+pairs_way h n s u (inr (inl pair)) = inr (inl pair)
+pairs_way h n s u (inr (inr (two, between))) = inr (inr (two, inr between))
+
 module _ (h : History) (n s : ℕ) where
-  -- none of the first k reads of s is of one to which a way leads
-  abbrev pub IsOver : Type 0
-  IsOver = (u : ℕ) × IsRead h u s × ((m : ℕ) × (m + 1 ≡ n) × IsWay h m s u)
+  abbrev pub HasReturn : Type 0
+  HasReturn = (b : ℕ) × IsReturn h b s × (s ≤ b)
 
+  pub by_pairs : IsAroundByPairs h n s → IsAround h n s
+  by_pairs (u, read, up, (m, sum, pairs)) = inl (u, read, up, (m, sum, pairs_way h m s u pairs))
+
+  pub by_stale : n ≡ 3 → HasStaleSource h s → IsAround h n s
+  by_stale three (u, read, up, short) = inl (u, read, up, (2, omega (arith, three), inr (inr (refl, inl short))))
+
+  pub by_return : n ≡ 3 → HasReturn → IsAround h n s
+  by_return three back = inr (three, back)
+
+  -- over a source by pairs, or by two steps to it
+  over_source : (u m : ℕ) → IsRead h u s → s ≤ u → m + 1 ≡ n → IsWay h m s u → IsAroundByPairs h n s ⊎ ((n ≡ 3) × (HasStaleSource h s ⊎ HasReturn))
+  over_source u m read up sum (inl here) = inl (u, read, up, (m, sum, inl here))
+  over_source u m read up sum (inr (inl pair)) = inl (u, read, up, (m, sum, inr (inl pair)))
+  over_source u m read up sum (inr (inr (two, inl short))) = inr (omega (arith, sum, two), inl (u, read, up, short))
+  over_source u m read up sum (inr (inr (two, inr between))) = inl (u, read, up, (m, sum, inr (inr (two, between))))
+
+  pub around_cases : IsAround h n s → IsAroundByPairs h n s ⊎ ((n ≡ 3) × (HasStaleSource h s ⊎ HasReturn))
+  around_cases (inl (u, read, up, (m, sum, way))) = over_source u m read up sum way
+  around_cases (inr (three, back)) = inr (three, inr back)
+
+  -- ---- the loop over what s reads
   pub none_over : (reads : List (ℕ × ℕ)) → AreReadsAt h s reads → s < count h → (k : ℕ) → length reads ≤ k
-      → ((i : ℕ) → i < k → IsWay h (n - 1) s (slice_index_or reads i (0, 0)).1 → ⊥) → IsOver → ⊥
-  none_over reads are below k all none (u, (x, read), (m, sum, way)) =
+      → ((i : ℕ) → i < k → s ≤ (slice_index_or reads i (0, 0)).1 → HasPairs h (n - 1) s (slice_index_or reads i (0, 0)).1 → ⊥)
+      → IsAroundByPairs h n s → ⊥
+  none_over reads are below k all none (u, (x, read), up, (m, sum, pairs)) =
       let w = place_of h s reads are below u x read in
       let same : m ≡ n - 1 = omega (arith, sum) in
-      let there : IsWay h (n - 1) s u = subst (λ (z : ℕ). IsWay h z s u) same way in
-      none w.0 (omega (arith, all, w.1)) (subst (λ (z : ℕ). IsWay h (n - 1) s z) (sym w.2) there)
+      let there : HasPairs h (n - 1) s u = subst (λ (z : ℕ). HasPairs h z s u) same pairs in
+      none w.0 (omega (arith, all, w.1)) (omega (arith, up, w.2)) (subst (λ (z : ℕ). HasPairs h (n - 1) s z) (sym w.2) there)
 
-  pub around_or : (r : Bool) → n ≡ 3 → (IsOver → ⊥) → IsTrue r ↔ ((b : ℕ) × IsReturn h b s) → IsTrue r ↔ IsAround h n s
-  around_or r three none both = ((λ e. inr (three, both.0 e)), go)
+  -- ---- by what was found
+  pub none_around_by : (IsAroundByPairs h n s → ⊥) → n ≢ 3 → IsAround h n s → ⊥
+  none_around_by none other around = go (around_cases around)
     where
-      go : IsAround h n s → IsTrue r
-      go (inl over) = absurd (none over)
-      go (inr (same, back)) = both.1 back
+      go : IsAroundByPairs h n s ⊎ ((n ≡ 3) × (HasStaleSource h s ⊎ HasReturn)) → ⊥
+      go (inl pairs) = none pairs
+      go (inr (three, more)) = other three
 
-  pub none_around_or : n ≢ 3 → (IsOver → ⊥) → IsTrue false ↔ IsAround h n s
-  none_around_or other none = ((λ e. absurd (false≢true e)), go)
+  pub around_or : (r : Bool) → n ≡ 3 → (IsAroundByPairs h n s → ⊥) → (HasStaleSource h s → ⊥) → IsTrue r ↔ HasReturn → IsTrue r ↔ IsAround h n s
+  around_or r three none fresh both = ((λ e. by_return three (both.0 e)), (λ around. go (around_cases around)))
     where
-      go : IsAround h n s → IsTrue false
-      go (inl over) = absurd (none over)
-      go (inr (same, back)) = absurd (other same)
+      go : IsAroundByPairs h n s ⊎ ((n ≡ 3) × (HasStaleSource h s ⊎ HasReturn)) → IsTrue r
+      go (inl pairs) = absurd (none pairs)
+      go (inr (same, inl stale)) = absurd (fresh stale)
+      go (inr (same, inr back)) = both.1 back

@@ -1,8 +1,11 @@
+pub mod AlongLemmas
 pub mod Around
 pub mod CheapestLemmas
 pub mod LastLemmas
+pub mod LongLemmas
 pub mod Picking
 pub mod ReturnLemmas
+pub mod StaleLemmas
 pub mod TwoStepLemmas
 pub mod WayLemmas
 pub mod WorkedStarts

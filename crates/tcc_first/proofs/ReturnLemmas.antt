@@ -2,7 +2,7 @@
 use Rattle.std.proofs.Common.{ℕ, ◌<◌, ◌≤◌, ◌≡◌, ◌==◌, ◌⊎◌, inl, inr, Bool, true, List, length, map, sym, subst, ◌∙◌, ap, arith}
 use Rattle.std.specs.Prelude.{◌↔◌, IsTrue, slice_index}
 use Rattle.std.specs.List.{Contains}
-use Rattle.std.proofs.lemmas.Bool.{or_cases, eqb-true}
+use Rattle.std.proofs.lemmas.Bool.{cases_lt, or_cases, eqb-true}
 use Rattle.std.proofs.lemmas.List.{get_or_default}
 use Rattle.tcc_txn.proofs.Lists.{from_map}
 use Rattle.tcc_reads.specs.History.{History, IsBySession, entry_at}
@@ -15,7 +15,7 @@ use Rattle.tcc_graph.proofs.WriterLemmas.{key_place, writer_listed}
 use Rattle.tcc_least.specs.Shapes.{IsRead, IsReturn}
 use Rattle.tcc_least.proofs.Listed.{pair_at, at_pair}
 use Rattle.tcc_least.proofs.Sessions.{not_itself}
-use Rattle.tcc_first.specs.private.Ways.{IsTwoStep}
+use Rattle.tcc_first.specs.private.Ways.{IsOverwritten, IsSessionTwoStep}
 use Rattle.tcc_first.proofs.WayLemmas.{rises_to, stands_before, stands_after}
 
 -- ---- the readings from a
@@ -59,38 +59,54 @@ module _ (h : History) (ordered : IsBySession h.entries) (a c : ℕ) (x : List �
       let low : b ≤ m = high b (writer_listed h x a c b read writer) (rises_to h ordered b c parts.some q) in
       (stands_after h ordered a b m c p low below q, stands_before h ordered b m c parts.some low below q)
 
-module _ (h : History) (a c : ℕ) (x : List ℕ) (read : IsReadsPair h a c x) where
-  pub returns_by : (b : ℕ) → IsWriter h b x → IsSessionPair h a b → IsCausalPair h b c → (b : ℕ) × IsSessionPair h a b × IsTwoStep h b a
-  returns_by b writer p q =
-      (b, p, (x, c, ((λ same. not_itself h a (subst (λ (z : ℕ). IsSessionPair h a z) same p)), read, writer), q))
-
 -- ---- the loop over the readings from a
--- none of the first n is overwritten by what follows a in session order and leads to its reader by a pair
+-- none of the first n is overwritten since
 abbrev pub NoneOverwritten : History → ℕ → List ℕ → List ℕ → ℕ → Type 0
 NoneOverwritten h a readers key_indices n =
-    (k : ℕ) → k < n → ((b : ℕ) × IsWriter h b (key_at h (slice_index key_indices k)) × IsSessionPair h a b × IsCausalPair h b (slice_index readers k)) → ⊥
+    (k : ℕ) → k < n → IsOverwritten h a (slice_index readers k) (key_at h (slice_index key_indices k)) → ⊥
+
+-- something that is read from a is
+abbrev pub HasOverwritten : History → ℕ → Type 0
+HasOverwritten h a = (x : List ℕ) × (c : ℕ) × IsReadsPair h a c x × IsOverwritten h a c x
 
 module _ (h : History) (a : ℕ) (readers key_indices : List ℕ) (are : AreReadingsByIndex h a readers key_indices) where
-  pub none_returns : (n : ℕ) → length readers ≤ n → NoneOverwritten h a readers key_indices n → ((b : ℕ) × IsSessionPair h a b × IsTwoStep h b a) → ⊥
-  none_returns n all none (b, p, (x, c, (other, read, writer), q)) =
+  pub none_overwritten : (n : ℕ) → length readers ≤ n → NoneOverwritten h a readers key_indices n → HasOverwritten h a → ⊥
+  none_overwritten n all none (x, c, read, over) =
       let w = place_of_reading h a readers key_indices are c x read in
       none w.0 (omega (arith, all, w.1))
-      (b, subst (λ (z : List ℕ). IsWriter h b z) (sym w.3) writer, p, subst (λ (z : ℕ). IsCausalPair h b z) (sym w.2) q)
+      (subst (λ (z : ℕ). IsOverwritten h a z (key_at h (slice_index key_indices w.0))) (sym w.2)
+      (subst (λ (z : List ℕ). IsOverwritten h a c z) (sym w.3) over))
 
 -- ---- by what the one pair is
 pub overwritten_or : (h : History) (a c : ℕ) (x : List ℕ) (r : Bool) → (((b : ℕ) × IsWriter h b x × IsSessionPair h a b × IsSessionPair h b c) → ⊥)
-    → IsTrue r ↔ ((b : ℕ) × IsWriter h b x × IsSessionPair h a b × IsRead h b c)
-    → IsTrue r ↔ ((b : ℕ) × IsWriter h b x × IsSessionPair h a b × IsCausalPair h b c)
-overwritten_or h a c x r none both = ((λ e. let (b, writer, p, q) = both.0 e in (b, writer, p, inr q)), go)
+    → IsTrue r ↔ ((b : ℕ) × IsWriter h b x × (a < b) × IsCausalPair h a b × IsRead h b c) → IsTrue r ↔ IsOverwritten h a c x
+overwritten_or h a c x r none both = ((λ e. let (b, writer, low, p, q) = both.0 e in (b, writer, inr (low, p, q))), go)
   where
-    go : ((b : ℕ) × IsWriter h b x × IsSessionPair h a b × IsCausalPair h b c) → IsTrue r
-    go (b, writer, p, inl q) = absurd (none (b, writer, p, q))
-    go (b, writer, p, inr q) = both.1 (b, writer, p, q)
+    go : IsOverwritten h a c x → IsTrue r
+    go (b, writer, inl (p, q)) = absurd (none (b, writer, p, q))
+    go (b, writer, inr (low, p, q)) = both.1 (b, writer, low, p, q)
 
-pub return_or : (h : History) (a : ℕ) (r : Bool) → (((b : ℕ) × IsSessionPair h a b × IsTwoStep h b a) → ⊥)
-    → IsTrue r ↔ ((b : ℕ) × IsRead h a b × IsTwoStep h b a) → IsTrue r ↔ ((b : ℕ) × IsReturn h b a)
-return_or h a r none both = ((λ e. let (b, read, short) = both.0 e in (b, (short, inr read))), go)
+module _ (h : History) (ordered : IsBySession h.entries) (a : ℕ) where
+  -- what follows a in session order isn't below it
+  session_up : (b : ℕ) → IsSessionPair h a b → a ≤ b
+  session_up b p = go (cases_lt 0 a)
+    where
+      go : (0 < a) ⊎ (a ≤ 0) → a ≤ b
+      go (inl some) = omega (arith, rises_to h ordered a b some p)
+      go (inr none) = omega (arith, none)
+
+  pub overwritten_return : HasOverwritten h a → (b : ℕ) × IsReturn h b a × (a ≤ b)
+  overwritten_return (x, c, read, (b, writer, inl (p, q))) =
+      (b, ((x, c, ((λ same. not_itself h a (subst (λ (z : ℕ). IsSessionPair h a z) same p)), read, writer), inl q), inl p), session_up b p)
+  overwritten_return (x, c, read, (b, writer, inr (low, p, q))) =
+      (b, ((x, c, ((λ same. absurd (omega (arith, low, same))), read, writer), inr q), p), omega (arith, low))
+
+pub return_or : (h : History) (a : ℕ) (r : Bool) → (HasOverwritten h a → ⊥)
+    → IsTrue r ↔ ((b : ℕ) × IsRead h a b × (a ≤ b) × IsSessionTwoStep h b a) → IsTrue r ↔ ((b : ℕ) × IsReturn h b a × (a ≤ b))
+return_or h a r none both = ((λ e. let (b, read, up, (x, c, against, p)) = both.0 e in (b, ((x, c, against, inl p), inr read), up)), go)
   where
-    go : ((b : ℕ) × IsReturn h b a) → IsTrue r
-    go (b, (short, inl p)) = absurd (none (b, p, short))
-    go (b, (short, inr q)) = both.1 (b, q, short)
+    go : ((b : ℕ) × IsReturn h b a × (a ≤ b)) → IsTrue r
+    go (b, ((x, c, (other, read, writer), inr q), back), up) =
+        absurd (none (x, c, read, (b, writer, inr (omega (arith, other, up), back, q))))
+    go (b, ((x, c, (other, read, writer), inl p), inl q), up) = absurd (none (x, c, read, (b, writer, inl (q, p))))
+    go (b, ((x, c, against, inl p), inr source), up) = both.1 (b, source, up, (x, c, against, p))

@@ -14,7 +14,7 @@ use Rattle.tcc_graph.proofs.Sessions.{upto, onward}
 use Rattle.tcc_least.specs.Shapes.{IsRead}
 use Rattle.tcc_least.proofs.Listed.{pair_at, at_pair}
 use Rattle.tcc_least.proofs.Sessions.{session_on, not_itself}
-use Rattle.tcc_first.specs.private.Ways.{HasBetween, IsWay}
+use Rattle.tcc_first.specs.private.Ways.{HasBetween, HasPairs, IsWay}
 
 -- ---- who reads from a
 module _ (h : History) (a : ℕ) (readers key_indices : List ℕ) (are : AreReadingsByIndex h a readers key_indices) where
@@ -53,6 +53,11 @@ module _ (h : History) (ordered : IsBySession h.entries) where
           absurd (omega (arith, l, m))
       go (inr down) (inr up) =
           let same : v ≡ u = omega (arith, down, up) in absurd (not_itself h u (subst (λ (z : ℕ). IsSessionPair h u z) same p))
+
+  -- a pair to a lower number is a read
+  pub read_down : (u m : ℕ) → m < u → IsCausalPair h u m → IsRead h u m
+  read_down u m low (inr read) = read
+  read_down u m low (inl p) = absurd (omega (arith, low, rises_to u m (omega (arith, low)) p))
 
   -- what follows one that stands before v, up to v, stands before it too
   pub stands_before : (u m v : ℕ) → 0 < u → u ≤ m → m < v → IsSessionPair h u v → IsSessionPair h m v
@@ -117,3 +122,8 @@ pub way_by_pair : (h : History) (n s u : ℕ) → n ≡ 1 → IsWay h n s u → 
 way_by_pair h n s u one (inl (none, same)) = absurd (omega (arith, one, none))
 way_by_pair h n s u one (inr (inl (same, pair))) = pair
 way_by_pair h n s u one (inr (inr (two, way))) = absurd (omega (arith, one, two))
+
+pub one_pair : (h : History) (n s u : ℕ) → n ≡ 1 → HasPairs h n s u → IsCausalPair h s u
+one_pair h n s u one (inl (none, same)) = absurd (omega (arith, one, none))
+one_pair h n s u one (inr (inl (same, pair))) = pair
+one_pair h n s u one (inr (inr (two, between))) = absurd (omega (arith, one, two))

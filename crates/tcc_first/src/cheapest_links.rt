@@ -29,7 +29,7 @@ fn first_key(graph: &LargeGraph, from: u32, to: u32) -> Name
 }
 
 /// The first step from one transaction to the other.
-fn first_step(graph: &LargeGraph, from: u32, to: u32) -> Step
+pub(crate) fn first_step(graph: &LargeGraph, from: u32, to: u32) -> Step
     requires from { from < count graph.now }
     requires to { to < count graph.now }
     requires pair { IsCausalPair graph.now from to }
@@ -43,7 +43,7 @@ fn first_step(graph: &LargeGraph, from: u32, to: u32) -> Step
 }
 
 /// The lesser of the first reading so far and another one, by key and by reader.
-fn lesser(first: Option<(u32, u32)>, key_index: u32, reader: u32) -> Option<(u32, u32)>
+pub(crate) fn lesser(first: Option<(u32, u32)>, key_index: u32, reader: u32) -> Option<(u32, u32)>
     ensures either { (result ≡ first) ⊎ (result ≡ Some (key_index, reader)) }
     ensures kept { (k : ℕ) (c : ℕ) → IsFoundUpTo first k c → IsFoundUpTo result k c }
     ensures here { IsFoundUpTo result key_index reader }
@@ -95,7 +95,7 @@ fn first_contradicted(graph: &LargeGraph, from: u32, source: u32) -> (Name, u32)
 }
 
 /// The first link by a pair.
-fn pair_link(graph: &LargeGraph, from: u32, to: u32) -> Link
+pub(crate) fn pair_link(graph: &LargeGraph, from: u32, to: u32) -> Link
     requires from { from < count graph.now }
     requires to { to < count graph.now }
     requires pair { IsCausalPair graph.now from to }

@@ -2,12 +2,18 @@
 //! from the last backwards. Where a least cycle costs three steps at most, as most do, it shows at one place, and no search is needed.
 #![tactic(auto)]
 
+mod along;
+mod cheapest;
 mod cheapest_links;
+mod first_walks;
 mod ranges;
 mod returns;
 mod short;
+mod stale_sources;
 mod starts;
 mod two_steps;
 mod ways;
 
+pub use along::first_along;
+pub use cheapest::cheapest_link;
 pub use short::first_short;

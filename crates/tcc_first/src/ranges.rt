@@ -35,6 +35,19 @@ pub(crate) fn last_below(numbers: &[u32], high: u32) -> Option<u32>
     Some(numbers[count - 1])
 }
 
+/// The first of ascending numbers above `low`.
+pub(crate) fn first_above(numbers: &[u32], low: u32) -> Option<u32>
+    requires { IsNonDecreasing numbers.now }
+    ensures { MatchOption result ((n : ℕ) → Contains numbers.now n → n ≤ low)
+        (λ first. Contains numbers.now first × (low < first) × ((n : ℕ) → Contains numbers.now n → low < n → first ≤ n)) }
+{
+    let index = count_up_to(numbers, low);
+    if index >= numbers.len() {
+        return None;
+    }
+    Some(numbers[index])
+}
+
 /// Whether one of ascending numbers is at least `low` and less than `high`.
 pub(crate) fn has_within(numbers: &[u32], low: u32, high: u32) -> bool
     requires { IsNonDecreasing numbers.now }

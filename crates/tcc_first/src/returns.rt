@@ -1,13 +1,13 @@
-//! Derived links of two steps into a transaction, to each of which a pair leads back from there: over its readers, and over those that
-//! follow it in session order, by what is read from it and overwritten since.
-ghost use Rattle.std.specs.Prelude.{◌≡◌, ◌<◌, ◌↔◌, ℕ, length, IsTrue};
+//! Derived links of two steps into a transaction, to each of which a pair leads back from there: by what is read from it and overwritten
+//! since, and over its readers where the reader of the link follows in session order.
+ghost use Rattle.std.specs.Prelude.{◌≡◌, ◌≤◌, ◌<◌, ◌↔◌, ℕ, List, length, IsTrue};
 ghost use Rattle.tcc_reads.specs.History.{count};
 ghost use Rattle.tcc_graph.specs.{Relations.IsSessionPair, Relations.IsReadsPair, Relations.IsCausalPair, Keys.IsWriter, Keys.keys, Keys.key_at};
 ghost use Rattle.tcc_least.specs.Shapes.{IsRead, IsReturn};
-ghost use Rattle.tcc_first.specs.private.Ways.{IsTwoStep};
+ghost use Rattle.tcc_first.specs.private.Ways.{IsOverwritten, IsSessionTwoStep};
 
 use crate::ranges::{has_number, last_below};
-use crate::two_steps::is_two_step;
+use crate::two_steps::is_session_two_step;
 use tcc_graph::LargeGraph;
 
 /// Whether a writer of the key at an index stands between two transactions in session order.
@@ -26,41 +26,41 @@ fn is_overwritten_between(graph: &LargeGraph, from: u32, to: u32, key_index: u32
     graph.session(from, writer) && graph.session(writer, to)
 }
 
-/// Whether a reader of the key at an index from a transaction reads too from a writer of the key that follows that in session order.
+/// Whether a reader of the key at an index from a transaction reads too from a writer of the key above that, to which a pair leads from
+/// there.
 fn reads_overwriting(graph: &LargeGraph, from: u32, reader: u32, key_index: u32) -> bool
     requires from { from < count graph.now }
     requires reader { reader < count graph.now }
     requires key { key_index < length (keys graph.now) }
     requires read { IsReadsPair graph.now from reader (key_at graph.now key_index) }
     ensures { IsTrue result
-        ↔ ((b : ℕ) × IsWriter graph.now b (key_at graph.now key_index) × IsSessionPair graph.now from b × IsRead graph.now b reader) }
+        ↔ ((b : ℕ) × IsWriter graph.now b (key_at graph.now key_index) × (from < b) × IsCausalPair graph.now from b × IsRead graph.now b reader) }
 {
     let writers = graph.writers_at(key_index);
     for read in graph.reads_at(reader) {
-        if graph.session(from, read.1) && has_number(writers, read.1) {
+        if from < read.1 && graph.causal(from, read.1) && has_number(writers, read.1) {
             return true;
         }
     }
     false
 }
 
-/// Whether a writer of the key at an index follows a transaction in session order, and leads by a pair to a reader of the key from it.
+/// Whether what a reader reads of the key at an index from a transaction is overwritten since.
 fn is_overwritten(graph: &LargeGraph, from: u32, reader: u32, key_index: u32) -> bool
     requires from { from < count graph.now }
     requires reader { reader < count graph.now }
     requires key { key_index < length (keys graph.now) }
     requires read { IsReadsPair graph.now from reader (key_at graph.now key_index) }
-    ensures { IsTrue result
-        ↔ ((b : ℕ) × IsWriter graph.now b (key_at graph.now key_index) × IsSessionPair graph.now from b × IsCausalPair graph.now b reader) }
+    ensures { IsTrue result ↔ IsOverwritten graph.now from reader (key_at graph.now key_index) }
 {
     is_overwritten_between(graph, from, reader, key_index)
         || reads_overwriting(graph, from, reader, key_index)
 }
 
-/// Whether a derived link of two steps leads into a transaction from one that follows it in session order.
-fn has_session_return(graph: &LargeGraph, from: u32) -> bool
+/// Whether something that is read from a transaction is overwritten since.
+fn has_overwritten(graph: &LargeGraph, from: u32) -> bool
     requires { from < count graph.now }
-    ensures { IsTrue result ↔ ((b : ℕ) × IsSessionPair graph.now from b × IsTwoStep graph.now b from) }
+    ensures { IsTrue result ↔ ((x : List ℕ) × (c : ℕ) × IsReadsPair graph.now from c x × IsOverwritten graph.now from c x) }
 {
     let (readers, key_indices) = graph.readings_at(from);
     for index in 0..readers.len() {
@@ -71,23 +71,25 @@ fn has_session_return(graph: &LargeGraph, from: u32) -> bool
     false
 }
 
-/// Whether a derived link of two steps leads into a transaction from a reader of it.
-fn has_read_return(graph: &LargeGraph, from: u32) -> bool
+/// Whether a derived link of two steps, whose reader follows in session order, leads into a transaction from a reader of it that isn't
+/// below it.
+fn has_reader_return(graph: &LargeGraph, from: u32) -> bool
     requires { from < count graph.now }
-    ensures { IsTrue result ↔ ((b : ℕ) × IsRead graph.now from b × IsTwoStep graph.now b from) }
+    ensures { IsTrue result ↔ ((b : ℕ) × IsRead graph.now from b × (from ≤ b) × IsSessionTwoStep graph.now b from) }
 {
     for reader in graph.readings_at(from).0 {
-        if is_two_step(graph, *reader, from) {
+        if from <= *reader && is_session_two_step(graph, *reader, from) {
             return true;
         }
     }
     false
 }
 
-/// Whether a pair leads from a transaction to another, and a derived link of two steps back.
+/// Whether a pair leads from a transaction to another that isn't below it, and a derived link of two steps back.
 pub(crate) fn has_return(graph: &LargeGraph, from: u32) -> bool
     requires { from < count graph.now }
-    ensures { IsTrue result ↔ ((b : ℕ) × IsReturn graph.now b from) }
+    ensures { IsTrue result ↔ ((b : ℕ) × IsReturn graph.now b from × (from ≤ b)) }
 {
-    has_session_return(graph, from) || has_read_return(graph, from)
+    graph.numbered();
+    has_overwritten(graph, from) || has_reader_return(graph, from)
 }

@@ -1,30 +1,44 @@
 //! Where the first of the least cycles starts, if it costs three steps at most: the first transaction around which a cycle of one step
-//! leads, else of two, else of three. Of R reads, each of a transaction with D reads and writes at most, it takes R * D * D look-ups by
-//! halving.
+//! leads and over none below it, else of two, else of three. Of R reads, each of a transaction with D reads and writes at most, it
+//! takes R * D look-ups by halving.
 ghost use Rattle.std.specs.Prelude.{◌≡◌, ◌≤◌, ◌<◌, ◌↔◌, ℕ, IsTrue, MatchOption};
 ghost use Rattle.tcc_reads.specs.History.{count};
 ghost use Rattle.tcc_graph.specs.{Levels.judged, declared.level.Level.Level};
 ghost use Rattle.tcc_least.specs.Shapes.{NoneBelow};
-ghost use Rattle.tcc_first.specs.{private.Starts.IsFirstStart, private.Ways.IsAround};
+ghost use Rattle.tcc_first.specs.{private.Starts.IsFirstStart, private.Ways.IsAround, private.Ways.IsAroundByPairs};
 
 use crate::returns::has_return;
-use crate::ways::is_way;
+use crate::stale_sources::has_stale_source;
+use crate::ways::has_pairs;
 use tcc_graph::LargeGraph;
 
-/// Whether a cycle of so many steps leads around a transaction: over one that it reads from, or over a derived link of two steps into
-/// it.
+/// Whether so many pairs lead around a transaction, the last from one that it reads from and that isn't below it.
+fn is_around_by_pairs(graph: &LargeGraph, steps: u32, start: u32) -> bool
+    requires some { 1 ≤ steps }
+    requires few { steps ≤ 3 }
+    requires start { start < count graph.now }
+    ensures { IsTrue result ↔ IsAroundByPairs graph.now steps start }
+{
+    for read in graph.reads_at(start) {
+        if start <= read.1 && has_pairs(graph, steps - 1, start, read.1) {
+            return true;
+        }
+    }
+    false
+}
+
+/// Whether a cycle of so many steps leads around a transaction and over none below it: over one that it reads from, or over a derived
+/// link of two steps into it.
 fn is_around(graph: &LargeGraph, steps: u32, start: u32) -> bool
     requires some { 1 ≤ steps }
     requires few { steps ≤ 3 }
     requires start { start < count graph.now }
     ensures { IsTrue result ↔ IsAround graph.now steps start }
 {
-    for read in graph.reads_at(start) {
-        if is_way(graph, steps - 1, start, read.1) {
-            return true;
-        }
+    if is_around_by_pairs(graph, steps, start) {
+        return true;
     }
-    steps == 3 && has_return(graph, start)
+    steps == 3 && (has_stale_source(graph, start) || has_return(graph, start))
 }
 
 /// The first transaction around which a cycle of so many steps leads.

@@ -2,7 +2,7 @@
 ghost use Rattle.std.specs.Prelude.{◌≡◌, ◌≤◌, ◌<◌, ◌↔◌, ℕ, IsTrue};
 ghost use Rattle.tcc_reads.specs.History.{count};
 ghost use Rattle.tcc_graph.specs.{Relations.IsSessionPair, Relations.IsCausalPair};
-ghost use Rattle.tcc_first.specs.private.Ways.{HasBetween, IsWay};
+ghost use Rattle.tcc_first.specs.private.Ways.{HasBetween, HasPairs, IsWay};
 
 use crate::ranges::last_below;
 use crate::two_steps::is_two_step;
@@ -56,5 +56,19 @@ pub(crate) fn is_way(graph: &LargeGraph, steps: u32, from: u32, to: u32) -> bool
         0 => from == to,
         1 => graph.causal(from, to),
         _ => has_between(graph, from, to) || is_two_step(graph, from, to),
+    }
+}
+
+/// Whether so many pairs lead from one transaction to the other, two at most.
+pub(crate) fn has_pairs(graph: &LargeGraph, steps: u32, from: u32, to: u32) -> bool
+    requires few { steps ≤ 2 }
+    requires from { from < count graph.now }
+    requires to { to < count graph.now }
+    ensures { IsTrue result ↔ HasPairs graph.now steps from to }
+{
+    match steps {
+        0 => from == to,
+        1 => graph.causal(from, to),
+        _ => has_between(graph, from, to),
     }
 }

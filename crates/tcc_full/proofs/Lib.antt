@@ -1,2 +1,4 @@
+pub mod FramedTexts
 pub mod NoFloats
 pub mod Noting
+pub mod Runs

@@ -46,7 +46,7 @@ changed old new session change rows more updates = λ name lawful.
     by name true is = more ∙ ap (λ s. change (rows_at (get (slice_cmp nat_cmp) old s))) (same_names session name is)
     by name false is = refl
 
--- a session without rows, where nothing comes of that
+-- a session without rows, where that gives nothing
 pub unchanged : (table : Table) (session : List ℕ) (change : Rows → Rows) → change [] ≡ []
     → get (slice_cmp nat_cmp) table session ≡ None → Changes session change (record { sessions = table }) (record { sessions = table })
 unchanged table session change nothing none = λ name lawful. by name (same session name) refl

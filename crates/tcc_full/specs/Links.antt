@@ -7,7 +7,7 @@ use Rattle.tcc_graph.specs.declared.step.Step.TheVariants as step
 use Rattle.tcc_graph.specs.declared.link.Link.{Link}
 use Rattle.tcc_graph.specs.declared.link.Link.TheVariants as link
 use Rattle.tcc_answer.specs.Json.{label_json}
-use Rattle.tcc_answer.specs.Labels.{label_at}
+use Rattle.tcc_graph.specs.Labels.{label_at}
 use Rattle.tcc_full.specs.Records.{Records, read_row, value_from, write_row}
 
 -- a row; null for the initial value, which nobody recorded

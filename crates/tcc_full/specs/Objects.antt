@@ -1,4 +1,4 @@
--- The one object that says all about an answer; its keys stand in byte order.
+-- The one object that says all about an answer; its keys are in byte order.
 use Rattle.std.specs.Prelude.{ℕ, ◌-◌, Bool, true, false, List, length, map, Option, None, Some, codes}
 use Rattle.serde_json.specs.Data.{Data, null, boolean, number, unsigned, string, array, object, no_members, member}
 use Rattle.serde_json.specs.View.{items_of}

@@ -3,7 +3,7 @@ use Rattle.std.specs.Prelude.{ℕ, List, slice_get, Option, option_and_then}
 use Rattle.tcc_txn.specs.Snapshots.{Sessions}
 use Rattle.tcc_reads.specs.History.{History}
 use Rattle.tcc_graph.specs.Numbers.{at}
-use Rattle.tcc_operations.specs.Operations.{first_reading, last_write, ops_of, source_value}
+use Rattle.tcc_graph.specs.Operations.{first_reading, last_write, ops_of, source_value}
 use Rattle.tcc_full.specs.Rows.{row_of}
 use Rattle.tcc_full.specs.declared.lookup.Lookup.{Lookup}
 use Rattle.tcc_full.specs.declared.rows.OperationRows.{OperationRows}

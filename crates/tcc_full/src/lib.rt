@@ -1,12 +1,20 @@
-//! What `tcc explain --full` tells beside an answer: the rows of the records at which its operations stand, and the one object
-//! that has all of it.
+//! Runs of `tcc explain --full` from bytes to bytes: the one object that says all about the answer, with the rows of the
+//! records that it speaks of, and the status that the run ends with. Nothing here knows about command lines or files.
 #![tactic(auto)]
 
+mod finding;
+mod framing;
 mod links;
 mod lookup;
 mod objects;
+mod reading;
 mod rows;
+mod running;
+mod telling;
 
-pub use lookup::Lookup;
-pub use objects::{Asked, Report, ended_line, row_line};
-pub use rows::{OperationRows, operation_rows};
+pub use finding::FullAnswer;
+pub use objects::Asked;
+pub use running::run_full;
+pub use tcc_print::RunContext;
+pub use tcc_txn::Limits;
+pub use telling::tell_unread;

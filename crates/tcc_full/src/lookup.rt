@@ -4,13 +4,12 @@ ghost use Rattle.tcc_full.specs.Records.{read_row, records_of, row_at, value_fro
 
 use crate::rows::OperationRows;
 use tcc_answer::Labels;
-use tcc_graph::LargeGraph;
-use tcc_operations::{first_reading, last_write, source_value};
+use tcc_graph::{LargeGraph, first_reading, last_write, source_value};
 use tcc_txn::{Bounds, Name, SnapshotWithin};
 
 /// A snapshot, its graph, the names of its transactions, and the rows of all operations.
 #[derive(Drop)]
-pub struct Lookup<'a, B: Bounds> {
+pub(crate) struct Lookup<'a, B: Bounds> {
     pub snapshot: &'a SnapshotWithin<B>,
     pub graph: &'a LargeGraph,
     pub labels: &'a Labels,

@@ -1,21 +1,23 @@
-//! The one object that says all about an answer, as a line that is made whole.
+//! The one object that says all about an answer, as a line that is made whole, item by item of its list.
 ghost use Rattle.std.specs.Prelude.{◌≡◌, IfOk, option_map, codes};
 ghost use Rattle.serde_json.specs.View.{view};
 ghost use Rattle.tcc_graph.specs.Links.{cost};
-ghost use Rattle.tcc_answer.specs.Json.{json_line};
+ghost use Rattle.tcc_answer.specs.Json.{json_line, label_json};
 ghost use Rattle.tcc_print.specs.{Json.row_fault_json, Statuses.row_status};
 ghost use Rattle.tcc_full.specs.Objects.{anomaly_json, committed_count, consistent_json, ended_json, fault_json, field_name, is_large, level_word, limits_json, name_json, none_json, unresolved_json};
 ghost use Rattle.tcc_full.specs.Records.{records_of};
+ghost use Rattle.tcc_full.specs.private.Framing.{cycle_after, faults_after, list_before, order_after, order_before};
 
+use crate::framing::Frame;
 use crate::links::row_json;
 use crate::lookup::Lookup;
 use serde_json::{Value, json};
 use std::alloc::{AllocError, Global};
-use tcc_answer::{Values, labels_json, list_json, object_line, shape_of, shape_word};
-use tcc_graph::{LargeGraph, Level, Link};
+use tcc_answer::pieces::{Objects, push_value};
+use tcc_answer::{object_line, shape_of, shape_word};
+use tcc_graph::{LargeGraph, Level, Link, steps_of};
 use tcc_print::Status;
 use tcc_print::json::row_fault_json;
-use tcc_print::large::steps_of;
 use tcc_print::status::row_status;
 use tcc_print::texts::read_word;
 use tcc_reads::{ReadFault, ReadFaultKind};
@@ -30,9 +32,9 @@ pub struct Asked<'a> {
     pub limits: Limits,
 }
 
-/// What is told of a snapshot: it says what was asked for, and looks up the operations that an answer speaks of.
+/// What is reported of a snapshot: it says what was asked for, and looks up the operations that an answer speaks of.
 #[derive(Drop)]
-pub struct Report<'a, B: Bounds> {
+pub(crate) struct Report<'a, B: Bounds> {
     pub alloc: Global,
     pub asked: &'a Asked<'a>,
     pub lookup: &'a Lookup<'a, B>,
@@ -97,10 +99,10 @@ fn name_json(alloc: Global, kind: ReadFaultKind) -> Result<Value, AllocError>
     }
 }
 
-impl<B: Bounds> Values<ReadFault> for Lookup<'_, B> {
-    ghost json = { λ lookup fault. fault_json (records_of lookup) fault };
-
-    fn value(&self, alloc: Global, fault: &ReadFault) -> Result<Value, AllocError> {
+impl<B: Bounds> Lookup<'_, B> {
+    fn fault_json(&self, alloc: Global, fault: &ReadFault) -> Result<Value, AllocError>
+        ensures { IfOk result (λ v. view v ≡ fault_json (records_of self.now) fault.now) }
+    {
         let index = (fault.op as usize).saturating_sub(1);
         let row = self.rows.row(&fault.session, fault.place, index);
         json!(in alloc; {
@@ -116,17 +118,58 @@ impl<B: Bounds> Values<ReadFault> for Lookup<'_, B> {
     }
 }
 
+impl<B: Bounds> Objects<ReadFault> for Lookup<'_, B> {
+    ghost json = { λ lookup fault. fault_json (records_of lookup) fault };
+
+    fn push_object(
+        &self,
+        alloc: Global,
+        text: &mut Vec<u8>,
+        fault: &ReadFault,
+    ) -> Result<(), NoMemory> {
+        push_value(alloc, text, &self.fault_json(alloc, fault)?)
+    }
+}
+
+impl<B: Bounds> Objects<u32> for Lookup<'_, B> {
+    ghost json = { λ lookup number. label_json (records_of lookup).labels number };
+
+    fn push_object(&self, alloc: Global, text: &mut Vec<u8>, number: &u32) -> Result<(), NoMemory> {
+        push_value(
+            alloc,
+            text,
+            &Value::try_from_str(alloc, self.labels.at(*number))?,
+        )
+    }
+}
+
+/// What the objects of a cycle and of read faults have before their list.
+fn list_before(alloc: Global, word: &str) -> Result<Value, AllocError>
+    ensures { IfOk result (λ v. view v ≡ list_before word.now) }
+{
+    json!(in alloc; { "answer": word })
+}
+
 impl<B: Bounds> Report<'_, B> {
-    fn consistent_json(&self, order: &[u32], status: Status) -> Result<Value, AllocError>
-        ensures { IfOk result (λ v. view v ≡ consistent_json self.now.asked.now (records_of self.now.lookup.now) order.now status) }
+    /// What the object of an order has before its names.
+    fn order_before(&self) -> Result<Value, AllocError>
+        ensures { IfOk result (λ v. view v ≡ order_before self.now.asked.now) }
     {
-        let (alloc, asked, lookup) = (self.alloc, self.asked, self.lookup);
+        let (alloc, asked) = (self.alloc, self.asked);
         json!(in alloc; {
             "answer": "consistent",
             "large": is_large(asked.limits),
             "level": level_word(asked.level),
-            "limits": limits_json(alloc, asked.limits)?,
-            "order": labels_json(alloc, lookup.labels, order)?,
+            "limits": limits_json(alloc, asked.limits)?
+        })
+    }
+
+    /// What it has after them.
+    fn order_after(&self, status: Status) -> Result<Value, AllocError>
+        ensures { IfOk result (λ v. view v ≡ order_after self.now.asked.now (records_of self.now.lookup.now) status) }
+    {
+        let (alloc, asked, lookup) = (self.alloc, self.asked, self.lookup);
+        json!(in alloc; {
             "sessions": lookup.graph.sessions().len(),
             "status": status.code(),
             "transactions": committed_count(lookup.graph),
@@ -135,20 +178,24 @@ impl<B: Bounds> Report<'_, B> {
     }
 
     /// The line of an order of all transactions, with the status of the run.
-    pub fn consistent_line(&self, order: &[u32], status: Status) -> Result<Vec<u8>, NoMemory>
+    pub(crate) fn consistent_line(&self, order: &[u32], status: Status) -> Result<Vec<u8>, NoMemory>
         ensures { IfOk result (λ line. line.items ≡ json_line (consistent_json self.now.asked.now (records_of self.now.lookup.now) order.now status)) }
     {
-        object_line(self.alloc, &self.consistent_json(order, status)?)
+        let frame = Frame {
+            before: self.order_before()?,
+            name: "order",
+            after: self.order_after(status)?,
+        };
+        frame.line(self.alloc, self.lookup, order)
     }
 
-    fn anomaly_json(&self, links: &[Link], steps: usize, least: bool) -> Result<Value, AllocError>
+    /// What the object of a cycle has after its links.
+    fn cycle_after(&self, links: &[Link], steps: usize, least: bool) -> Result<Value, AllocError>
         requires { steps ≡ cost links.now }
-        ensures { IfOk result (λ v. view v ≡ anomaly_json self.now.asked.now (records_of self.now.lookup.now) links.now least) }
+        ensures { IfOk result (λ v. view v ≡ cycle_after self.now.asked.now (records_of self.now.lookup.now) links.now least) }
     {
         let (alloc, asked, lookup) = (self.alloc, self.asked, self.lookup);
         json!(in alloc; {
-            "answer": "anomaly",
-            "cycle": list_json(alloc, lookup, links)?,
             "large": is_large(asked.limits),
             "least": least,
             "level": level_word(asked.level),
@@ -163,20 +210,24 @@ impl<B: Bounds> Report<'_, B> {
     }
 
     /// The line of a cycle, and whether none has fewer steps.
-    pub fn anomaly_line(&self, links: &[Link], least: bool) -> Result<Vec<u8>, NoMemory>
+    pub(crate) fn anomaly_line(&self, links: &[Link], least: bool) -> Result<Vec<u8>, NoMemory>
         ensures { IfOk result (λ line. line.items ≡ json_line (anomaly_json self.now.asked.now (records_of self.now.lookup.now) links.now least)) }
     {
         let steps = steps_of(links)?;
-        object_line(self.alloc, &self.anomaly_json(links, steps, least)?)
+        let frame = Frame {
+            before: list_before(self.alloc, "anomaly")?,
+            name: "cycle",
+            after: self.cycle_after(links, steps, least)?,
+        };
+        frame.line(self.alloc, self.lookup, links)
     }
 
-    fn unresolved_json(&self, faults: &[ReadFault]) -> Result<Value, AllocError>
-        ensures { IfOk result (λ v. view v ≡ unresolved_json self.now.asked.now (records_of self.now.lookup.now) faults.now) }
+    /// What the object of read faults has after them.
+    fn faults_after(&self) -> Result<Value, AllocError>
+        ensures { IfOk result (λ v. view v ≡ faults_after self.now.asked.now (records_of self.now.lookup.now)) }
     {
         let (alloc, asked, lookup) = (self.alloc, self.asked, self.lookup);
         json!(in alloc; {
-            "answer": "unresolved",
-            "faults": list_json(alloc, lookup, faults)?,
             "large": is_large(asked.limits),
             "level": level_word(asked.level),
             "limits": limits_json(alloc, asked.limits)?,
@@ -188,10 +239,15 @@ impl<B: Bounds> Report<'_, B> {
     }
 
     /// The line of all read faults.
-    pub fn unresolved_line(&self, faults: &[ReadFault]) -> Result<Vec<u8>, NoMemory>
+    pub(crate) fn unresolved_line(&self, faults: &[ReadFault]) -> Result<Vec<u8>, NoMemory>
         ensures { IfOk result (λ line. line.items ≡ json_line (unresolved_json self.now.asked.now (records_of self.now.lookup.now) faults.now)) }
     {
-        object_line(self.alloc, &self.unresolved_json(faults)?)
+        let frame = Frame {
+            before: list_before(self.alloc, "unresolved")?,
+            name: "faults",
+            after: self.faults_after()?,
+        };
+        frame.line(self.alloc, self.lookup, faults)
     }
 }
 
@@ -215,7 +271,7 @@ fn none_json(
 }
 
 /// The line of records of which one has a fault, or whose reader failed.
-pub fn row_line(alloc: Global, asked: &Asked, fault: &RowFault) -> Result<Vec<u8>, NoMemory>
+pub(crate) fn row_line(alloc: Global, asked: &Asked, fault: &RowFault) -> Result<Vec<u8>, NoMemory>
     ensures { IfOk result (λ line. line.items ≡ json_line (none_json asked.now (row_fault_json fault.now) (row_status fault.now.kind))) }
 {
     let status = row_status(&fault.kind);
@@ -224,7 +280,7 @@ pub fn row_line(alloc: Global, asked: &Asked, fault: &RowFault) -> Result<Vec<u8
 }
 
 /// The line of records that could not be judged for another reason, which the word names.
-pub fn ended_line(
+pub(crate) fn ended_line(
     alloc: Global,
     asked: &Asked,
     word: &str,

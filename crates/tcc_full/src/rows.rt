@@ -18,7 +18,7 @@ struct OperationRow {
 
 /// Of each session the rows of the operations of each of its transactions, in their order.
 #[derive(Drop)]
-pub struct OperationRows {
+pub(crate) struct OperationRows {
     sessions: BTreeMap<Name, Vec<Vec<OperationRow>>>,
 }
 
@@ -145,7 +145,7 @@ impl OperationRows {
     }
 
     /// The row of an operation of the session's transaction at a place, by its index from 0.
-    pub fn row(&self, session: &Name, place: u32, index: usize) -> Option<u32>
+    pub(crate) fn row(&self, session: &Name, place: u32, index: usize) -> Option<u32>
         ensures { result ≡ row_of self.now session.now place index }
     {
         let transactions = self.sessions.get(session)?;
@@ -156,7 +156,7 @@ impl OperationRows {
 }
 
 /// The rows of all operations among the records of a text.
-pub fn operation_rows(alloc: Global, text: &[u8]) -> Result<OperationRows, NoMemory>
+pub(crate) fn operation_rows(alloc: Global, text: &[u8]) -> Result<OperationRows, NoMemory>
     ensures { IfOk result (HasRowsOf text.now) }
 {
     let mut reader = ReaderBuilder::new()

@@ -42,5 +42,6 @@ pub mod TableLemmas
 pub mod Tied
 pub mod Upward
 pub mod Walking
+pub mod Stepping
 pub mod Worked
 pub mod WriterLemmas

@@ -10,7 +10,9 @@ pub mod Clocks
 pub mod Ties
 pub mod Answers
 pub mod Numbers
+pub mod Labels
 pub mod Tables
 pub mod KeyIndices
 pub mod Renumbered
+pub mod Operations
 pub mod private

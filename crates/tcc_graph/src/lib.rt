@@ -1,4 +1,5 @@
-//! The two relations of a resolved history, and the steps and links that answers are made of.
+//! The two relations of a resolved history, the steps and links that answers are made of, and the labels and recorded operations
+//! of its transactions.
 #![tactic(auto)]
 
 mod graph;
@@ -7,24 +8,30 @@ mod indexed;
 mod key_row;
 mod key_table;
 mod keys;
+mod labels;
 mod large_graph;
 pub mod laws;
 mod level;
 mod limits;
 mod link;
 mod named;
+mod operations;
 mod renumbering;
 mod routes;
 mod step;
+mod steps;
 mod tables;
 mod validity;
 
 pub use graph::Graph;
 pub use key_table::key_index_of;
+pub use labels::Labels;
 pub use large_graph::LargeGraph;
 pub use level::Level;
 pub use limits::{MAX_CYCLE_COST, MAX_LINK_COST};
 pub use link::Link;
+pub use operations::{first_reading, last_write, source_value};
 pub use renumbering::Renumbering;
 pub use routes::is_cycle;
 pub use step::{Step, Walk};
+pub use steps::steps_of;

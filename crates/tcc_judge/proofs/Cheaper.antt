@@ -69,8 +69,9 @@ module _ (j : Judged) (rank : ℕ → ℕ) (rises : Rises j.history rank) (none 
       comes : LinksLead j s 0 (w.front ++ w.last ∷ [])
       comes = lead_append j s split.0 0 w.front (w.last ∷ []) split.1 (split.2.0, split.2.1, w.to)
 
-  cheaper : (s : ℕ) (links : List Link) → IsCycle j s links → cost links < most → HasCheaperAmong j members most ⊎ HasCheaperIntoInit j key_indices most
-  cheaper s links cycle few = go (comes_or_never links)
+  -- a cycle that costs less is among the members, or one into `init` does
+  pub among_or_into : (s : ℕ) (links : List Link) → IsCycle j s links → cost links < most → All (IsAmong members) links ⊎ HasCheaperIntoInit j key_indices most
+  among_or_into s links cycle few = go (comes_or_never links)
     where
       some : (n : ℕ) (others : List Link) → IsCycle j 0 others → cost others ≤ n + 2 → n + 2 < most → HasCheaperIntoInit j key_indices most
       some n others circle low high = by (init_reason j none n others circle low)
@@ -78,7 +79,7 @@ module _ (j : Judged) (rank : ℕ → ℕ) (rises : Rises j.history rank) (none 
           by : HasReasonAgainstInit j n → HasCheaperIntoInit j key_indices most
           by (b, x, c, walk, reason, short) =
               let key = has_keys b x c walk reason in
-              (b, key.0, c, walk, key.1, subst (λ (y : List ℕ). IsReason j b 0 y c walk) (sym key.2) reason, omega (arith, short, high))
+              (b, (key.0, c, walk, key.1, subst (λ (y : List ℕ). IsReason j b 0 y c walk) (sym key.2) reason, omega (arith, short, high)))
 
       never_two : (others : List Link) → IsCycle j 0 others → cost others ≤ 2 → ⊥
       never_two others circle low = by (init_reason j none 0 others circle low)
@@ -86,16 +87,16 @@ module _ (j : Judged) (rank : ℕ → ℕ) (rises : Rises j.history rank) (none 
           by : HasReasonAgainstInit j 0 → ⊥
           by (b, x, c, walk, reason, short) = omega (arith, short, reason.1.0.0)
 
-      go : ComesToInit links ⊎ All (λ l. link_to l ≢ 0) links → HasCheaperAmong j members most ⊎ HasCheaperIntoInit j key_indices most
+      go : ComesToInit links ⊎ All (λ l. link_to l ≢ 0) links → All (IsAmong members) links ⊎ HasCheaperIntoInit j key_indices most
       go (inl w) = by (from_init s links cycle w)
         where
-          by : (others : List Link) × IsCycle j 0 others × (cost others ≡ cost links) → HasCheaperAmong j members most ⊎ HasCheaperIntoInit j key_indices most
+          by : (others : List Link) × IsCycle j 0 others × (cost others ≡ cost links) → All (IsAmong members) links ⊎ HasCheaperIntoInit j key_indices most
           by (others, circle, same) = at (cases_lt 2 (cost others))
             where
-              at : (2 < cost others) ⊎ (cost others ≤ 2) → HasCheaperAmong j members most ⊎ HasCheaperIntoInit j key_indices most
+              at : (2 < cost others) ⊎ (cost others ≤ 2) → All (IsAmong members) links ⊎ HasCheaperIntoInit j key_indices most
               at (inl more) = inr (some (cost others - 2) others circle (omega arith) (omega (arith, few, same, more)))
               at (inr low) = absurd (never_two others circle low)
-      go (inr never) = inl (s, links, cycle, (λ i d l. among (get_or links i d) (i, l, get_or_default links i (get_or links i d) d l)), few)
+      go (inr never) = inl (λ i d l. among (get_or links i d) (i, l, get_or_default links i (get_or links i d) d l))
         where
           never_to : (d : Link) → Contains links d → link_to d ≢ 0
           never_to d listed = subst (λ (m : Link). link_to m ≢ 0) listed.2 (never listed.0 d listed.1)
@@ -105,6 +106,13 @@ module _ (j : Judged) (rank : ℕ → ℕ) (rises : Rises j.history rank) (none 
               let both = spanned_aside j rank rises s links cycle never_to l there in
               let near = near_ends j rank rises most s links cycle never_to few l there in
               (has_members (link_from l) both.0 near.0, has_members (link_to l) both.1 near.1)
+
+  cheaper : (s : ℕ) (links : List Link) → IsCycle j s links → cost links < most → HasCheaperAmong j members most ⊎ HasCheaperIntoInit j key_indices most
+  cheaper s links cycle few = go (among_or_into s links cycle few)
+    where
+      go : All (IsAmong members) links ⊎ HasCheaperIntoInit j key_indices most → HasCheaperAmong j members most ⊎ HasCheaperIntoInit j key_indices most
+      go (inl among) = inl (s, links, cycle, among, few)
+      go (inr into) = inr into
 
   -- no cycle costs less where neither does
   pub none_below : (HasCheaperAmong j members most → ⊥) → (HasCheaperIntoInit j key_indices most → ⊥) → NoneBelow j most
@@ -123,7 +131,7 @@ pub below_among : (j : Judged) (members : List ℕ) (most : ℕ) → NoneBelow j
 below_among j members most none (v, links, cycle, among, few) = omega (arith, none v links cycle, few)
 
 pub below_into : (j : Judged) (key_indices : List ℕ) (most : ℕ) → 0 < count j.history → NoneBelow j most → HasCheaperIntoInit j key_indices most → ⊥
-below_into j key_indices most there none (b, k, c, walk, listed, reason, few) =
+below_into j key_indices most there none (b, (k, c, walk, listed, reason, few)) =
     let x = key_at j.history k in
     let derived : Link = link.Derived b 0 x c walk in
     let cycle : IsCycle j 0 (link.Session 0 b ∷ derived ∷ [])
@@ -153,7 +161,7 @@ module _ (h : History) (level : Level) (order positions : List ℕ) (numbering :
   init_first : 0 < count h → rank 0 ≡ 0
   init_first there = one_index numbering (rank 0) 0 (are.within 0 there) some (are.here 0 there ∙ sym first)
 
-  never_into : 0 < count h → NoneIntoInit h
+  pub never_into : 0 < count h → NoneIntoInit h
   never_into there a pair = omega (arith, rises a 0 pair, init_first there)
 
   pub is_spanned : 0 < count h → (v : ℕ) → IsSpannedAside (judged h level) rank v → IsSpanned h order v
@@ -207,3 +215,17 @@ module _ (h : History) (level : Level) (order positions : List ℕ) (numbering :
       where
         has_keys : (b : ℕ) (x : List ℕ) (c : ℕ) (walk : List Step) → IsReason (judged h level) b 0 x c walk → (k : ℕ) × Contains key_indices k × (key_at h k ≡ x)
         has_keys b x c walk reason = let key = is_stale b x c walk reason in (key.0, of_keys key.0 key.1, key.2)
+
+    -- and where none comes to `init`, each is among them
+    pub all_among : (HasCheaperIntoInit (judged h level) key_indices most → ⊥) → (s : ℕ) (links : List Link) → IsCycle (judged h level) s links
+        → cost links < most → All (IsAmong members) links
+    all_among into s links cycle few =
+        by (among_or_into (judged h level) rank rises (never_into there) most members key_indices (λ v is near. all v (is_spanned there v is, near)) has_keys s links
+        cycle few)
+      where
+        has_keys : (b : ℕ) (x : List ℕ) (c : ℕ) (walk : List Step) → IsReason (judged h level) b 0 x c walk → (k : ℕ) × Contains key_indices k × (key_at h k ≡ x)
+        has_keys b x c walk reason = let key = is_stale b x c walk reason in (key.0, of_keys key.0 key.1, key.2)
+
+        by : All (IsAmong members) links ⊎ HasCheaperIntoInit (judged h level) key_indices most → All (IsAmong members) links
+        by (inl among) = among
+        by (inr is) = absurd (into is)

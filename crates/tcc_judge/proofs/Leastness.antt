@@ -1,12 +1,14 @@
 -- What the rules with an order say of a claim that no cycle costs less.
-use Rattle.std.proofs.Common.{◌≡◌, ◌≢◌, ◌<◌, ◌≤◌, ◌⊎◌, ◌↔◌, ◌∙◌, inl, inr, ℕ, Bool, Option, Some, List, [], ◌∷◌, length, get_or, sym, ap, subst, arith}
+use Rattle.std.proofs.Common.{◌≡◌, ◌≢◌, ◌<◌, ◌≤◌, ◌+◌, ◌⊎◌, ◌↔◌, ◌∙◌, inl, inr, ℕ, Bool, Option, Some, List, [], ◌∷◌, length, get_or, sym, ap, subst, arith}
 use Rattle.std.specs.Prelude.{IsTrue, false}
-use Rattle.std.specs.List.{All, AllPairs}
+use Rattle.std.specs.List.{All, AllPairs, Contains}
 use Rattle.std.proofs.lemmas.List.{get_or_default}
 use Rattle.std.proofs.lemmas.Bool.{cases_eq, false≢true}
 use Rattle.tcc_reads.specs.History.{History, count}
-use Rattle.tcc_graph.specs.Keys.{keys}
+use Rattle.tcc_graph.specs.Keys.{keys, key_at}
 use Rattle.tcc_graph.specs.Levels.{judged}
+use Rattle.tcc_graph.specs.Links.{IsReason}
+use Rattle.tcc_graph.specs.declared.step.Step.{Step}
 use Rattle.tcc_graph.specs.Orders.{Before}
 use Rattle.tcc_graph.specs.declared.level.Level.{Level}
 use Rattle.tcc_cert.specs.declared.large.LinksClaim.{LinksClaim}
@@ -28,9 +30,11 @@ use Rattle.tcc_judge.specs.private.Members.{AreThose, IsMarked}
 use Rattle.tcc_judge.specs.private.Onward.{AreNarrowed, onward_rules}
 use Rattle.tcc_judge.specs.private.Positions.{KeepsPairs}
 use Rattle.tcc_graph.proofs.Numberings.{has_index}
-use Rattle.tcc_lanes.specs.Among.{HasCheaperAmong, HasCheaperIntoInit}
+use Rattle.tcc_lanes.specs.Among.{HasCheaperAmong, HasCheaperIntoInit, IsLowestIntoInit}
 use Rattle.tcc_lanes.specs.declared.limits.TheConstants.{MOST_MEMBERS, MOST_STEPS}
-use Rattle.tcc_judge.proofs.Cheaper.{below_among, below_into, none_costs_less}
+use Rattle.tcc_lanes.specs.Picked.{HasAllAmong, IsPickedAround}
+use Rattle.tcc_judge.proofs.Cheaper.{all_among, below_among, below_into, is_stale, never_into, none_costs_less}
+use Rattle.tcc_judge.proofs.PickingLemmas.{picked_into}
 use Rattle.tcc_judge.proofs.MemberLemmas.{few_same, marked_stale, stale_marked, those_all, those_few, those_same}
 
 by_order : (h : History) (level : Level) (most : ℕ) (runs : List Run) → 4 < most → (rule : Rule) (at : ℕ × ℕ)
@@ -139,3 +143,26 @@ module _ (h : History) (level : Level) (order positions : List ℕ) (ordered : I
   none_cheaper kept none =
       none_costs_less h level order positions ordered.numbering ordered.some ordered.init kept.positions_are kept.onward most members key_indices
       (λ v is. (these.each v).1 is) (λ k is. (keys_are.each k).1 is) there (λ is. none (inl is)) (λ is. none (inr is))
+
+  -- where none comes to `init`, all those of so many steps are among them
+  pub has_all : (n : ℕ) → most ≡ n + 1 → KeepsPairs h order positions → NoneBelow (judged h level) n
+      → (HasCheaperIntoInit (judged h level) key_indices most → ⊥) → HasAllAmong (judged h level) members n
+  has_all n limit kept none into = record {
+    none = none;
+    all = λ s links cycle costs.
+        all_among h level order positions ordered.numbering ordered.some ordered.init kept.positions_are kept.onward most members key_indices
+        (λ v is. (these.each v).1 is) (λ k is. (keys_are.each k).1 is) there into s links cycle (omega (arith, costs, limit));
+  }
+
+  -- the lowest that comes to `init` is in the first of those of so many steps
+  pub into_picked : (n : ℕ) → most ≡ n + 1 → KeepsPairs h order positions → NoneBelow (judged h level) n → (b : ℕ)
+      → IsLowestIntoInit (judged h level) key_indices most b
+      → All (λ v. v < count h) (0 ∷ b ∷ []) × IsPickedAround (judged h level) n (0 ∷ b ∷ [])
+  into_picked n limit kept none b is =
+      picked_into (judged h level) n none (never_into h level order positions ordered.numbering ordered.some ordered.init kept.positions_are kept.onward there) there
+      key_indices has_keys b (subst (λ (z : ℕ). IsLowestIntoInit (judged h level) key_indices z b) limit is)
+    where
+      has_keys : (b : ℕ) (x : List ℕ) (c : ℕ) (walk : List Step) → IsReason (judged h level) b 0 x c walk → (k : ℕ) × Contains key_indices k × (key_at h k ≡ x)
+      has_keys b x c walk reason =
+          let key = is_stale h level order positions ordered.numbering ordered.some ordered.init kept.positions_are kept.onward b x c walk reason in
+          (key.0, (keys_are.each key.0).1 key.1, key.2)

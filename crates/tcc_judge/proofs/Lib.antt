@@ -8,6 +8,7 @@ pub mod FoundLemmas
 pub mod BehindLemmas
 pub mod ContradictedLemmas
 pub mod SourceLemmas
+pub mod NeededLemmas
 pub mod MemberLemmas
 pub mod NearMembers
 pub mod Firsts
@@ -20,4 +21,6 @@ pub mod Certified
 pub mod Followed
 pub mod Own
 pub mod Cheaper
+pub mod PickingLemmas
 pub mod Leastness
+pub mod TakenLemmas

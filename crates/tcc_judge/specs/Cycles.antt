@@ -14,7 +14,7 @@ abbrev pub IsRightCycle : History → LinksClaim → Type 0
 IsRightCycle h k = AreLinksRight (judged h k.level) k.cost k.links
 
 -- the runs beside a claim that no cycle costs less: past a cost of 4 those of an order, else none
-pub record AreNeeded (h : History) (most : ℕ) (runs : List Run) : Type 0 where
+pub record AreNeededRuns (h : History) (most : ℕ) (runs : List Run) : Type 0 where
   pub whole : 4 < most → AreWhole h runs
   pub none : most ≤ 4 → runs ≡ []
 
@@ -22,7 +22,7 @@ pub record AreNeeded (h : History) (most : ℕ) (runs : List Run) : Type 0 where
 pub record HasLinksSizes (h : History) (k : LinksClaim) : Type 0 where
   pub transactions : k.transactions ≡ count h
   pub links : All (IsLinkBelow (count h)) k.links
-  pub least : MatchOption k.least (Unit {0}) (AreNeeded h k.cost)
+  pub least : MatchOption k.least (Unit {0}) (AreNeededRuns h k.cost)
 
 -- up to a cost of 4: a round of fewer pairs, by one of its reads-from pairs
 abbrev pub BreaksRound : History → ℕ → ℕ × ℕ → Type 0

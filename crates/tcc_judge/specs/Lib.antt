@@ -4,4 +4,6 @@ pub mod Orders
 pub mod Cycles
 pub mod Claims
 pub mod Verdicts
+pub mod Taken
+pub mod Picking
 pub mod private

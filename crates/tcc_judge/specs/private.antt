@@ -11,3 +11,5 @@ pub mod Members
 pub mod Decoding
 pub mod Singles
 pub mod Onward
+pub mod Taking
+pub mod Picking

@@ -1,5 +1,5 @@
 //! The first transaction that stands behind another and has to stand before it, at `Causal`: by one pass back along the order for
-//! each block of 64 sessions.
+//! each block of 64 sessions. A block none of whose transactions writes a key that is read from another one is passed over.
 ghost use Rattle.std.specs.Prelude.{◌≡◌, ◌<◌, ◌+◌, length, slice_index, IfOk, OnOk};
 ghost use Rattle.tcc_graph.specs.{Levels.causally, Tables.row_of};
 ghost use Rattle.tcc_clocks.specs.Clocks.{LeadsOnward};
@@ -11,6 +11,7 @@ use crate::least::NONE;
 use std::alloc::Global;
 use tcc_clocks::WIDE;
 use tcc_graph::LargeGraph;
+use tcc_base::Progress;
 use tcc_txn::NoMemory;
 
 /// The least of the numbers of sessions that the clock has come to.
@@ -107,18 +108,26 @@ fn first_of_block(
     Ok(found)
 }
 
-/// The first pair of a transaction and one that it has to stand before and doesn't, at `Causal`.
-pub(crate) fn first_behind(
+/// The first pair of a transaction and one that it has to stand before and doesn't, at `Causal`. Before each block `progress` is told
+/// how many are done.
+pub(crate) fn first_behind<P: Progress>(
     alloc: Global,
     graph: &LargeGraph,
     order: &[u32],
+    progress: &P,
 ) -> Result<Option<(u32, u32)>, NoMemory>
     requires ordered { IsOrdered graph.now order.now }
     requires onward { LeadsOnward graph.now order.now }
     ensures { IfOk result (IsFoundFirst (BreaksAxiom (causally graph.now) order.now)) }
 {
     let mut block = Block::new(alloc, graph, order)?;
-    for number in 0..graph.sessions().len().div_ceil(WIDE) {
+    let needed = block.needed(alloc, graph)?;
+    let blocks = graph.sessions().len().div_ceil(WIDE);
+    for number in 0..blocks {
+        progress.done(number, blocks);
+        if !needed[number] {
+            continue;
+        }
         block.begin(graph, order, number)?;
         if let Some(at) = first_of_block(graph, &mut block, order)? {
             return Ok(Some(at));

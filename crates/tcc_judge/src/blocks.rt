@@ -1,14 +1,17 @@
 //! Blocks of 64 sessions, one after the other, and for each of them a pass back along an order of the causal pairs: with the vector
 //! clocks of the block, and of each key and each of its sessions the next writer behind a place. For N transactions, R reads, W writes
-//! and S sessions that takes some 64 (N + 2 R) + W steps a block, all of them maxima and comparisons of rows.
-ghost use Rattle.std.specs.Prelude.{◌≡◌, ◌<◌, ◌+◌, ◌*◌, length, IfOk, MatchOption, OnOk};
-ghost use Rattle.tcc_clocks.specs.{Clocks.IsOutside, Clocks.LeadsOnward, declared.latest.TheConstants.WIDE};
+//! and S sessions that takes some 64 (N + 2 R) + W steps a block, all of them maxima and comparisons of rows. Of a block that says
+//! nothing no pass is made.
+ghost use Rattle.std.specs.Prelude.{◌≡◌, ◌<◌, ◌≤◌, ◌+◌, ◌*◌, length, IfOk, MatchOption, OnOk};
+ghost use Rattle.tcc_clocks.specs.{Clocks.AreOwners, Clocks.IsOutside, Clocks.LeadsOnward, Needed.AreNeeded, declared.latest.TheConstants.WIDE};
 ghost use Rattle.tcc_judge.specs.private.Decoding.{IsOrdered};
 ghost use Rattle.tcc_judge.specs.private.Blocks.{IsAt, IsInLane, IsReady};
 
 use crate::next_writers::{NextWriters, lower_all};
 use std::alloc::Global;
-use tcc_clocks::{SharedRows, Steps, WIDE, find_clocks, owners, previous_of_each, steps_along};
+use tcc_clocks::{
+    SharedRows, Steps, WIDE, find_clocks, needed_blocks, owners, previous_of_each, steps_along,
+};
 use tcc_graph::LargeGraph;
 use tcc_txn::NoMemory;
 
@@ -46,6 +49,16 @@ impl Block {
             clocks,
             next,
         })
+    }
+
+    /// Of each block whether one of its transactions may have to stand before another: whether it writes a key that is read from
+    /// another one. What is known of the others says nothing, so they are passed over.
+    pub(crate) fn needed(&self, alloc: Global, graph: &LargeGraph) -> Result<Vec<bool>, NoMemory>
+        requires { AreOwners graph.now self.now.owners.items }
+        ensures long { IfOk result (λ needed. length graph.now.sessions ≤ length needed.items * WIDE) }
+        ensures needed { IfOk result (λ needed. AreNeeded graph.now needed.items) }
+    {
+        needed_blocks(alloc, graph, &self.owners)
     }
 
     /// Begins a block behind the last place.

@@ -1,7 +1,8 @@
 //! What an order of the causal pairs contradicts, at `Causal`: by the passes of `blocks`. Of each place the last transaction
 //! is kept that has to stand before it and doesn't, and of each key whether one has to stand before `init`. That takes the steps of
 //! these passes, and for each reading that is contradicted one search by halving in each session. A pass forward then marks the
-//! transactions that have to stand before others (`sources`).
+//! transactions that have to stand before others (`sources`). A block none of whose transactions writes a key that is read from
+//! another one is passed over.
 ghost use Rattle.std.specs.Prelude.{◌≡◌, ◌<◌, ◌≤◌, ◌+◌, ◌⊎◌, ◌↔◌, ℕ, List, length, slice_index, slice_index_or, true, false, Contains, IfOk, IsTrue, OnOk};
 ghost use Rattle.std.specs.List.Sorted.{IsNonDecreasing};
 ghost use Rattle.tcc_reads.specs.History.{History, count};
@@ -20,6 +21,7 @@ use crate::sources::mark_sources;
 use std::alloc::Global;
 use tcc_clocks::WIDE;
 use tcc_graph::LargeGraph;
+use tcc_base::Progress;
 use tcc_txn::NoMemory;
 
 /// What an order contradicts.
@@ -157,12 +159,13 @@ fn note_block(
     Ok(())
 }
 
-/// What the order contradicts.
-pub(crate) fn contradicted_along(
+/// What the order contradicts. Before each block `progress` is told how many are done.
+pub(crate) fn contradicted_along<P: Progress>(
     alloc: Global,
     graph: &LargeGraph,
     order: &[u32],
     positions: &[u32],
+    progress: &P,
 ) -> Result<Contradicted, NoMemory>
     requires ordered { IsOrdered graph.now order.now }
     requires kept { KeepsPairs graph.now order.now positions.now }
@@ -174,7 +177,13 @@ pub(crate) fn contradicted_along(
     let mut stale = vec![in alloc; false; graph.keys().len()]?;
     let mut gaps = NextWriters::new(alloc, graph.keys().len())?;
     let mut sources = vec![in alloc; false; graph.count() as usize]?;
-    for number in 0..graph.sessions().len().div_ceil(WIDE) {
+    let needed = block.needed(alloc, graph)?;
+    let blocks = graph.sessions().len().div_ceil(WIDE);
+    for number in 0..blocks {
+        progress.done(number, blocks);
+        if !needed[number] {
+            continue;
+        }
         block.begin(graph, order, number)?;
         note_block(graph, &mut block, positions, order, &mut lasts, &mut stale)?;
         mark_sources(graph, &block, order, &lasts, &mut gaps, &mut sources)?;

@@ -2,7 +2,7 @@
 ghost use Rattle.std.specs.Prelude.{◌≡◌, ◌≤◌, ◌↔◌, [], IfOk, IsTrue, List};
 ghost use Rattle.tcc_graph.specs.declared.level.Level.{Level};
 ghost use Rattle.tcc_cert.specs.declared.large.Run.{Run};
-ghost use Rattle.tcc_judge.specs.{declared.cycles.TheConstants.SHORT, Cycles.AreNeeded, Cycles.HasLinksSizes, Verdicts.cycle_rules, Verdicts.least_rules};
+ghost use Rattle.tcc_judge.specs.{declared.cycles.TheConstants.SHORT, Cycles.AreNeededRuns, Cycles.HasLinksSizes, Verdicts.cycle_rules, Verdicts.least_rules};
 ghost use Rattle.tcc_check.specs.Asked.{IsVerdictOf};
 
 use crate::decoding::told;
@@ -15,6 +15,7 @@ use tcc_cert::{LinksClaim, Run};
 use tcc_check::are_links_below;
 use tcc_graph::{LargeGraph, Level};
 use tcc_least::{ShortCycle, short_cycle};
+use tcc_base::{Progress, Unwatched};
 use tcc_txn::NoMemory;
 
 /// Up to this cost no runs are needed.
@@ -28,8 +29,13 @@ fn is_none(runs: &[Run]) -> bool
 }
 
 /// Whether the runs are those that are needed for a claim that no cycle costs less.
-fn are_needed(alloc: Global, graph: &LargeGraph, cost: u32, runs: &[Run]) -> Result<bool, NoMemory>
-    ensures { IfOk result (λ needed. IsTrue needed ↔ AreNeeded graph.now cost runs.now) }
+pub(crate) fn are_needed(
+    alloc: Global,
+    graph: &LargeGraph,
+    cost: u32,
+    runs: &[Run],
+) -> Result<bool, NoMemory>
+    ensures { IfOk result (λ needed. IsTrue needed ↔ AreNeededRuns graph.now cost runs.now) }
 {
     if cost <= SHORT {
         return Ok(is_none(runs));
@@ -72,14 +78,15 @@ fn short_verdict(graph: &LargeGraph, cost: u32) -> Verdict
 }
 
 /// What the rules say of that no cycle costs less, with the runs that are needed.
-fn least_verdict(
+pub(crate) fn least_verdict<P: Progress>(
     alloc: Global,
     graph: &LargeGraph,
     level: Level,
     cost: u32,
     runs: &[Run],
+    progress: &P,
 ) -> Judging
-    requires { AreNeeded graph.now cost runs.now }
+    requires { AreNeededRuns graph.now cost runs.now }
     ensures { IfOk result (IsVerdictOf (least_rules graph.now level cost runs.now)) }
 {
     if cost <= SHORT {
@@ -88,7 +95,7 @@ fn least_verdict(
     let Some(order) = told(alloc, graph, runs)? else {
         return Ok(rejected(Rule::Sizes));
     };
-    let verdict = onward_verdict(alloc, graph, level, cost, &order)?;
+    let verdict = onward_verdict(alloc, graph, level, cost, &order, progress)?;
     Ok(verdict)
 }
 
@@ -107,7 +114,14 @@ pub fn judge_cycle(alloc: Global, graph: &LargeGraph, claim: &LinksClaim) -> Jud
     }
     match &claim.least {
         Some(runs) => {
-            let verdict = least_verdict(alloc, graph, claim.level, claim.cost, runs.as_slice())?;
+            let verdict = least_verdict(
+                alloc,
+                graph,
+                claim.level,
+                claim.cost,
+                runs.as_slice(),
+                &Unwatched,
+            )?;
             Ok(verdict)
         }
         None => Ok(Verdict::Accepted),

@@ -19,6 +19,7 @@ use tcc_graph::{LargeGraph, Level};
 use tcc_lanes::{
     MOST_MEMBERS, MOST_STEPS, MOST_SWEPT, has_cheaper_among, has_cheaper_into_init, near,
 };
+use tcc_base::Progress;
 use tcc_txn::NoMemory;
 
 /// Where a cycle that costs less can be.
@@ -105,13 +106,14 @@ pub(crate) fn narrow(
 }
 
 /// Where a cycle that costs less can be; nothing where that is past the limits.
-fn narrow_down(
+fn narrow_down<P: Progress>(
     alloc: Global,
     graph: &LargeGraph,
     level: Level,
     order: &[u32],
     positions: &[u32],
     most: u32,
+    progress: &P,
 ) -> Result<Option<Narrowed>, NoMemory>
     requires ordered { IsOrdered graph.now order.now }
     requires kept { KeepsPairs graph.now order.now positions.now }
@@ -125,7 +127,7 @@ fn narrow_down(
     if most > MOST_STEPS {
         return Ok(None);
     }
-    let found = contradicted_along(alloc, graph, order, positions)?;
+    let found = contradicted_along(alloc, graph, order, positions, progress)?;
     narrow(alloc, graph, level, order, positions, &found, most)
 }
 
@@ -151,12 +153,14 @@ fn has_cheaper(
 }
 
 /// What the rules say of that no cycle costs less, with an order that has each transaction once, and every session pair in order.
-pub(crate) fn onward_verdict(
+/// `progress` is told of the blocks of sessions by which it is worked out what the order contradicts.
+pub(crate) fn onward_verdict<P: Progress>(
     alloc: Global,
     graph: &LargeGraph,
     level: Level,
     most: u32,
     order: &[u32],
+    progress: &P,
 ) -> Judging
     requires ordered { IsOrdered graph.now order.now }
     requires some { 0 < most }
@@ -166,7 +170,7 @@ pub(crate) fn onward_verdict(
         Ok(positions) => positions,
         Err(at) => return Ok(rejected_at(Rule::Onward, at)),
     };
-    let Some(narrowed) = narrow_down(alloc, graph, level, order, &positions, most)? else {
+    let Some(narrowed) = narrow_down(alloc, graph, level, order, &positions, most, progress)? else {
         return Ok(rejected(Rule::Limits));
     };
     if has_cheaper(alloc, graph, level, &narrowed, most)? {

@@ -14,32 +14,35 @@ use crate::{Judging, Rule, Verdict};
 use std::alloc::Global;
 use tcc_cert::RunsClaim;
 use tcc_graph::{LargeGraph, Level};
+use tcc_base::{Progress, Unwatched};
 use tcc_txn::NoMemory;
 
 /// The first pair of a transaction and one that it has to stand before and doesn't.
-fn first_broken(
+fn first_broken<P: Progress>(
     alloc: Global,
     graph: &LargeGraph,
     level: Level,
     order: &[u32],
     positions: &[u32],
+    progress: &P,
 ) -> Result<Option<(u32, u32)>, NoMemory>
     requires ordered { IsOrdered graph.now order.now }
     requires kept { KeepsPairs graph.now order.now positions.now }
     ensures { IfOk result (IsFoundFirst (BreaksAxiom (judged graph.now level) order.now)) }
 {
     match level {
-        Level::Causal => first_behind(alloc, graph, order),
+        Level::Causal => first_behind(alloc, graph, order, progress),
         Level::Atomic => first_single(alloc, graph, order, positions),
     }
 }
 
 /// What the rules on an order say of one that has each transaction once, and every session pair in order.
-pub(crate) fn pairs_verdict(
+fn pairs_verdict<P: Progress>(
     alloc: Global,
     graph: &LargeGraph,
     level: Level,
     order: &[u32],
+    progress: &P,
 ) -> Judging
     requires { IsOrdered graph.now order.now }
     ensures { IfOk result (IsVerdictOf (pair_rules (judged graph.now level) order.now)) }
@@ -48,7 +51,7 @@ pub(crate) fn pairs_verdict(
         Ok(positions) => positions,
         Err(at) => return Ok(rejected_at(Rule::Pairs, at)),
     };
-    match first_broken(alloc, graph, level, order, &positions)? {
+    match first_broken(alloc, graph, level, order, &positions, progress)? {
         Some(at) => Ok(rejected_at(Rule::Axiom, at)),
         None => Ok(Verdict::Accepted),
     }
@@ -79,9 +82,21 @@ fn claimed_order(
 pub fn judge_order(alloc: Global, graph: &LargeGraph, claim: &RunsClaim) -> Judging
     ensures { IfOk result (IsVerdictOf (order_rules graph.now claim.now)) }
 {
+    judge_order_watched(alloc, graph, claim, &Unwatched)
+}
+
+/// As `judge_order`, and at `Causal` `progress` is told how far this is: how many blocks of 64 sessions are done.
+pub(crate) fn judge_order_watched<P: Progress>(
+    alloc: Global,
+    graph: &LargeGraph,
+    claim: &RunsClaim,
+    progress: &P,
+) -> Judging
+    ensures { IfOk result (IsVerdictOf (order_rules graph.now claim.now)) }
+{
     let Some(order) = claimed_order(alloc, graph, claim)? else {
         return Ok(rejected(Rule::Sizes));
     };
-    let verdict = pairs_verdict(alloc, graph, claim.level, &order)?;
+    let verdict = pairs_verdict(alloc, graph, claim.level, &order, progress)?;
     Ok(verdict)
 }

@@ -1,7 +1,7 @@
 -- The derived links that lead back, as they are found.
-use Rattle.std.proofs.Common.{◌≡◌, ◌≢◌, ◌<◌, ◌≤◌, ◌+◌, ◌-◌, ◌*◌, ◌⊎◌, inl, inr, ℕ, List, length, get_or, replicate, set, refl, sym, ap, subst, ◌∙◌, arith}
+use Rattle.std.proofs.Common.{◌≡◌, ◌≢◌, ◌<◌, ◌≤◌, ◌+◌, ◌-◌, ◌⊎◌, inl, inr, ℕ, List, length, get_or, replicate, set, refl, sym, ap, subst, ◌∙◌, arith}
 use Rattle.std.specs.Prelude.{max, min}
-use Rattle.std.specs.List.{All, Contains}
+use Rattle.std.specs.List.{All}
 use Rattle.std.proofs.lemmas.Bool.{cases_eq, cases_lt}
 use Rattle.std.proofs.lemmas.List.{get_or-replicate, get_or-set_same, get_or-set_other, get_or_default, length-replicate, length-set}
 use Rattle.tcc_reads.specs.History.{History}
@@ -12,7 +12,6 @@ use Rattle.tcc_graph.specs.declared.step.Step.{Step}
 use Rattle.tcc_lanes.specs.Nearness.{IsClosing}
 use Rattle.tcc_lanes.specs.declared.pricing.TheConstants.{NONE}
 use Rattle.tcc_lanes.specs.declared.limits.TheConstants.{MOST_STEPS}
-use Rattle.tcc_lanes.specs.declared.words.TheConstants.{LANES}
 use Rattle.tcc_lanes.specs.private.Pricing.{ArePrices, cell}
 use Rattle.tcc_lanes.specs.private.Passes.{ArePricesOf}
 use Rattle.tcc_lanes.specs.private.Tiles.{IsTile}

@@ -1,5 +1,5 @@
 -- Lanes of keys: where they begin, and where they are read from `init`.
-use Rattle.std.proofs.Common.{◌≡◌, ◌≢◌, ◌<◌, ◌≤◌, ◌+◌, ◌-◌, ◌↔◌, ◌⊎◌, inl, inr, ℕ, true, List, length, get_or, set, replicate, length-set, refl, sym, ap, subst, ◌∙◌, arith}
+use Rattle.std.proofs.Common.{◌≡◌, ◌≢◌, ◌<◌, ◌≤◌, ◌+◌, ◌-◌, ◌↔◌, ◌⊎◌, inl, inr, ℕ, true, List, length, get_or, set, replicate, slice_index, length-set, refl, sym, ap, subst, ◌∙◌, arith}
 use Rattle.std.specs.List.{All, Contains}
 use Rattle.std.proofs.lemmas.Bool.{cases_eq, cases_lt}
 use Rattle.std.proofs.lemmas.List.{get_or-set_other, get_or-set_same, get_or_default, length-replicate}
@@ -12,11 +12,11 @@ use Rattle.tcc_graph.specs.Relations.{IsReadsPair}
 use Rattle.tcc_graph.specs.declared.level.Level.{Level}
 use Rattle.tcc_graph.proofs.Walking.{walk_below}
 use Rattle.tcc_least.proofs.ReadLemmas.{AreReadsAt, is_read, read_is}
-use Rattle.tcc_lanes.specs.Among.{HasCheaperIntoInit}
+use Rattle.tcc_lanes.specs.Among.{ComesIntoInit, HasCheaperIntoInit, IsLowestIntoInit}
 use Rattle.tcc_lanes.specs.declared.words.TheConstants.{LANES}
 use Rattle.tcc_lanes.specs.private.Marks.{HasLane, IsAt, AreMarksOf}
 use Rattle.tcc_lanes.specs.private.Walks.{AreWalked}
-use Rattle.tcc_lanes.specs.private.IntoInit.{AreBegun, HasIntoInit, IsIntoInit, IsMetByInit, IsReadOfInit, IsWrittenBy}
+use Rattle.tcc_lanes.specs.private.IntoInit.{AreBegun, HasIntoInit, IsIntoInit, IsLowestInto, IsMetByInit, IsReadOfInit, IsWrittenBy, LeadsIntoInit}
 use Rattle.tcc_lanes.proofs.MarkLemmas.{key_of_read}
 use Rattle.tcc_lanes.specs.private.Tiles.{IsTile}
 use Rattle.tcc_lanes.proofs.WordLemmas.{AreJoined, zeros_nowhere}
@@ -63,10 +63,11 @@ begun_more h key_lanes k word begun some below each w = (length-set begun k word
       λ is. (w.1 v i l m).1 (is.0, omega (arith, is.1, other), is.2),
     )
 
-pub begun_all : (h : History) (key_lanes : List ℕ) (n : ℕ) (begun : List ℕ) → count h ≤ n → AreBegunTo h key_lanes n begun → AreBegun h key_lanes begun
-begun_all h key_lanes n begun all w = record {
+pub begun_all : (h : History) (key_lanes : List ℕ) (end n : ℕ) (begun : List ℕ) → end ≤ n → n ≤ end → AreBegunTo h key_lanes n begun → AreBegun h key_lanes end begun
+begun_all h key_lanes end n begun all low w = record {
   long = w.0;
-  each = λ v i l m. ((λ has. let is = (w.1 v i l m).0 has in (is.0, is.2)), λ is. (w.1 v i l m).1 (is.0, omega (arith, l, all), is.1));
+  each = λ v i l m.
+      ((λ has. let is = (w.1 v i l m).0 has in (is.0, omega (arith, is.1, low), is.2)), λ is. (w.1 v i l m).1 (is.0, omega (arith, is.1, all), is.2));
 }
 
 -- ---- where they are read from `init`
@@ -101,56 +102,71 @@ module _ (h : History) (key_lanes : List ℕ) (word reader : ℕ) (reads : List 
           here = get_or_default reads m (0, 0) read within ∙ is
 
 -- ---- some keys together
-module _ (h : History) (level : Level) (most : ℕ) (tile key_lanes begun reached : List ℕ) (inside : All (λ k. k < length (keys h)) tile) (lanes : length tile ≤ LANES)
-    (marks : AreMarksOf (length (keys h)) tile (length tile) key_lanes) (begins : AreBegun h key_lanes begun) (walked : AreWalked (judged h level) begun most reached) where
-  pub met : IsMetByInit h key_lanes reached → HasIntoInit (judged h level) most tile
+module _ (h : History) (level : Level) (most end : ℕ) (tile key_lanes begun reached : List ℕ) (inside : All (λ k. k < length (keys h)) tile) (lanes : length tile ≤ LANES)
+    (marks : AreMarksOf (length (keys h)) tile (length tile) key_lanes) (begins : AreBegun h key_lanes end begun) (walked : AreWalked (judged h level) begun most reached) where
+  pub met : IsMetByInit h key_lanes reached → HasIntoInit (judged h level) most end tile
   met (reader, below, (i, lane, has, k, within, pair, at)) =
       let (start, walk, from, is, short) = (walked reader i below lane).0 has in
-      let (some, (key, inside_key, writer, key_at_lane)) = (begins.each start i (walk_below h start reader walk is.0).0 lane).0 from in
+      let (some, early, (key, inside_key, writer, key_at_lane)) = (begins.each start i (walk_below h start reader walk is.0).0 lane).0 from in
       let (listed, here) = (marks.each k i within lane).0 at in
       let (_, there) = (marks.each key i inside_key lane).0 key_at_lane in (
         i,
         listed,
         (
           start,
-          reader,
-          walk,
+          early,
           (
+            reader,
+            walk,
             (
-              omega (arith, some),
-              subst (λ (z : ℕ). IsReadsPair h 0 reader (key_at h z)) (sym here) pair,
-              ((walk_below h start reader walk is.0).0, subst (λ (z : ℕ). writes h start (key_at h z) ≡ true) (sym there) writer),
+              (
+                omega (arith, some),
+                subst (λ (z : ℕ). IsReadsPair h 0 reader (key_at h z)) (sym here) pair,
+                ((walk_below h start reader walk is.0).0, subst (λ (z : ℕ). writes h start (key_at h z) ≡ true) (sym there) writer),
+              ),
+              is,
             ),
-            is,
+            short,
           ),
-          short,
         ),
       )
 
-  pub is_met : HasIntoInit (judged h level) most tile → IsMetByInit h key_lanes reached
-  is_met (i, listed, (b, c, walk, reason, short)) =
+  pub is_met : HasIntoInit (judged h level) most end tile → IsMetByInit h key_lanes reached
+  is_met (i, listed, (b, early, (c, walk, reason, short))) =
       let k = get_or tile i 0 in
       let within = inside i 0 listed in
       let lane : i < LANES = omega (arith, listed, lanes) in
       let at : IsAt key_lanes k i = (marks.each k i within lane).1 (listed, refl) in
-      let from : IsAt begun b i = (begins.each b i reason.0.2.0 lane).1 (omega (arith, reason.0.0), (k, within, reason.0.2.1, at)) in
+      let from : IsAt begun b i = (begins.each b i reason.0.2.0 lane).1 (omega (arith, reason.0.0), early, (k, within, reason.0.2.1, at)) in
       (c, reason.0.1.1, (i, lane, (walked c i reason.0.1.1 lane).1 (b, walk, from, reason.1, short), k, within, reason.0.1, at))
 
 -- ---- all keys
-abbrev pub NoneTo : Judged → ℕ → List ℕ → ℕ → Type 0
-NoneTo j longest key_indices end = (n : ℕ) → n < end → n < length key_indices → IsIntoInit j longest (get_or key_indices n 0) → ⊥
+abbrev pub NoneTo : Judged → ℕ → ℕ → List ℕ → ℕ → Type 0
+NoneTo j longest bound key_indices end = (n : ℕ) → n < end → n < length key_indices → IsIntoInit j longest bound (get_or key_indices n 0) → ⊥
 
 module _ (j : Judged) (most longest : ℕ) (key_indices : List ℕ) (is : longest ≡ most - 3) where
-  cheaper : (n : ℕ) → n < length key_indices → IsIntoInit j longest (get_or key_indices n 0) → HasCheaperIntoInit j key_indices most
-  cheaper n inside (b, c, walk, reason, short) =
-      (b, get_or key_indices n 0, c, walk, Contains-get_or key_indices n 0 inside, reason, omega (arith, short, is, reason.1.0.0))
+  comes : (n b : ℕ) → n < length key_indices → LeadsIntoInit j longest (get_or key_indices n 0) b → ComesIntoInit j key_indices most b
+  comes n b inside (c, walk, reason, short) =
+      (get_or key_indices n 0, c, walk, Contains-get_or key_indices n 0 inside, reason, omega (arith, short, is, reason.1.0.0))
 
-  module _ (from last : ℕ) (tile : List ℕ) (tiled : IsTile key_indices from last tile) where
-    pub in_tile : HasIntoInit j longest tile → HasCheaperIntoInit j key_indices most
-    in_tile (i, inside, into) =
-        cheaper (from + i) (omega (arith, inside, tiled.long)) (subst (λ (z : ℕ). IsIntoInit j longest z) (tiled.each i inside) into)
+  leads : (b : ℕ) → ComesIntoInit j key_indices most b → (n : ℕ) × (n < length key_indices) × LeadsIntoInit j longest (get_or key_indices n 0) b
+  leads b (k, c, walk, (n, inside, here), reason, cheap) = (
+    n,
+    inside,
+    (
+      c,
+      walk,
+      subst (λ (z : ℕ). IsReason j b 0 (key_at j.history z) c walk) (sym (get_or_default key_indices n 0 k inside ∙ here)) reason,
+      omega (arith, cheap, is),
+    ),
+  )
 
-    pub none_more : (HasIntoInit j longest tile → ⊥) → NoneTo j longest key_indices from → NoneTo j longest key_indices last
+  module _ (bound from last : ℕ) (tile : List ℕ) (tiled : IsTile key_indices from last tile) where
+    pub in_tile : HasIntoInit j longest bound tile → HasCheaperIntoInit j key_indices most
+    in_tile (i, inside, (b, early, into)) =
+        (b, comes (from + i) b (omega (arith, inside, tiled.long)) (subst (λ (z : ℕ). LeadsIntoInit j longest z b) (tiled.each i inside) into))
+
+    pub none_more : (HasIntoInit j longest bound tile → ⊥) → NoneTo j longest bound key_indices from → NoneTo j longest bound key_indices last
     none_more none before n less inside into = go (cases_lt n from)
       where
         go : (n < from) ⊎ (from ≤ n) → ⊥
@@ -158,9 +174,104 @@ module _ (j : Judged) (most longest : ℕ) (key_indices : List ℕ) (is : longes
         go (inr late) =
             let within : n - from < length tile = omega (arith, tiled.long, less, inside, late) in
             let back : from + (n - from) ≡ n = omega (arith, late) in
-            none (n - from, within, subst (λ (z : ℕ). IsIntoInit j longest z) (sym (tiled.each (n - from) within ∙ ap (λ (m : ℕ). get_or key_indices m 0) back)) into)
+            none (n - from, within, subst (λ (z : ℕ). IsIntoInit j longest bound z) (sym (tiled.each (n - from) within ∙ ap (λ (m : ℕ). get_or key_indices m 0) back)) into)
 
-  pub none_left : (end : ℕ) → length key_indices ≤ end → NoneTo j longest key_indices end → HasCheaperIntoInit j key_indices most → ⊥
-  none_left end all none (b, k, c, walk, (n, inside, here), reason, cheap) =
-      none n (omega (arith, inside, all)) inside
-      (b, c, walk, subst (λ (z : ℕ). IsReason j b 0 (key_at j.history z) c walk) (sym (get_or_default key_indices n 0 k inside ∙ here)) reason, omega (arith, cheap, is))
+    -- the lowest of a tile, below one that was found before
+    pub here_comes : (low : ℕ) → (n : ℕ) × (n < length tile) × LeadsIntoInit j longest (slice_index tile n) low → ComesIntoInit j key_indices most low
+    here_comes low (i, inside, into) =
+        comes (from + i) low (omega (arith, inside, tiled.long)) (subst (λ (z : ℕ). LeadsIntoInit j longest z low) (tiled.each i inside) into)
+
+  pub none_left : (bound end : ℕ) → bound ≡ count j.history → length key_indices ≤ end → NoneTo j longest bound key_indices end → HasCheaperIntoInit j key_indices most → ⊥
+  none_left bound end whole all none (b, come) = go (leads b come)
+    where
+      go : (n : ℕ) × (n < length key_indices) × LeadsIntoInit j longest (get_or key_indices n 0) b → ⊥
+      go (n, inside, (c, walk, reason, short)) = none n (omega (arith, inside, all)) inside (b, omega (arith, reason.0.2.0, whole), (c, walk, reason, short))
+
+  pub none_lower : (bound end : ℕ) → length key_indices ≤ end → NoneTo j longest bound key_indices end → (w : ℕ) → ComesIntoInit j key_indices most w → bound ≤ w
+  none_lower bound end all none w come = go (cases_lt w bound) (leads w come)
+    where
+      go : (w < bound) ⊎ (bound ≤ w) → (n : ℕ) × (n < length key_indices) × LeadsIntoInit j longest (get_or key_indices n 0) w → bound ≤ w
+      go (inl less) (n, inside, into) = absurd (none n (omega (arith, inside, all)) inside (w, less, into))
+      go (inr enough) _ = enough
+
+-- none from before an earlier end
+pub none_before : (j : Judged) (longest bound lower : ℕ) (key_indices : List ℕ) (end : ℕ) → lower ≤ bound → NoneTo j longest bound key_indices end → NoneTo j longest lower key_indices end
+none_before j longest bound lower key_indices end less none n early inside (b, low, into) = none n early inside (b, omega (arith, low, less), into)
+
+-- none of the first keys leads there from before low; and low is the end of all, or comes so
+pub record IsLowestTo (j : Judged) (most longest : ℕ) (key_indices : List ℕ) (end low : ℕ) : Type 0 where
+  pub some : 0 < low
+  pub within : low ≤ count j.history
+  pub none : NoneTo j longest low key_indices end
+  pub here : low < count j.history → ComesIntoInit j key_indices most low
+
+module _ (j : Judged) (most longest : ℕ) (key_indices : List ℕ) (is : longest ≡ most - 3) where
+  pub lowest_none : 0 < count j.history → IsLowestTo j most longest key_indices 0 (count j.history)
+  lowest_none some = record { some = some; within = omega arith; none = λ n less. absurd (omega (arith, less)); here = λ less. absurd (omega (arith, less)) }
+
+  pub lowest_more : (from last low lower : ℕ) (tile : List ℕ) → IsTile key_indices from last tile → IsLowestTo j most longest key_indices from low
+      → IsLowestInto j longest low tile lower → IsLowestTo j most longest key_indices last lower
+  lowest_more from last low lower tile tiled before w = record {
+    some = w.some;
+    within = omega (arith, before.within, w.within);
+    none = none_more j most longest key_indices is lower from last tile tiled w.none
+        (none_before j longest low lower key_indices from w.within before.none);
+    here = λ less. by less (cases_lt lower low);
+  }
+    where
+      by : lower < count j.history → (lower < low) ⊎ (low ≤ lower) → ComesIntoInit j key_indices most lower
+      by less (inl new) = here_comes j most longest key_indices is lower from last tile tiled lower (w.here new)
+      by less (inr enough) =
+          let same : low ≡ lower = omega (arith, enough, w.within) in
+          subst (λ (z : ℕ). ComesIntoInit j key_indices most z) same (before.here (omega (arith, less, same)))
+
+  module _ (end low : ℕ) (all : length key_indices ≤ end) (w : IsLowestTo j most longest key_indices end low) where
+    pub lowest_found : low ≢ count j.history → IsLowestIntoInit j key_indices most low
+    lowest_found other = (w.here (omega (arith, w.within, other)), none_lower j most longest key_indices is low end all w.none)
+
+    pub lowest_missed : low ≡ count j.history → HasCheaperIntoInit j key_indices most → ⊥
+    lowest_missed whole = none_left j most longest key_indices is low end whole all w.none
+
+-- ---- halving
+-- none leads there from before low, and one does from before high, which comes nearer with each turn
+pub record AreHalved (j : Judged) (most end : ℕ) (key_indices : List ℕ) (turn low high : ℕ) : Type 0 where
+  pub some : 0 < low
+  pub apart : low < high
+  pub within : high ≤ end
+  pub near : high - low + turn ≤ end
+  pub none : HasIntoInit j most low key_indices → ⊥
+  pub has : HasIntoInit j most high key_indices
+
+-- none leads there from `init`
+pub none_from_init : (j : Judged) (most : ℕ) (key_indices : List ℕ) → HasIntoInit j most 1 key_indices → ⊥
+none_from_init j most key_indices (n, inside, (b, early, (c, walk, reason, short))) = omega (arith, early, reason.0.0)
+
+pub halving : (j : Judged) (most end : ℕ) (key_indices : List ℕ) → HasIntoInit j most end key_indices → AreHalved j most end key_indices 1 1 end
+halving j most end key_indices (n, inside, (b, early, (c, walk, reason, short))) = record {
+  some = omega arith;
+  apart = omega (arith, early, reason.0.0);
+  within = omega arith;
+  near = omega (arith, early, reason.0.0);
+  none = none_from_init j most key_indices;
+  has = (n, inside, (b, early, (c, walk, reason, short)));
+}
+
+pub halved : (j : Judged) (most end : ℕ) (key_indices : List ℕ) (turn low high : ℕ) → AreHalved j most end key_indices turn low high → high - low ≤ 1
+    → IsLowestInto j most end key_indices low
+halved j most end key_indices turn low high w near = record { some = w.some; within = omega (arith, w.apart, w.within); none = w.none; here = λ less. go w.has }
+  where
+    go : HasIntoInit j most high key_indices → (n : ℕ) × (n < length key_indices) × LeadsIntoInit j most (slice_index key_indices n) low
+    go (n, inside, (b, early, into)) = by (cases_lt b low)
+      where
+        by : (b < low) ⊎ (low ≤ b) → (n : ℕ) × (n < length key_indices) × LeadsIntoInit j most (slice_index key_indices n) low
+        by (inl less) = absurd (w.none (n, inside, (b, less, into)))
+        by (inr enough) =
+            let same : b ≡ low = omega (arith, enough, early, near, w.apart) in
+            (n, inside, subst (λ (z : ℕ). LeadsIntoInit j most (slice_index key_indices n) z) same into)
+
+module _ (j : Judged) (most end : ℕ) (key_indices : List ℕ) (turn low high middle : ℕ) (w : AreHalved j most end key_indices turn low high) (l : low < middle) (m : middle < high) where
+  pub halved_down : HasIntoInit j most middle key_indices → AreHalved j most end key_indices (turn + 1) low middle
+  halved_down has = record { some = w.some; apart = l; within = omega (arith, m, w.within); near = omega (arith, l, m, w.near); none = w.none; has = has }
+
+  pub halved_up : (HasIntoInit j most middle key_indices → ⊥) → AreHalved j most end key_indices (turn + 1) middle high
+  halved_up none = record { some = omega (arith, l); apart = m; within = w.within; near = omega (arith, l, m, w.near); none = none; has = w.has }

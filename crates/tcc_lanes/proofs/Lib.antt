@@ -7,10 +7,12 @@ pub mod IntoInit
 pub mod Grown
 pub mod MeetingLemmas
 pub mod PriceLemmas
+pub mod LengthLemmas
 pub mod PriceRows
 pub mod SettledCosts
 pub mod Attained
 pub mod Circled
+pub mod PickLemmas
 pub mod BackLemmas
 pub mod NearLemmas
 pub mod ClosingLemmas

@@ -1,7 +1,6 @@
 -- Which transactions are near, by what was found of the links that lead back.
 use Rattle.std.proofs.Common.{◌≡◌, ◌≢◌, ◌<◌, ◌≤◌, ◌+◌, ◌⊎◌, ◌↔◌, inl, inr, ℕ, Bool, true, false, cond, List, [], ◌∷◌, ◌++◌, length, length-append, get_or, set, replicate, refl, sym, ap, subst, ◌∙◌, arith}
-use Rattle.std.specs.List.{Contains}
-use Rattle.std.proofs.lemmas.Bool.{cases_Bool, cases_eq, cases_lt, false≢true}
+use Rattle.std.proofs.lemmas.Bool.{cases_Bool, cases_eq, cases_lt}
 use Rattle.std.proofs.lemmas.List.{get_or-replicate, get_or-set_other, get_or-set_same, get_or_append_left, get_or_at, get_or_default, get_or_past, length-replicate, length-set}
 use Rattle.tcc_reads.specs.History.{History, count}
 use Rattle.tcc_graph.specs.Levels.{Judged}
@@ -12,7 +11,7 @@ use Rattle.tcc_lanes.specs.Nearness.{AreEndsOfAll, AreNear, ArePlaces, IsClosing
 use Rattle.tcc_lanes.specs.declared.pricing.TheConstants.{NONE}
 use Rattle.tcc_lanes.specs.private.Closings.{AreOffered, IsFromFirst}
 use Rattle.tcc_lanes.specs.private.Marks.{HasLane, IsAt, IsLedTo}
-use Rattle.tcc_lanes.specs.private.Passes.{AreAllCovered, AreClosings, AreCovered, AreEnds, AreNearTo, IsBeyond, IsComing, IsCovered, IsGoing, IsLeastPrice, IsLedFromEnd, IsNearAt, IsReachedOn, price_at}
+use Rattle.tcc_lanes.specs.private.Passes.{AreAllCovered, AreClosings, AreCovered, AreEnds, AreNearTo, IsBeyond, IsComing, IsGoing, IsLeastPrice, IsLedFromEnd, IsNearAt, IsReachedOn, price_at}
 
 -- ---- where links end
 pub ends_none : (lasts : List ℕ) → AreEnds lasts 0 []

@@ -156,37 +156,43 @@ module _ (j : Judged) (members : List ℕ) (most : ℕ) (rows : List (List ℕ))
           go (inr other) (inl less) = absurd (omega (arith, e, ascending u v 0 less m))
           go (inr other) (inr more) = absurd (omega (arith, e, ascending v u 0 (omega (arith, other, more)) l))
 
-      -- what leads back to the start costs no more than was found
-      onward : (u : ℕ) (links : List Link) → u < length members → LinksLead j (get_or members u 0) (get_or members s 0) links → All (IsAmong members) links
-          → get_or costs u 0 + cost links < most → get_or costs s 0 ≤ get_or costs u 0 + cost links
-      onward u [] l lead listed few = subst (λ (z : ℕ). get_or costs z 0 ≤ get_or costs u 0 + cost []) (once u s l inside lead) (omega arith)
-      onward u (one ∷ links) l (from, is, rest) listed few =
-          go (λ t within lead still. onward t links within lead (All-tail (IsAmong members) one links listed) still) (All-head (IsAmong members) one links listed).1
+      -- what leads on to a member costs no more than was found
+      onward : (t u : ℕ) (links : List Link) → t < length members → u < length members → LinksLead j (get_or members u 0) (get_or members t 0) links
+          → All (IsAmong members) links → get_or costs u 0 + cost links < most → get_or costs t 0 ≤ get_or costs u 0 + cost links
+      onward t u [] m l lead listed few = subst (λ (z : ℕ). get_or costs z 0 ≤ get_or costs u 0 + cost []) (once u t l m lead) (omega arith)
+      onward t u (one ∷ links) m l (from, is, rest) listed few =
+          go (λ v within lead still. onward t v links m within lead (All-tail (IsAmong members) one links listed) still)
+          (All-head (IsAmong members) one links listed).1
         where
-          go : ((t : ℕ) → t < length members → LinksLead j (get_or members t 0) (get_or members s 0) links → get_or costs t 0 + cost links < most
-              → get_or costs s 0 ≤ get_or costs t 0 + cost links)
-              → Contains members (link_to one) → get_or costs s 0 ≤ get_or costs u 0 + cost (one ∷ links)
-          go later (t, within, at) =
-              let to : get_or members t 0 ≡ link_to one = get_or_default members t 0 (link_to one) within ∙ at in
-              let cheap = (row_at u l).all t within one from (sym to) is (omega (arith, few, cost_cons one links)) in
-              let step = w.over u t l within (omega (arith, few, far, cost_cons one links, some_cost one)) in
+          go : ((v : ℕ) → v < length members → LinksLead j (get_or members v 0) (get_or members t 0) links → get_or costs v 0 + cost links < most
+              → get_or costs t 0 ≤ get_or costs v 0 + cost links)
+              → Contains members (link_to one) → get_or costs t 0 ≤ get_or costs u 0 + cost (one ∷ links)
+          go later (v, within, at) =
+              let to : get_or members v 0 ≡ link_to one = get_or_default members v 0 (link_to one) within ∙ at in
+              let cheap = (row_at u l).all v within one from (sym to) is (omega (arith, few, cost_cons one links)) in
+              let step = w.over u v l within (omega (arith, few, far, cost_cons one links, some_cost one)) in
               let back =
-              later t within (subst (λ (z : ℕ). LinksLead j z (get_or members s 0) links) (sym to) rest) (omega (arith, step, cheap, few, cost_cons one links)) in
+              later v within (subst (λ (z : ℕ). LinksLead j z (get_or members t 0) links) (sym to) rest) (omega (arith, step, cheap, few, cost_cons one links)) in
               omega (arith, back, step, cheap, cost_cons one links)
 
-      pub returned : HasReturn j members most s → get_or costs s 0 < most
-      returned ([], cycle, listed, few) = absurd (omega (arith, cycle.0))
-      returned (one ∷ links, (some, (from, is, rest)), listed, few) = go (All-head (IsAmong members) one links listed).1
+      -- and what leads there from the start
+      pub come_to : (t : ℕ) (links : List Link) → t < length members → 0 < length links → LinksLead j (get_or members s 0) (get_or members t 0) links
+          → All (IsAmong members) links → cost links < most → get_or costs t 0 ≤ cost links
+      come_to t [] m some lead listed few = absurd (omega (arith, some))
+      come_to t (one ∷ links) m some (from, is, rest) listed few = go (All-head (IsAmong members) one links listed).1
         where
-          go : Contains members (link_to one) → get_or costs s 0 < most
-          go (t, within, at) =
-              let to : get_or members t 0 ≡ link_to one = get_or_default members t 0 (link_to one) within ∙ at in
-              let cheap = (row_at s inside).all t within one from (sym to) is (omega (arith, few, cost_cons one links)) in
-              let step = w.first t within in
+          go : Contains members (link_to one) → get_or costs t 0 ≤ cost (one ∷ links)
+          go (v, within, at) =
+              let to : get_or members v 0 ≡ link_to one = get_or_default members v 0 (link_to one) within ∙ at in
+              let cheap = (row_at s inside).all v within one from (sym to) is (omega (arith, few, cost_cons one links)) in
+              let step = w.first v within in
               let later =
-              onward t links within (subst (λ (z : ℕ). LinksLead j z (get_or members s 0) links) (sym to) rest) (All-tail (IsAmong members) one links listed)
+              onward t v links m within (subst (λ (z : ℕ). LinksLead j z (get_or members t 0) links) (sym to) rest) (All-tail (IsAmong members) one links listed)
               (omega (arith, step, cheap, few, cost_cons one links)) in
-              omega (arith, later, step, cheap, few, cost_cons one links)
+              omega (arith, later, step, cheap, cost_cons one links)
+
+      pub returned : HasReturn j members most s → get_or costs s 0 < most
+      returned (links, (some, lead), listed, few) = omega (arith, come_to s links inside some lead listed few, few)
 
       pub returns : most ≤ NONE → get_or costs s 0 < most → HasReturn j members most s
       returns high low =

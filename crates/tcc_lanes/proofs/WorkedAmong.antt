@@ -85,24 +85,26 @@ overtaken-spanned v there = (
 pub stale_read-into : HasCheaperIntoInit (causally stale_read) (0 ∷ []) 4
 stale_read-into = (
   1,
-  0,
-  2,
-  step.Session 1 2 ∷ [],
-  (0, omega arith, refl),
   (
-    ((λ e. absurd (omega arith)), (omega arith, omega arith, (0, omega arith, refl)), (omega arith, refl)),
-    ((omega arith, (refl, refl, refl)), tt),
+    0,
+    2,
+    step.Session 1 2 ∷ [],
+    (0, omega arith, refl),
+    (
+      ((λ e. absurd (omega arith)), (omega arith, omega arith, (0, omega arith, refl)), (omega arith, refl)),
+      ((omega arith, (refl, refl, refl)), tt),
+    ),
+    omega arith,
   ),
-  omega arith,
 )
 
 -- from `init` to a/1 and back costs no fewer than three steps
 pub stale_read-three : HasCheaperIntoInit (causally stale_read) (0 ∷ []) 3 → ⊥
-stale_read-three (b, k, c, walk, there, reason, few) = omega (arith, few, reason.1.0.0)
+stale_read-three (b, (k, c, walk, there, reason, few)) = omega (arith, few, reason.1.0.0)
 
 -- without a key, or without a transaction, there is nothing to find
 pub no_keys : (n : ℕ) → HasCheaperIntoInit (causally stale_read) [] n → ⊥
-no_keys n (b, k, c, walk, there, reason, few) = omega (arith, there.1)
+no_keys n (b, (k, c, walk, there, reason, few)) = omega (arith, there.1)
 
 pub nobody : (n : ℕ) → HasCheaperAmong (causally crossed) [] n → ⊥
 nobody n (v, [], cycle, listed, few) = omega (arith, cycle.0)

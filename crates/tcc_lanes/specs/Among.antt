@@ -1,5 +1,5 @@
 -- Cycles among some transactions, and derived links into `init`.
-use Rattle.std.specs.Prelude.{ℕ, ◌<◌, ◌≡◌, ◌+◌, List, All, Contains, length, map}
+use Rattle.std.specs.Prelude.{ℕ, ◌<◌, ◌≤◌, ◌≡◌, ◌+◌, List, All, Contains, length, map}
 use Rattle.tcc_graph.specs.Keys.{key_at}
 use Rattle.tcc_graph.specs.Levels.{Judged}
 use Rattle.tcc_graph.specs.Links.{IsReason, cost, link_from, link_to}
@@ -19,8 +19,17 @@ HasCheaperAmong j members n = (v : ℕ) × (links : List Link) × IsCycle j v li
 abbrev pub HasCheaperAlong : Judged → List ℕ → ℕ → Type 0
 HasCheaperAlong j circle n = (v : ℕ) × (links : List Link) × IsCycle j v links × (map link_from links ≡ circle) × (cost links < n)
 
--- a derived link into `init` by a reader of one of the keys, given by their indices, and a pair that leads on from there cost less than n
-abbrev pub HasCheaperIntoInit : Judged → List ℕ → ℕ → Type 0
-HasCheaperIntoInit j key_indices n =
-    (b : ℕ) × (key_index : ℕ) × (c : ℕ) × (walk : List Step) × Contains key_indices key_index
+-- a derived link from b into `init` by a reader of one of the keys, given by their indices, and a pair that leads on from there cost less
+-- than n
+abbrev pub ComesIntoInit : Judged → List ℕ → ℕ → ℕ → Type 0
+ComesIntoInit j key_indices n b =
+    (key_index : ℕ) × (c : ℕ) × (walk : List Step) × Contains key_indices key_index
     × IsReason j b 0 (key_at j.history key_index) c walk × (length walk + 2 < n)
+
+-- some transaction comes so
+abbrev pub HasCheaperIntoInit : Judged → List ℕ → ℕ → Type 0
+HasCheaperIntoInit j key_indices n = (b : ℕ) × ComesIntoInit j key_indices n b
+
+-- and this is the lowest that does
+abbrev pub IsLowestIntoInit : Judged → List ℕ → ℕ → ℕ → Type 0
+IsLowestIntoInit j key_indices n b = ComesIntoInit j key_indices n b × ((w : ℕ) → ComesIntoInit j key_indices n w → b ≤ w)

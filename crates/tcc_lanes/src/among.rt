@@ -1,8 +1,8 @@
 //! Cycles among some transactions.
-ghost use Rattle.std.specs.Prelude.{◌≤◌, ◌<◌, ◌↔◌, length, All, AllPairs, IfOk, IsTrue, MatchOption};
+ghost use Rattle.std.specs.Prelude.{◌≡◌, ◌≤◌, ◌<◌, ◌+◌, ◌↔◌, ℕ, length, All, AllPairs, IfOk, IsTrue, MatchOption};
 ghost use Rattle.tcc_reads.specs.History.{count};
 ghost use Rattle.tcc_graph.specs.Levels.{judged};
-ghost use Rattle.tcc_lanes.specs.{declared.limits.TheConstants.MOST_MEMBERS, declared.limits.TheConstants.MOST_STEPS, Among.HasCheaperAlong, Among.HasCheaperAmong};
+ghost use Rattle.tcc_lanes.specs.{declared.limits.TheConstants.MOST_MEMBERS, declared.limits.TheConstants.MOST_STEPS, Among.HasCheaperAlong, Among.HasCheaperAmong, Picked.HasAllAmong, Picked.IsPickedAround};
 
 use crate::circling::circle;
 use crate::price_rows::price_rows;
@@ -12,7 +12,8 @@ use tcc_graph::{LargeGraph, Level};
 use tcc_txn::NoMemory;
 
 /// The transactions of a cycle that costs less than `most`, all of whose links begin and end at these transactions, in its order; none
-/// where there is no such cycle. They ascend, and `init` isn't among them. For M transactions among N with R reads that takes M / 64
+/// where there is no such cycle. It starts at the lowest of them from which one does. Where no cycle costs less than one step less, its
+/// links are picked from the last backwards, each from the lowest number. The members ascend, and `init` isn't among them. For M transactions among N with R reads that takes M / 64
 /// times so many sweeps of N + R as a cycle may have steps, and then M * M * M steps at most; and M * M bytes.
 pub fn cheaper_among(
     alloc: Global,
@@ -26,9 +27,11 @@ pub fn cheaper_among(
     requires ascending { AllPairs (λ u v. u < v) members.now }
     requires few { length members.now ≤ MOST_MEMBERS }
     requires most { most ≤ MOST_STEPS }
-    ensures { IfOk result (λ found. MatchOption found
+    ensures found { IfOk result (λ found. MatchOption found
         (HasCheaperAmong (judged graph.now level) members.now most → ⊥)
         (λ circle. HasCheaperAmong (judged graph.now level) members.now most × HasCheaperAlong (judged graph.now level) circle.items most)) }
+    ensures picked { IfOk result (λ found. (n : ℕ) → most ≡ n + 1 → HasAllAmong (judged graph.now level) members.now n
+        → MatchOption found (Unit {0}) (λ circle. IsPickedAround (judged graph.now level) n circle.items)) }
 {
     let rows = price_rows(alloc, graph, level, members, most)?;
     for start in 0..members.len() {

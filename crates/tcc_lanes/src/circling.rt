@@ -1,9 +1,9 @@
 //! The members of a cheapest way from one of them back to it, read off backwards from what it costs to come to each (`settling`). For M
 //! members that takes M prices a link, beside the costs themselves.
-ghost use Rattle.std.specs.Prelude.{◌≡◌, ◌≤◌, ◌<◌, ◌+◌, ◌↔◌, AllPairs, IfOk, IsTrue, MatchOption, length, slice_index};
+ghost use Rattle.std.specs.Prelude.{◌≡◌, ◌≤◌, ◌<◌, ◌+◌, ◌↔◌, ℕ, AllPairs, IfOk, IsTrue, MatchOption, length, reverse, slice_index};
 ghost use Rattle.tcc_graph.specs.Levels.{Judged};
-ghost use Rattle.tcc_lanes.specs.{Among.HasCheaperAlong, declared.pricing.TheConstants.NONE};
-ghost use Rattle.tcc_lanes.specs.private.Pricing.{ArePriceRows, HasReturn, IsAttained, IsTable, price_of};
+ghost use Rattle.tcc_lanes.specs.{Among.HasCheaperAlong, Picked.ArePicked, Picked.HasAllAmong, Picked.IsLowestStart, declared.pricing.TheConstants.NONE};
+ghost use Rattle.tcc_lanes.specs.private.Pricing.{ArePriceRows, HasReturn, IsAttained, IsFirstBefore, IsTable, price_of};
 
 use crate::settling::costs_from;
 use std::alloc::Global;
@@ -17,7 +17,17 @@ fn is_sum(before: u8, price: u8, cost: u8) -> bool
     u32::from(before) + u32::from(price) == u32::from(cost)
 }
 
-/// A member from which a link leads to another at just what it costs to come there; none where one from the start does.
+/// What a link from one member to another costs.
+fn price(rows: &[Row<u8>], from: usize, to: usize) -> u8
+    requires table { IsTable rows.now }
+    requires from { from < length rows.now }
+    requires to { to < length rows.now }
+    ensures { result ≡ price_of rows.now from to }
+{
+    rows[from].as_slice()[to]
+}
+
+/// The first member from which a link leads to another at just what it costs to come there; none where one from the start does.
 fn before(rows: &[Row<u8>], costs: &[u8], start: usize, to: usize) -> Option<usize>
     requires table { IsTable rows.now }
     requires start { start < length rows.now }
@@ -25,19 +35,23 @@ fn before(rows: &[Row<u8>], costs: &[u8], start: usize, to: usize) -> Option<usi
     requires same { length costs.now ≡ length rows.now }
     requires attained { IsAttained rows.now start costs.now to }
     ensures { MatchOption result
-        (price_of rows.now start to ≤ slice_index costs.now to)
-        (λ from. (from < length rows.now) × (slice_index costs.now from + price_of rows.now from to ≡ slice_index costs.now to)) }
+        (price_of rows.now start to ≡ slice_index costs.now to)
+        (λ from. (from < length rows.now) × IsFirstBefore rows.now start costs.now to from) }
 {
     let cost = costs[to];
-    for (from, row) in rows.iter().enumerate() {
-        if is_sum(costs[from], row.as_slice()[to], cost) {
+    if price(rows, start, to) == cost {
+        return None;
+    }
+    for from in 0..rows.len() {
+        if is_sum(costs[from], price(rows, from, to), cost) {
             return Some(from);
         }
     }
     None
 }
 
-/// The members on a cheapest way from one of them back to it, of links that cost less than `most` together.
+/// The members on a cheapest way from one of them back to it, of links that cost less than `most` together. The links are picked from
+/// the last backwards, each from the lowest number.
 pub(crate) fn circle(
     alloc: Global,
     rows: &[Row<u8>],
@@ -49,8 +63,12 @@ pub(crate) fn circle(
     requires same { length members.now ≡ length rows.now }
     requires start { start < length rows.now }
     requires few { most ≤ NONE }
-    ensures { IfOk result (λ circle. (j : Judged) → ArePriceRows j members.now most (length members.now) rows.now
+    ensures along { IfOk result (λ circle. (j : Judged) → ArePriceRows j members.now most (length members.now) rows.now
         → AllPairs (λ u v. u < v) members.now → HasReturn j members.now most start → HasCheaperAlong j circle.items most) }
+    ensures picked { IfOk result (λ circle. (j : Judged) (n : ℕ) → most ≡ n + 1 → ArePriceRows j members.now most (length members.now) rows.now
+        → AllPairs (λ u v. u < v) members.now → HasReturn j members.now most start
+        → HasAllAmong j members.now n → IsLowestStart j n (slice_index members.now start)
+        → ArePicked j (slice_index members.now start) (slice_index members.now start) n (reverse circle.items)) }
 {
     let costs = costs_from(alloc, rows, start, most)?;
     let mut circle = Vec::new(alloc);

@@ -1,11 +1,11 @@
 //! Derived links into `init`, 64 keys at a time: the lane of a key begins at who writes it, and is met where it is read from `init`.
 //! For K keys, N transactions and R reads, and walks of so many steps at most, that takes K / 64 times so many sweeps of N + R.
-ghost use Rattle.std.specs.Prelude.{◌≡◌, ◌≤◌, ◌<◌, ◌↔◌, ℕ, length, All, IfOk, IsTrue};
+ghost use Rattle.std.specs.Prelude.{◌≡◌, ◌≤◌, ◌<◌, ◌↔◌, ℕ, length, All, IfOk, IsTrue, MatchOption};
 ghost use Rattle.tcc_reads.specs.History.{IsBySession, count};
 ghost use Rattle.tcc_graph.specs.{Keys.keys, Levels.judged};
 ghost use Rattle.tcc_clocks.specs.Parents.{ArePrevious};
-ghost use Rattle.tcc_lanes.specs.{declared.words.TheConstants.LANES, Among.HasCheaperIntoInit, private.Marks.HasLane};
-ghost use Rattle.tcc_lanes.specs.private.IntoInit.{AreBegun, HasIntoInit, IsMetByInit, IsReadOfInit, IsWrittenBy};
+ghost use Rattle.tcc_lanes.specs.{declared.words.TheConstants.LANES, Among.HasCheaperIntoInit, Among.IsLowestIntoInit, private.Marks.HasLane};
+ghost use Rattle.tcc_lanes.specs.private.IntoInit.{AreBegun, HasIntoInit, IsLowestInto, IsMetByInit, IsReadOfInit, IsWrittenBy};
 
 use crate::frontier::walked;
 use crate::marking::{Marking, marks_of};
@@ -30,13 +30,15 @@ fn lanes_written(graph: &LargeGraph, key_lanes: &[u64], v: u32) -> u64
     word
 }
 
-/// Each lane at who writes its key.
-fn begun_at_writers(alloc: Global, graph: &LargeGraph, key_lanes: &[u64]) -> Marking
+/// Each lane at who writes its key, of the transactions before the end.
+fn begun_at_writers(alloc: Global, graph: &LargeGraph, key_lanes: &[u64], end: u32) -> Marking
+    requires some { 0 < end }
+    requires end { end ≤ count graph.now }
     requires lanes { length key_lanes.now ≡ length (keys graph.now) }
-    ensures { IfOk result (λ begun. AreBegun graph.now key_lanes.now begun.items) }
+    ensures { IfOk result (λ begun. AreBegun graph.now key_lanes.now end begun.items) }
 {
     let mut begun = vec![in alloc; 0; graph.count() as usize]?;
-    for v in 1..graph.count() {
+    for v in 1..end {
         begun[v as usize] = lanes_written(graph, key_lanes, v);
     }
     Ok(begun)
@@ -70,7 +72,7 @@ fn is_met(graph: &LargeGraph, key_lanes: &[u64], reached: &[u64]) -> bool
     false
 }
 
-/// Whether a derived link leads into `init` by one of these keys, by a walk of so many steps at most.
+/// Whether a derived link leads into `init` from a transaction before the end, by one of these keys and a walk of so many steps at most.
 fn has_into_init(
     alloc: Global,
     graph: &LargeGraph,
@@ -78,15 +80,18 @@ fn has_into_init(
     parent_of: &[u32],
     key_indices: &[u32],
     most: u32,
+    end: u32,
 ) -> Result<bool, NoMemory>
     requires numbered { IsBySession graph.now.entries }
     requires parents { ArePrevious graph.now parent_of.now }
     requires lanes { length key_indices.now ≤ LANES }
     requires inside { All (λ k. k < length (keys graph.now)) key_indices.now }
-    ensures { IfOk result (λ found. IsTrue found ↔ HasIntoInit (judged graph.now level) most key_indices.now) }
+    requires some { 0 < end }
+    requires end { end ≤ count graph.now }
+    ensures { IfOk result (λ found. IsTrue found ↔ HasIntoInit (judged graph.now level) most end key_indices.now) }
 {
     let key_lanes = marks_of(alloc, graph.keys().len(), key_indices)?;
-    let begun = begun_at_writers(alloc, graph, &key_lanes)?;
+    let begun = begun_at_writers(alloc, graph, &key_lanes, end)?;
     let reached = walked(alloc, graph, level, parent_of, &begun, most)?;
     Ok(is_met(graph, &key_lanes, &reached))
 }
@@ -110,9 +115,79 @@ pub fn has_cheaper_into_init(
     let longest = most.saturating_sub(3);
     for block in 0..key_indices.len().div_ceil(LANES) {
         let tile = tile_at(key_indices, block);
-        if has_into_init(alloc, graph, level, &parent_of, tile, longest)? {
+        if has_into_init(alloc, graph, level, &parent_of, tile, longest, graph.count())? {
             return Ok(true);
         }
     }
     Ok(false)
+}
+
+/// The lowest transaction before the end from which a derived link leads into `init` by one of these keys and a walk of so many steps at
+/// most, by halving; the end where there is none.
+fn lowest_in_tile(
+    alloc: Global,
+    graph: &LargeGraph,
+    level: Level,
+    parent_of: &[u32],
+    key_indices: &[u32],
+    most: u32,
+    end: u32,
+) -> Result<u32, NoMemory>
+    requires numbered { IsBySession graph.now.entries }
+    requires parents { ArePrevious graph.now parent_of.now }
+    requires lanes { length key_indices.now ≤ LANES }
+    requires inside { All (λ k. k < length (keys graph.now)) key_indices.now }
+    requires some { 0 < end }
+    requires end { end ≤ count graph.now }
+    ensures { IfOk result (IsLowestInto (judged graph.now level) most end key_indices.now) }
+{
+    if !has_into_init(alloc, graph, level, parent_of, key_indices, most, end)? {
+        return Ok(end);
+    }
+    let mut low = 1;
+    let mut high = end;
+    for _turn in 1..end {
+        if high - low <= 1 {
+            return Ok(low);
+        }
+        let middle = low + (high - low) / 2;
+        if has_into_init(alloc, graph, level, parent_of, key_indices, most, middle)? {
+            high = middle;
+        } else {
+            low = middle;
+        }
+    }
+    unreachable!()
+}
+
+/// The lowest transaction from which a derived link leads into `init`, by a reader of one of these keys, that costs less than `most` with
+/// a pair that leads on from there; none where there is no such link. It takes what `has_cheaper_into_init` does, and for each 64 keys by
+/// which a lower one is found so many times more as N can be halved.
+#[tactic(auto, using(crate::proofs::TileLemmas::all_in_tile))]
+pub fn lowest_into_init(
+    alloc: Global,
+    graph: &LargeGraph,
+    level: Level,
+    key_indices: &[u32],
+    most: u32,
+) -> Result<Option<u32>, NoMemory>
+    requires { All (λ k. k < length (keys graph.now)) key_indices.now }
+    ensures { IfOk result (λ found. MatchOption found
+        (HasCheaperIntoInit (judged graph.now level) key_indices.now most → ⊥)
+        (IsLowestIntoInit (judged graph.now level) key_indices.now most)) }
+{
+    // transactions stand by session and by place, as this call says
+    graph.sessions();
+    let parent_of = previous_of_each(alloc, graph)?;
+    let walk_most = most.saturating_sub(3);
+    let mut end = graph.count();
+    for block in 0..key_indices.len().div_ceil(LANES) {
+        let tile = tile_at(key_indices, block);
+        end = lowest_in_tile(alloc, graph, level, &parent_of, tile, walk_most, end)?;
+    }
+    if end == graph.count() {
+        Ok(None)
+    } else {
+        Ok(Some(end))
+    }
 }

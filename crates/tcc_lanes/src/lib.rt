@@ -8,6 +8,7 @@ mod closings;
 mod frontier;
 mod into_init;
 pub mod laws;
+mod lengths;
 mod limits;
 mod marking;
 mod meeting;
@@ -21,6 +22,7 @@ mod tiles;
 mod words;
 
 pub use among::{cheaper_among, has_cheaper_among};
-pub use into_init::has_cheaper_into_init;
+pub use into_init::{has_cheaper_into_init, lowest_into_init};
+pub use lengths::walk_lengths;
 pub use limits::{MOST_MEMBERS, MOST_STEPS, MOST_SWEPT};
 pub use nearness::near;

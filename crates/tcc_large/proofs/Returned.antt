@@ -13,6 +13,7 @@ use Rattle.tcc_graph.proofs.Pairs.{link_below}
 use Rattle.tcc_least.specs.Shapes.{AreLeast, NoneBelow}
 use Rattle.tcc_graph.specs.Routes.{AreCycle}
 use Rattle.tcc_large.specs.Cycles.{IsSimple}
+use Rattle.tcc_large.specs.Decisions.{IsFirstIfShort}
 use Rattle.tcc_large.specs.private.Returning.{start_at, end_at, IsClosed, IsFirstReturn}
 use Rattle.tcc_large.proofs.Numbered.{AreNumbered, numbered_room, numbered_more}
 
@@ -246,3 +247,7 @@ module _ (n : ℕ) (links : List Link) (positions : List ℕ) (m : ℕ) (closed 
 pub least_of_four : (j : Judged) (links : List Link) → NoneBelow j 4 → cost links ≤ 4 → AreCycle j links → AreLeast j links
 least_of_four j links none cheap (s, cycle) =
     (s, record { cycle = cycle; least = λ t others other. omega (arith, none t others other, cheap) })
+
+-- and none costs three at most, so nothing more is asked of it
+pub not_short : (j : Judged) (links : List Link) → NoneBelow j 4 → AreCycle j links → IsFirstIfShort j links
+not_short j links none (s, cycle) low = absurd (omega (arith, none s links cycle, low))

@@ -1,8 +1,9 @@
 -- What is decided of a history of any size.
-use Rattle.std.specs.Prelude.{ℕ, ◌<◌, ◌≡◌, List}
+use Rattle.std.specs.Prelude.{ℕ, ◌<◌, ◌≤◌, ◌≡◌, List}
 use Rattle.tcc_graph.specs.Levels.{Judged}
 use Rattle.tcc_graph.specs.Links.{cost}
 use Rattle.tcc_graph.specs.Orders.{IsFirstOrder}
+use Rattle.tcc_graph.specs.Ties.{IsFirstCycle}
 use Rattle.tcc_graph.specs.declared.link.Link.{Link}
 use Rattle.tcc_least.specs.Shapes.{AreLeast, NoneBelow}
 use Rattle.tcc_graph.specs.Routes.{AreCycle}
@@ -10,11 +11,16 @@ use Rattle.tcc_large.specs.Cycles.{IsSimple}
 use Rattle.tcc_large.specs.declared.decision.Decision.{Decision}
 use Rattle.tcc_large.specs.declared.decision.Decision.TheVariants as decision
 
--- the first commit order; or the links of a least cycle, which passes no transaction twice by the law `least`; or those of a cycle that
--- costs more than four steps and passes none twice, and then none costs less than four
+-- where the links cost three steps at most, they are the first of the least cycles by the rule of ties
+abbrev pub IsFirstIfShort : Judged → List Link → Type 0
+IsFirstIfShort j links = cost links ≤ 3 → (s : ℕ) × IsFirstCycle j s links
+
+-- the first commit order; or the links of a least cycle, which passes no transaction twice by the law `least`, and of the first one where
+-- it costs three steps at most; or those of a cycle that costs more than four steps and passes none twice, and then none costs less than
+-- four
 abbrev pub IsDecision : Judged → Decision → Type 0
 IsDecision j (decision.Order order) = IsFirstOrder j order.items
-IsDecision j (decision.Least links) = AreLeast j links.items
+IsDecision j (decision.Least links) = AreLeast j links.items × IsFirstIfShort j links.items
 IsDecision j (decision.Cycle links) = AreCycle j links.items × (4 < cost links.items) × NoneBelow j 4 × IsSimple links.items
 
 -- the links of a decision for a cycle; and that it has none
@@ -27,7 +33,3 @@ abbrev pub HasNone : Decision → Type 0
 HasNone (decision.Order order) = Unit {0}
 HasNone (decision.Least links) = ⊥
 HasNone (decision.Cycle links) = ⊥
-
--- what is decided is a cycle that costs less than so many steps
-abbrev pub IsCheaper : Judged → ℕ → Decision → Type 0
-IsCheaper j below d = IsDecision j d × ((links : List Link) × HasLinks d links × (cost links < below))

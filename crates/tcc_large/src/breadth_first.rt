@@ -3,7 +3,7 @@
 use crate::pairs::Pairs;
 use crate::reverse_search::ReverseSearch;
 use crate::trimming::Trimmed;
-use crate::work::{Halt, Work};
+use crate::work::{SearchError, Work};
 use std::alloc::{AllocError, Global};
 use tcc_txn::NoMemory;
 
@@ -29,7 +29,7 @@ impl BreadthFirst {
         among: &Trimmed<'_>,
         ends: (u32, u32),
         most: usize,
-    ) -> Result<Option<Vec<u32>>, Halt> {
+    ) -> Result<Option<Vec<u32>>, SearchError> {
         self.reverse.begin(most);
         self.meet(among, ends.1, ends.1)?;
         for _turn in 0..among.pairs().count() {
@@ -53,7 +53,12 @@ impl BreadthFirst {
     }
 
     /// Takes in all that lead to a transaction by one pair or link.
-    fn look(&mut self, work: &mut Work, among: &Trimmed<'_>, number: u32) -> Result<(), Halt> {
+    fn look(
+        &mut self,
+        work: &mut Work,
+        among: &Trimmed<'_>,
+        number: u32,
+    ) -> Result<(), SearchError> {
         let links = among.adjacency().links_into(number);
         let reads = among.pairs().reads(number);
         let low = self.reverse.cover(among.pairs(), number);

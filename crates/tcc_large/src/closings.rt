@@ -2,7 +2,7 @@
 //! link. They are looked for at each reader, in O(R * r) for R reads of which a transaction has r at most.
 use crate::pairs::{Pairs, span};
 use crate::trimming::Trimmed;
-use crate::work::{Halt, Work};
+use crate::work::{SearchError, Work};
 use std::alloc::{AllocError, Global};
 
 /// The ends of such links between marked transactions, ascending: to what is read from the last earlier writer of the key in the
@@ -11,7 +11,7 @@ pub(crate) fn closings(
     alloc: Global,
     work: &mut Work,
     among: &Trimmed<'_>,
-) -> Result<Vec<(u32, u32)>, Halt> {
+) -> Result<Vec<(u32, u32)>, SearchError> {
     let mut found = Vec::new(alloc);
     for reader in 1..among.pairs().count() {
         let reads = among.pairs().reads(reader);

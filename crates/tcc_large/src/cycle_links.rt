@@ -2,7 +2,7 @@
 //! shortest walk, which takes a search (`shortest_walks`).
 use crate::pairs::Pairs;
 use crate::shortest_walks::{ShortestWalks, Sought};
-use crate::work::{Halt, Work};
+use crate::work::{SearchError, Work};
 use std::alloc::{AllocError, Global};
 use tcc_graph::{Level, Link, Step, Walk};
 use tcc_txn::{Name, NoMemory};
@@ -43,7 +43,7 @@ fn contradicted(
     pairs: &Pairs<'_>,
     from: u32,
     to: u32,
-) -> Result<Vec<(u32, u32)>, Halt> {
+) -> Result<Vec<(u32, u32)>, SearchError> {
     let mut found = Vec::new(alloc);
     for key_index in pairs.writes(from) {
         let readers = pairs.readers(to, *key_index);
@@ -121,7 +121,7 @@ impl Linker {
         to: u32,
         readers: &[(u32, u32)],
         most: usize,
-    ) -> Result<Option<Link>, Halt> {
+    ) -> Result<Option<Link>, SearchError> {
         let mut ends = Vec::new(alloc);
         for (reader, _key_index) in readers {
             ends.push(*reader)?;
@@ -146,7 +146,7 @@ impl Linker {
         from: u32,
         to: u32,
         most: usize,
-    ) -> Result<Option<Link>, Halt> {
+    ) -> Result<Option<Link>, SearchError> {
         if let Some(step) = step(pairs, from, to) {
             return Ok(Some(Link::of(step)));
         }
@@ -163,7 +163,7 @@ impl Linker {
         pairs: &Pairs<'_>,
         circle: &[u32],
         below: usize,
-    ) -> Result<Option<Vec<Link>>, Halt> {
+    ) -> Result<Option<Vec<Link>>, SearchError> {
         let circle = without_runs(alloc, pairs, circle)?;
         let mut links = Vec::new(alloc);
         // each link that is not there yet costs a step at least

@@ -8,7 +8,7 @@ use crate::closings::{between, closings};
 use crate::cycle_links::Linker;
 use crate::pairs::{Pair, Pairs, span};
 use crate::trimming::Trimmed;
-use crate::work::{Halt, Work, unless_spent};
+use crate::work::{SearchError, Work, unless_spent};
 use std::alloc::{AllocError, Global};
 use tcc_bits::Row;
 use tcc_graph::{LargeGraph, Level, Link};
@@ -133,7 +133,7 @@ impl<'a> Finder<'a> {
     }
 
     /// The links along transactions that stand in a circle.
-    fn along(&mut self, alloc: Global, circle: &[u32]) -> Result<(), Halt> {
+    fn along(&mut self, alloc: Global, circle: &[u32]) -> Result<(), SearchError> {
         let below = self.cheapest.below;
         let links = self
             .linker
@@ -158,7 +158,7 @@ impl<'a> Finder<'a> {
     }
 
     /// A cycle of two links, from a transaction to a later one in session order and back by the key at an index.
-    fn try_key(&mut self, alloc: Global, source: u32, key_index: u32) -> Result<(), Halt> {
+    fn try_key(&mut self, alloc: Global, source: u32, key_index: u32) -> Result<(), SearchError> {
         let (low, high) = self.pairs.later(source);
         let wanted = span(self.pairs.writers(key_index), low, high);
         let mut readers = Vec::new(alloc);
@@ -180,7 +180,12 @@ impl<'a> Finder<'a> {
     }
 
     /// Such cycles by each of these keys.
-    fn try_keys(&mut self, alloc: Global, source: u32, key_indices: &[u32]) -> Result<(), Halt> {
+    fn try_keys(
+        &mut self,
+        alloc: Global,
+        source: u32,
+        key_indices: &[u32],
+    ) -> Result<(), SearchError> {
         self.work.take(key_indices.len())?;
         for key_index in key_indices {
             if self.goes_on() {
@@ -191,7 +196,7 @@ impl<'a> Finder<'a> {
     }
 
     /// Cycles through `init`, by keys of some of these writers, from each of which a link leads there.
-    fn through_init(&mut self, alloc: Global, writers: &[u32]) -> Result<(), Halt> {
+    fn through_init(&mut self, alloc: Global, writers: &[u32]) -> Result<(), SearchError> {
         for (index, writer) in writers.iter().enumerate() {
             if is_tried(index, writers.len()) && self.goes_on() {
                 self.along(alloc, &[0, *writer])?;
@@ -202,7 +207,7 @@ impl<'a> Finder<'a> {
     }
 
     /// Cycles of a session pair and a link, for some of the links against such a pair.
-    fn through_sessions(&mut self, alloc: Global, links: &[(u32, u32)]) -> Result<(), Halt> {
+    fn through_sessions(&mut self, alloc: Global, links: &[(u32, u32)]) -> Result<(), SearchError> {
         for (index, (from, to)) in links.iter().enumerate() {
             if is_tried(index, links.len()) && self.goes_on() {
                 self.along(alloc, &[*to, *from])?;
@@ -213,7 +218,7 @@ impl<'a> Finder<'a> {
     }
 
     /// Cycles of two links, for some of those against a reads-from pair.
-    fn through_reads(&mut self, alloc: Global, links: &[(u32, u32)]) -> Result<(), Halt> {
+    fn through_reads(&mut self, alloc: Global, links: &[(u32, u32)]) -> Result<(), SearchError> {
         for (index, (from, to)) in links.iter().enumerate() {
             if is_tried(index, links.len()) && self.goes_on() {
                 self.along(alloc, &[*to, *from])?;
@@ -228,7 +233,7 @@ impl<'a> Finder<'a> {
         alloc: Global,
         among: &Trimmed<'_>,
         ends: (u32, u32),
-    ) -> Result<(), Halt> {
+    ) -> Result<(), SearchError> {
         let most = self.cheapest.below.saturating_sub(2);
         let ends = (ends.1, ends.0);
         let circle = self
@@ -246,7 +251,7 @@ impl<'a> Finder<'a> {
         alloc: Global,
         among: &Trimmed<'_>,
         ends: &[(u32, u32)],
-    ) -> Result<(), Halt> {
+    ) -> Result<(), SearchError> {
         for (index, one) in ends.iter().enumerate() {
             if is_tried(index, ends.len()) && self.goes_on() {
                 self.through_one(alloc, among, *one)?;
@@ -261,7 +266,7 @@ impl<'a> Finder<'a> {
         alloc: Global,
         closings: &[(u32, u32)],
         closing: (u32, u32),
-    ) -> Result<(), Halt> {
+    ) -> Result<(), SearchError> {
         let (from, to) = closing;
         self.work.take(self.pairs.reads(from).len())?;
         if let Some(middle) = between(self.pairs, to, from) {
@@ -274,7 +279,7 @@ impl<'a> Finder<'a> {
     }
 
     /// Such cycles.
-    fn through_closings(&mut self, alloc: Global, among: &Trimmed<'_>) -> Result<(), Halt> {
+    fn through_closings(&mut self, alloc: Global, among: &Trimmed<'_>) -> Result<(), SearchError> {
         let closings = closings(alloc, &mut self.work, among)?;
         for closing in &closings {
             if !self.goes_on() {
@@ -287,7 +292,7 @@ impl<'a> Finder<'a> {
 
     /// Leaves the transaction behind a link of the cheapest cycle out, where a link past it costs less than the two that lead
     /// through it, and says whether it was so.
-    fn shortcut(&mut self, alloc: Global, index: usize) -> Result<bool, Halt> {
+    fn shortcut(&mut self, alloc: Global, index: usize) -> Result<bool, SearchError> {
         let Some(links) = &self.cheapest.links else {
             return Ok(false);
         };
@@ -315,7 +320,7 @@ impl<'a> Finder<'a> {
     }
 
     /// Shortens the cheapest cycle by such links.
-    fn shorten(&mut self, alloc: Global) -> Result<(), Halt> {
+    fn shorten(&mut self, alloc: Global) -> Result<(), SearchError> {
         let mut index = 0;
         for _turn in 0..SHORTCUTS {
             if !self.shortcut(alloc, index)? {
@@ -391,39 +396,5 @@ pub(crate) fn found_cycle(
     let pairs = Pairs::of(alloc, graph)?;
     let mut finder = Finder::new(alloc, &pairs, level)?;
     finder.find(alloc, level, stuck)?;
-    Ok(finder.cheapest.links.take())
-}
-
-/// The links of a cycle along transactions that stand in a circle, where together they cost less than so many steps; none where none was
-/// found. Between any two it is a shortest one.
-pub(crate) fn cycle_around(
-    alloc: Global,
-    graph: &LargeGraph,
-    level: Level,
-    circle: &[u32],
-    below: u32,
-) -> Result<Option<Vec<Link>>, NoMemory> {
-    let pairs = Pairs::of(alloc, graph)?;
-    let mut finder = Finder::new(alloc, &pairs, level)?;
-    finder.cheapest.below = below as usize;
-    finder.work = Work::new(u64::MAX);
-    unless_spent(finder.along(alloc, circle))?;
-    Ok(finder.cheapest.links.take())
-}
-
-/// The links of a cheapest cycle through `init`, by a reading of one of these keys, where it costs less than so many steps; none where
-/// none was found.
-pub(crate) fn cycle_into_init(
-    alloc: Global,
-    graph: &LargeGraph,
-    level: Level,
-    key_indices: &[u32],
-    below: u32,
-) -> Result<Option<Vec<Link>>, NoMemory> {
-    let pairs = Pairs::of(alloc, graph)?;
-    let mut finder = Finder::new(alloc, &pairs, level)?;
-    finder.cheapest.below = below as usize;
-    finder.work = Work::new(u64::MAX);
-    unless_spent(finder.try_keys(alloc, 0, key_indices))?;
     Ok(finder.cheapest.links.take())
 }

@@ -6,7 +6,7 @@ use tcc_graph::Link;
 pub enum Decision {
     /// The numbers of all transactions in the first commit order.
     Order(Vec<u32>),
-    /// The links of a least cycle, in order.
+    /// The links of a least cycle, in order; of the first by the rule of ties where it costs three steps at most.
     Least(Vec<Link>),
     /// The links of a cycle that costs more than four steps and passes no transaction twice, in order, where none costs less than
     /// four.

@@ -4,29 +4,17 @@ ghost use Rattle.tcc_reads.specs.Refusals.{IsRefusal};
 ghost use Rattle.tcc_large.specs.Explained.{IsLargeAnswer};
 
 use crate::answer::LargeAnswer;
-use crate::deciding::{decide, decide_with_order};
+use crate::deciding::decide;
 use std::alloc::Global;
 use tcc_graph::{LargeGraph, Level};
 use tcc_reads::{ResolveFault, resolve_large};
 use tcc_txn::LargeSnapshot;
 
-/// What is decided of the history of a large snapshot at a level: its first commit order; or the links of a cycle, of a least one
-/// where it costs four steps at most, and not always where it costs more. Or all its read faults, where there are some.
+/// What is decided of the history of a large snapshot at a level: its first commit order; or the links of a cycle, of the first by the
+/// rule of ties where it costs three steps at most, of a least one where it costs four, and not always where it costs more. Or all its
+/// read faults, where there are some. With a cycle of four steps or more comes an order of all transactions, to judge by which is the
+/// first of the least ones. It begins with `init` and keeps all pairs; there is none where pairs have a circle. Nobody has to trust it.
 pub fn explain_large(
-    alloc: Global,
-    snapshot: &LargeSnapshot,
-    level: Level,
-) -> Result<LargeAnswer, ResolveFault>
-    ensures { MatchResult result (IsLargeAnswer snapshot.now level) (IsRefusal snapshot.now) }
-{
-    let graph = LargeGraph::build(alloc, resolve_large(alloc, snapshot)?)?;
-    let decision = decide(alloc, &graph, level)?;
-    Ok(LargeAnswer { graph, decision })
-}
-
-/// As `explain_large`; and where the links are a cycle of more than four steps, an order of all transactions to judge by whether it is a
-/// least one. It begins with `init` and keeps all pairs; there is none where pairs have a circle. Nobody has to trust it.
-pub fn explain_large_with_order(
     alloc: Global,
     snapshot: &LargeSnapshot,
     level: Level,
@@ -34,6 +22,6 @@ pub fn explain_large_with_order(
     ensures { MatchResult result (λ found. IsLargeAnswer snapshot.now level found.0) (IsRefusal snapshot.now) }
 {
     let graph = LargeGraph::build(alloc, resolve_large(alloc, snapshot)?)?;
-    let (decision, order) = decide_with_order(alloc, &graph, level)?;
+    let (decision, order) = decide(alloc, &graph, level)?;
     Ok((LargeAnswer { graph, decision }, order))
 }

@@ -4,7 +4,7 @@
 use crate::cells::Cells;
 use crate::pairs::{Pairs, span};
 use crate::reverse_search::ReverseSearch;
-use crate::work::{Halt, Work};
+use crate::work::{SearchError, Work};
 use std::alloc::{AllocError, Global};
 use tcc_graph::Step;
 use tcc_txn::NoMemory;
@@ -46,7 +46,7 @@ impl ShortestWalks {
         work: &mut Work,
         pairs: &Pairs<'_>,
         sought: &Sought<'_>,
-    ) -> Result<Option<Vec<Step>>, Halt> {
+    ) -> Result<Option<Vec<Step>>, SearchError> {
         self.reverse.begin(sought.most);
         work.take(sought.ends.len())?;
         for end in sought.ends {
@@ -79,7 +79,7 @@ impl ShortestWalks {
         pairs: &Pairs<'_>,
         wanted: &[u32],
         number: u32,
-    ) -> Result<Option<(u32, u32)>, Halt> {
+    ) -> Result<Option<(u32, u32)>, SearchError> {
         if let Some(start) = self.search_session(work, pairs, wanted, number)? {
             return Ok(Some((start, BY_SESSION)));
         }
@@ -104,7 +104,7 @@ impl ShortestWalks {
         pairs: &Pairs<'_>,
         wanted: &[u32],
         number: u32,
-    ) -> Result<Option<u32>, Halt> {
+    ) -> Result<Option<u32>, SearchError> {
         work.take(1)?;
         let low = self.reverse.cover(pairs, number);
         if let Some(start) = span(wanted, low, number).first() {

@@ -3,16 +3,16 @@ use tcc_txn::NoMemory;
 
 /// Why a search ends early.
 #[derive(Drop)]
-pub(crate) enum Halt {
+pub(crate) enum SearchError {
     Memory(NoMemory),
     /// All work that was allowed was done.
-    Spent,
+    OutOfWork,
 }
 
 /// Whatever says that memory is out.
-impl<E: Into<NoMemory>> From<E> for Halt {
-    fn from(fault: E) -> Halt {
-        Halt::Memory(fault.into())
+impl<E: Into<NoMemory>> From<E> for SearchError {
+    fn from(fault: E) -> SearchError {
+        SearchError::Memory(fault.into())
     }
 }
 
@@ -29,7 +29,7 @@ impl Work {
     }
 
     /// Takes so much.
-    pub(crate) fn take(&mut self, much: usize) -> Result<(), Halt> {
+    pub(crate) fn take(&mut self, much: usize) -> Result<(), SearchError> {
         match self.left.checked_sub(much as u64) {
             Some(left) => {
                 self.left = left;
@@ -37,16 +37,16 @@ impl Work {
             }
             None => {
                 self.left = 0;
-                Err(Halt::Spent)
+                Err(SearchError::OutOfWork)
             }
         }
     }
 }
 
 /// What is found so far stands where the work was spent.
-pub(crate) fn unless_spent(searched: Result<(), Halt>) -> Result<(), NoMemory> {
+pub(crate) fn unless_spent(searched: Result<(), SearchError>) -> Result<(), NoMemory> {
     match searched {
-        Ok(()) | Err(Halt::Spent) => Ok(()),
-        Err(Halt::Memory(fault)) => Err(fault),
+        Ok(()) | Err(SearchError::OutOfWork) => Ok(()),
+        Err(SearchError::Memory(fault)) => Err(fault),
     }
 }

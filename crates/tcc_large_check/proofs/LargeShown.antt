@@ -17,7 +17,7 @@ use Rattle.tcc_check.specs.declared.verdict.Verdict.TheVariants as verdict
 use Rattle.tcc_judge.specs.Verdicts.{rules_of}
 use Rattle.tcc_judge.specs.declared.verdict.Rule.{Rule as LargeRule}
 use Rattle.tcc_print.specs.Statuses.{code_of, verdict_status}
-use Rattle.tcc_verdict.specs.Checking.{IsRun}
+use Rattle.tcc_verdict.specs.Checking.{IsCheckRunBy}
 use Rattle.tcc_verdict.specs.private.Stages.{TellsHalts}
 use Rattle.tcc_verdict.proofs.Shown.{Succeeds, run_succeeds}
 use Rattle.tcc_large_check.specs.LargeChecks.{IsLargeShown, IsLargeTextCheck, IsTrueLargeClaim, IsTrueText, IsVerdictFor, large_check}
@@ -54,6 +54,6 @@ module _ (certified : (h : History) (k : Certificate) → Certifies h k → IsTr
     true_claim = text_true certified accepted (finished_in (answers_within limits.Large records).items) text is.judged is.of_text is.success;
   }
 
-  pub shown : (records text : List ℕ) (before after : Option (List ℕ)) (code : ℕ) → IsRun large_check records text before after code
+  pub shown : (records text : List ℕ) (before after : Option (List ℕ)) (code : ℕ) → IsCheckRunBy large_check records text before after code
       → code ≡ 0 → IsLargeShown records text
   shown records text before after code run zero = shown_by records text (run_succeeds large_check records text large_tells before after code run zero)

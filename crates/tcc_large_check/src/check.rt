@@ -1,6 +1,6 @@
 //! From the bytes of a history of any size and of a certificate of any version to the verdict.
 ghost use Rattle.std.specs.Prelude.{◌≡◌, IfSome};
-ghost use Rattle.tcc_verdict.specs.Checking.{IsRun, PrintsOutcome};
+ghost use Rattle.tcc_verdict.specs.Checking.{IsCheckRunBy, PrintsOutcome};
 ghost use Rattle.tcc_large_check.specs.LargeChecks.{IsLargeShown, large_check};
 
 use crate::LargeJudgement;
@@ -13,6 +13,7 @@ use std::io::{Read, Write};
 use tcc_check::laws::certified;
 use tcc_graph::{Graph, LargeGraph};
 use tcc_print::Halt;
+use tcc_base::{Progress, Unwatched};
 use tcc_reads::resolve_large;
 use tcc_txn::{LargeLimits, LargeSnapshot};
 use tcc_verdict::{Checker, noted, run_checker};
@@ -47,8 +48,13 @@ impl Checker for SizedGraph {
         }
     }
 
-    fn judged<R: Read + Drop>(&self, alloc: Global, reader: R) -> Result<LargeJudgement, Halt> {
-        let judgement = judged_text(alloc, self, reader)?;
+    fn judged<R: Read + Drop, P: Progress>(
+        &self,
+        alloc: Global,
+        reader: R,
+        progress: &P,
+    ) -> Result<LargeJudgement, Halt> {
+        let judgement = judged_text(alloc, self, reader, progress)?;
         Ok(judgement)
     }
 
@@ -69,11 +75,29 @@ pub fn run_check_large<H: Read + Drop, C: Read + Drop, W: Write, N: Write>(
     notes: &mut N,
 ) -> u8
     ensures run { IfSome (H.remaining history)
-        (λ records. IfSome (C.remaining certificate) (λ text. IsRun large_check records text (W.contents out.old) (W.contents out.new) result)) }
+        (λ records. IfSome (C.remaining certificate) (λ text. IsCheckRunBy large_check records text (W.contents out.old) (W.contents out.new) result)) }
+    ensures printed { PrintsOutcome large_check (W.contents out.old) (W.contents out.new) result }
+    ensures shown { IfSome (H.remaining history) (λ records. IfSome (C.remaining certificate) (λ text. result ≡ 0 → IsLargeShown records text)) }
+{
+    run_check_large_watched(alloc, history, certificate, out, notes, &Unwatched)
+}
+
+/// As `run_check_large`, and once all is read `progress` is told how far the judgement of a certificate of version 3 is
+/// (`tcc_judge::judge_taken_watched`).
+pub fn run_check_large_watched<H: Read + Drop, C: Read + Drop, W: Write, N: Write, P: Progress>(
+    alloc: Global,
+    history: H,
+    certificate: C,
+    out: &mut W,
+    notes: &mut N,
+    progress: &P,
+) -> u8
+    ensures run { IfSome (H.remaining history)
+        (λ records. IfSome (C.remaining certificate) (λ text. IsCheckRunBy large_check records text (W.contents out.old) (W.contents out.new) result)) }
     ensures printed { PrintsOutcome large_check (W.contents out.old) (W.contents out.new) result }
     ensures shown { IfSome (H.remaining history) (λ records. IfSome (C.remaining certificate) (λ text. result ≡ 0 → IsLargeShown records text)) }
 {
     certified();
     accepted();
-    run_checker::<SizedGraph, H, C, W, N>(alloc, history, certificate, out, notes)
+    run_checker::<SizedGraph, H, C, W, N, P>(alloc, history, certificate, out, notes, progress)
 }

@@ -1,8 +1,11 @@
 //! What a certificate of any version claims, and what the rules for its version say of it.
 ghost use Rattle.std.specs.Prelude.{◌≡◌};
+ghost use Rattle.tcc_reads.specs.History.{History};
+ghost use Rattle.tcc_cert.specs.{Taken.IsClaimTaken, declared.large.LargeCertificate.LargeCertificate};
+ghost use Rattle.tcc_judge.specs.{Taken.AreTaken, declared.taken.TakenLinks.TakenLinks};
 ghost use Rattle.tcc_large_check.specs.LargeChecks.{large_claim_of};
 
-use tcc_cert::LargeCertificate;
+use tcc_cert::LargeHead;
 use tcc_check::Judgement;
 use tcc_judge::Verdict;
 
@@ -24,15 +27,16 @@ pub enum LargeJudgement {
     Large { claim: LargeClaim, verdict: Verdict },
 }
 
-/// What a certificate of version 3 claims.
-pub(crate) fn claim_of(certificate: &LargeCertificate) -> LargeClaim
-    ensures { result ≡ large_claim_of certificate.now }
+/// What a certificate of version 3 claims whose links were taken.
+pub(crate) fn claim_of(head: &LargeHead) -> LargeClaim
+    ensures { (taken : TakenLinks) (h : History) (certificate : LargeCertificate) → IsClaimTaken (AreTaken taken h) certificate head.now
+        → result ≡ large_claim_of certificate }
 {
-    match certificate {
-        LargeCertificate::Order(_) => LargeClaim::Order,
-        LargeCertificate::Cycle(claim) => LargeClaim::Cycle {
-            cost: claim.cost,
-            is_least: claim.least.is_some(),
+    match head {
+        LargeHead::Order(_) => LargeClaim::Order,
+        LargeHead::Cycle(head) => LargeClaim::Cycle {
+            cost: head.sizes.cost,
+            is_least: head.least.is_some(),
         },
     }
 }

@@ -9,5 +9,5 @@ mod printing;
 mod sized;
 mod versions;
 
-pub use check::run_check_large;
+pub use check::{run_check_large, run_check_large_watched};
 pub use judgement::{LargeClaim, LargeJudgement};

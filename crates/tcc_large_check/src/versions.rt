@@ -12,7 +12,8 @@ use tcc_cert::laws::no_first_line;
 use tcc_cert::{CertReader, LargeReader, VersionReader, reader_of};
 use tcc_check::{Judgement, Judging, Rule, StreamFault, Verdict, claim_in, judge_parts};
 use tcc_graph::LargeGraph;
-use tcc_judge::judge;
+use tcc_judge::{TakenLinks, judge_taken_watched};
+use tcc_base::Progress;
 
 /// Judges a certificate of version 1 or 2. These are of histories within the small limits, so past them its sizes are wrong,
 /// whatever it claims; its text is read to the end, since a fault of it comes first.
@@ -33,25 +34,28 @@ fn judged_parts<R: Read>(alloc: Global, graph: &SizedGraph, parts: &mut CertRead
     }
 }
 
-/// Judges a certificate of version 3.
-fn judged_large<R: Read + Drop>(
+/// Judges a certificate of version 3, whose links are judged as they come.
+fn judged_large<R: Read + Drop, P: Progress>(
     alloc: Global,
     graph: &LargeGraph,
     reader: LargeReader<R>,
+    progress: &P,
 ) -> Result<LargeJudgement, StreamFault>
     ensures { (bytes : List ℕ) → IsLargeAt R.remaining reader bytes → IsJudgedLarge graph.now bytes result }
 {
-    let certificate = reader.read(alloc)?;
-    let verdict = judge(alloc, graph, &certificate)?;
-    let claim = claim_of(&certificate);
+    let mut taken = TakenLinks::new(alloc, graph);
+    let head = reader.take(alloc, &mut taken)?;
+    let verdict = judge_taken_watched(alloc, graph, &head, &taken, progress)?;
+    let claim = claim_of(&head);
     Ok(LargeJudgement::Large { claim, verdict })
 }
 
 /// What the certificate claims whose text the reader gives, and the verdict on it, by the rules for its version.
-pub(crate) fn judged_text<R: Read + Drop>(
+pub(crate) fn judged_text<R: Read + Drop, P: Progress>(
     alloc: Global,
     graph: &SizedGraph,
     reader: R,
+    progress: &P,
 ) -> Result<LargeJudgement, StreamFault>
     ensures { IfSome (R.remaining reader) (λ bytes. IsJudgedText graph.now bytes result) }
 {
@@ -61,6 +65,6 @@ pub(crate) fn judged_text<R: Read + Drop>(
             let judgement = judged_parts(alloc, graph, &mut parts)?;
             Ok(LargeJudgement::Small(judgement))
         }
-        VersionReader::Large(reader) => judged_large(alloc, graph.large(), reader),
+        VersionReader::Large(reader) => judged_large(alloc, graph.large(), reader, progress),
     }
 }

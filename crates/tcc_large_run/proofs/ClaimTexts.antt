@@ -4,6 +4,7 @@ use Rattle.std.specs.Global.{Vec}
 use Rattle.std.proofs.lemmas.Bool.{cases_eq}
 use Rattle.tcc_reads.specs.History.{History, count}
 use Rattle.tcc_graph.specs.Levels.{judged}
+use Rattle.tcc_graph.specs.Links.{cost}
 use Rattle.tcc_graph.specs.Orders.{IsCommitOrder}
 use Rattle.tcc_graph.specs.declared.level.Level.{Level}
 use Rattle.tcc_graph.specs.declared.link.Link.{Link}
@@ -60,15 +61,15 @@ none_room h level (decision.Cycle links) some text none is = absurd none
 
 -- a cycle of which the judge says that it is a least one
 pub found_proved : ((h : History) (k : LinksClaim) (runs : List Run) → k.least ≡ Some runs → AllHold (cycle_rules h k) → AreLeast (judged h k.level) k.links)
-    → (level : Level) (h : History) (links : Vec Link) (runs : List Run) (a : Answer) (k : LinksClaim) → HasLargeText (claim_of level h (decision.Cycle links))
+    → (level : Level) (h : History) (links : Vec Link) (runs : List Run) (a : Answer) (k : LinksClaim) → 4 < cost links.items → HasLargeText (claim_of level h (decision.Cycle links))
     → a ≡ answer.Anomaly (bare_cycle level h links.items) → k ≡ links_claim_of level h links.items (Some runs) → HaveRunsText runs
     → AllHold (cycle_rules h k) → IsFoundOf level h (decision.Cycle links) (outcome.Proved h a (claims.Cycle k))
-found_proved law level h links runs a k room said made short keeps =
+found_proved law level h links runs a k long room said made short keeps =
     let own : AllHold (cycle_rules h (links_claim_of level h links.items (Some runs))) = subst (λ (k : LinksClaim). AllHold (cycle_rules h k)) made keeps in
     inr (
       links.items,
       runs,
-      record { least = law h (links_claim_of level h links.items (Some runs)) runs refl own; rules = own },
+      record { least = law h (links_claim_of level h links.items (Some runs)) runs refl own; long = long; rules = own },
       record { count = room.count; steps = room.steps; links = room.links; cost = room.cost; least = short },
       ap (λ (b : Answer). outcome.Proved h b (claims.Cycle k)) said
           ∙ ap (λ (m : LinksClaim). outcome.Proved h (answer.Anomaly (bare_cycle level h links.items)) (claims.Cycle m)) made,

@@ -5,7 +5,7 @@ use Rattle.std.specs.Io.KnownBytes.{Appends}
 use Rattle.std.specs.List.{last_or}
 use Rattle.tcc_txn.specs.declared.limits.Limits.TheVariants.{Large}
 use Rattle.tcc_reads.specs.Faults.{read_faults}
-use Rattle.tcc_print.specs.Courses.{Contents, Gains, IsEnded, IsWhole, Said, texts}
+use Rattle.tcc_print.specs.Courses.{Contents, Gains, IsEndedCourse, IsWholeCourse, Said, texts}
 use Rattle.tcc_print.specs.Printed.{device_line}
 use Rattle.tcc_print.specs.Statuses.{code_of}
 use Rattle.tcc_print.specs.declared.options.Options.{Options}
@@ -29,13 +29,13 @@ module _ (laws : Laws) (options : Options) (records : List ℕ) where
   of_said last text has unfaulted (inr (faulty, same)) = absurd (nothing text (sym (ap (λ (s : Said). s.certificate) same) ∙ has))
 
   closes : (said : List Said) (last : Said) (text : List ℕ) → last_or None said ≡ Some last → last.certificate ≡ Some text
-      → IsWhole (IsSaidWithLarge options) (answers_of records) said ⊎ IsEnded Large (IsSaidWithLarge options) options records said
+      → IsWholeCourse (IsSaidWithLarge options) (answers_of records) said ⊎ IsEndedCourse Large (IsSaidWithLarge options) options records said
       → IsAcceptedWith options records text
   closes said last text end has ends =
       let all = certified_last Large (IsSaidWithLarge options) options records said last end ends text has in of_said last text has all.0 all.1
 
   module _ (text : List ℕ) (some : text ≢ []) (said : List Said) (last : Said) (end : last_or None said ≡ Some last)
-      (ends : IsWhole (IsSaidWithLarge options) (answers_of records) said ⊎ IsEnded Large (IsSaidWithLarge options) options records said) where
+      (ends : IsWholeCourse (IsSaidWithLarge options) (answers_of records) said ⊎ IsEndedCourse Large (IsSaidWithLarge options) options records said) where
     of_gains : Gains (Some (Some [])) (Some (Some text)) (unwrap_or last.certificate []) → IsAcceptedWith options records text
     of_gains gains = go last.certificate refl
       where
@@ -96,7 +96,7 @@ module _ (laws : Laws) (options : Options) (records : List ℕ) where
 
     of_ends : (said : List Said) (last : Said) → last_or None said ≡ Some last
         → AllGoesOut options (finished records) before after files files' (texts said) last code
-        → IsWhole (IsSaidWithLarge options) (answers_of records) said ⊎ IsEnded Large (IsSaidWithLarge options) options records said → Printed
+        → IsWholeCourse (IsSaidWithLarge options) (answers_of records) said ⊎ IsEndedCourse Large (IsSaidWithLarge options) options records said → Printed
     of_ends said last end goes ends =
         of_resolved said last end goes
         (last_of_all Large (IsSaidWithLarge options) options records said last end ends unfaulted code fine space goes.3)

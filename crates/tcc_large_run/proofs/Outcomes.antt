@@ -167,7 +167,7 @@ unsaid options (outcome.Cycle h labels links) none e = nothing links.items (sym 
 decided_cycle : (level : Level) (s : Sessions) (d : Decision) (links : List Link) → IsDecision (judged (history s) level) d → HasLinks d links
     → AreCycle (judged (history s) level) links
 decided_cycle level s (decision.Order order) links is has = absurd has
-decided_cycle level s (decision.Least found) links is has = subst (AreCycle (judged (history s) level)) (sym has) (is.0, is.1.cycle)
+decided_cycle level s (decision.Least found) links is has = subst (AreCycle (judged (history s) level)) (sym has) (is.0.0, is.0.1.cycle)
 decided_cycle level s (decision.Cycle found) links is has = subst (AreCycle (judged (history s) level)) (sym has) is.0
 
 past_cycle : (level : Level) (s : Sessions) (h : History) (o : Outcome) (links : List Link) → IsDecided level s h o → outcome_links o ≡ Some links

@@ -42,8 +42,8 @@ keeps_rules h by_order by_cycle by_short level (decision.Order order) is = by_or
 keeps_rules h by_order by_cycle by_short level (decision.Least links) is = by_test (nat_le (cost links.items) 4) refl
   where
     by_test : (b : Bool) → nat_le (cost links.items) 4 ≡ b → AllHold (cycle_rules h (links_claim_of level h links.items (if b then Some [] else None)))
-    by_test true e = by_short h level is.0 links.items is.1 (below (cost links.items) e)
-    by_test false e = by_cycle h level is.0 links.items is.1.cycle
+    by_test true e = by_short h level is.0.0 links.items is.0.1 (below (cost links.items) e)
+    by_test false e = by_cycle h level is.0.0 links.items is.0.1.cycle
 keeps_rules h by_order by_cycle by_short level (decision.Cycle links) is = by_cycle h level is.0.0 links.items is.0.1
 
 -- what is claimed keeps all rules, where what is decided does

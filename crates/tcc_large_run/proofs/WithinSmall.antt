@@ -13,7 +13,7 @@ use Rattle.tcc_rows.specs.Items.{finished_in}
 use Rattle.tcc_rows.specs.declared.rows.Item.{Item}
 use Rattle.tcc_rows.specs.declared.rows.Item.TheVariants as item
 use Rattle.tcc_rows.proofs.BothLimits.{fails-large, fails-small, same-before, same-kept}
-use Rattle.tcc_print.specs.Courses.{AreSaid, Contents, IsEnded, IsWhole, MayEnd, Said}
+use Rattle.tcc_print.specs.Courses.{AreSaid, Contents, IsEndedCourse, IsWholeCourse, MayEnd, Said}
 use Rattle.tcc_print.specs.Moments.{at_end, is_due_after, sealed_after, sealed_in}
 use Rattle.tcc_print.specs.Statuses.{code_of}
 use Rattle.tcc_print.specs.declared.halt.Halt.{Halt}
@@ -103,21 +103,21 @@ module _ (law : (text : List ℕ) (n : ℕ) → KeepsLimits (finished_in (take n
       whole = ap (take (length items)) (sym (append-nil items)) ∙ take-append_seam items []
 
   -- all that was said
-  pub whole_small : (said : List Said) → IsWhole (large.IsSaidWithLarge options) (large.answers_of records) said
-      → IsWhole (small.IsSaidOfSnapshot options) (rows.answers_of records) said
+  pub whole_small : (said : List Said) → IsWholeCourse (large.IsSaidWithLarge options) (large.answers_of records) said
+      → IsWholeCourse (small.IsSaidOfSnapshot options) (rows.answers_of records) said
   whole_small said is =
-      let here : IsWhole (large.IsSaidWithLarge options) (rows.answers_of records) said
-      = subst (λ (all : rows.Answers). IsWhole (large.IsSaidWithLarge options) all said) same is in
+      let here : IsWholeCourse (large.IsSaidWithLarge options) (rows.answers_of records) said
+      = subst (λ (all : rows.Answers). IsWholeCourse (large.IsSaidWithLarge options) all said) same is in
       (here.0, (each_said (large.IsSaidWithLarge options) (small.IsSaidOfSnapshot options) (said_small options) (sealed_in items ++ at_end items) said answered here.1.0, here.1.1))
 
-  whole_large : (said : List Said) → IsWhole (small.IsSaidOfSnapshot options) (rows.answers_of records) said
-      → IsWhole (large.IsSaidWithLarge options) (large.answers_of records) said
+  whole_large : (said : List Said) → IsWholeCourse (small.IsSaidOfSnapshot options) (rows.answers_of records) said
+      → IsWholeCourse (large.IsSaidWithLarge options) (large.answers_of records) said
   whole_large said is =
-      subst (λ (all : rows.Answers). IsWhole (large.IsSaidWithLarge options) all said) (sym same)
+      subst (λ (all : rows.Answers). IsWholeCourse (large.IsSaidWithLarge options) all said) (sym same)
       (is.0, (each_said (small.IsSaidOfSnapshot options) (large.IsSaidWithLarge options) (said_large options) (sealed_in items ++ at_end items) said answered is.1.0, is.1.1))
 
-  pub whole_alike : (said : List Said) → IsWhole (large.IsSaidWithLarge options) (large.answers_of records) said
-      ↔ small.IsWhole options (rows.answers_of records) said
+  pub whole_alike : (said : List Said) → IsWholeCourse (large.IsSaidWithLarge options) (large.answers_of records) said
+      ↔ small.IsWholeRun options (rows.answers_of records) said
   whole_alike said = (whole_small said, whole_large said)
 
   -- what was said before the run was ended
@@ -140,8 +140,8 @@ module _ (law : (text : List ℕ) (n : ℕ) → KeepsLimits (finished_in (take n
   may_large n (halt.Reads faults) may = absurd may
   may_large n (halt.Text fault) may = absurd may
 
-  ended_small : (said : List Said) → IsEnded Large (large.IsSaidWithLarge options) options records said
-      → IsEnded Small (small.IsSaidOfSnapshot options) options records said
+  ended_small : (said : List Said) → IsEndedCourse Large (large.IsSaidWithLarge options) options records said
+      → IsEndedCourse Small (small.IsSaidOfSnapshot options) options records said
   ended_small said (answers, (n, why, may, are, is)) =
       let here : AreSaid (large.IsSaidWithLarge options) (sealed_in (take n items)) answers
       = subst (λ (all : rows.Answers). AreSaid (large.IsSaidWithLarge options) (sealed_in (take n all.items)) answers) same are in (
@@ -155,8 +155,8 @@ module _ (law : (text : List ℕ) (n : ℕ) → KeepsLimits (finished_in (take n
         ),
       )
 
-  ended_large : (said : List Said) → IsEnded Small (small.IsSaidOfSnapshot options) options records said
-      → IsEnded Large (large.IsSaidWithLarge options) options records said
+  ended_large : (said : List Said) → IsEndedCourse Small (small.IsSaidOfSnapshot options) options records said
+      → IsEndedCourse Large (large.IsSaidWithLarge options) options records said
   ended_large said (answers, (n, why, may, are, is)) = (
     answers,
     (
@@ -169,31 +169,31 @@ module _ (law : (text : List ℕ) (n : ℕ) → KeepsLimits (finished_in (take n
     ),
   )
 
-  pub ended_alike : (said : List Said) → IsEnded Large (large.IsSaidWithLarge options) options records said
-      ↔ small.IsEnded options records said
+  pub ended_alike : (said : List Said) → IsEndedCourse Large (large.IsSaidWithLarge options) options records said
+      ↔ small.IsEndedRun options records said
   ended_alike said = (ended_small said, ended_large said)
 
   -- ---- what goes out
 
   ends_small : (said : List Said)
-      → IsWhole (large.IsSaidWithLarge options) (large.answers_of records) said ⊎ IsEnded Large (large.IsSaidWithLarge options) options records said
-      → IsWhole (small.IsSaidOfSnapshot options) (rows.answers_of records) said ⊎ IsEnded Small (small.IsSaidOfSnapshot options) options records said
+      → IsWholeCourse (large.IsSaidWithLarge options) (large.answers_of records) said ⊎ IsEndedCourse Large (large.IsSaidWithLarge options) options records said
+      → IsWholeCourse (small.IsSaidOfSnapshot options) (rows.answers_of records) said ⊎ IsEndedCourse Small (small.IsSaidOfSnapshot options) options records said
   ends_small said (inl whole) = inl (whole_small said whole)
   ends_small said (inr ended) = inr (ended_small said ended)
 
   ends_large : (said : List Said)
-      → IsWhole (small.IsSaidOfSnapshot options) (rows.answers_of records) said ⊎ IsEnded Small (small.IsSaidOfSnapshot options) options records said
-      → IsWhole (large.IsSaidWithLarge options) (large.answers_of records) said ⊎ IsEnded Large (large.IsSaidWithLarge options) options records said
+      → IsWholeCourse (small.IsSaidOfSnapshot options) (rows.answers_of records) said ⊎ IsEndedCourse Small (small.IsSaidOfSnapshot options) options records said
+      → IsWholeCourse (large.IsSaidWithLarge options) (large.answers_of records) said ⊎ IsEndedCourse Large (large.IsSaidWithLarge options) options records said
   ends_large said (inl whole) = inl (whole_large said whole)
   ends_large said (inr ended) = inr (ended_large said ended)
 
   pub run_small : (before after : Option (List ℕ)) (files files' : large.Files) (code : ℕ) → large.IsLargeRun options records before after files files' code
-      → code ≢ code_of Device → code ≢ code_of Memory → small.IsRun options records before after files.certificate files'.certificate code
+      → code ≢ code_of Device → code ≢ code_of Memory → small.IsExplainRun options records before after files.certificate files'.certificate code
   run_small before after files files' code run fine space =
       let (said, last, ends, end, (out, gains, sliced, ends_by)) = goes_out options records before after files files' code fine space run in
       (said, last, ends_small said ends, end, inl (out, gains, ends_by))
 
-  pub run_large : (before after : Option (List ℕ)) (file file' : Contents) (code : ℕ) → small.IsRun options records before after file file' code
+  pub run_large : (before after : Option (List ℕ)) (file file' : Contents) (code : ℕ) → small.IsExplainRun options records before after file file' code
       → large.IsLargeRun options records before after (record { certificate = file; slice = None }) (record { certificate = file'; slice = None }) code
   run_large before after file file' code (said, last, ends, end, inl (out, gains, ends_by)) =
       (said, last, ends_large said ends, end, inl (out, gains, refl, ends_by))

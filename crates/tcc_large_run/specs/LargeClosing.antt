@@ -25,7 +25,7 @@ use Rattle.tcc_print.specs.declared.halt.Halt.{Halt}
 use Rattle.tcc_print.specs.declared.halt.Halt.TheVariants.{Row, Reads, Text, NoMemory}
 use Rattle.tcc_print.specs.declared.options.Options.{Options}
 use Rattle.tcc_print.specs.declared.status.Status.TheVariants.{Device, Memory}
-use Rattle.tcc_verdict.specs.Checking.{IsOutcome, IsRun, MayBe}
+use Rattle.tcc_verdict.specs.Checking.{IsOutcome, IsCheckRunBy, MayBe}
 use Rattle.tcc_large_run.specs.LargeRuns.{Files, IsClaimedOf, IsResolvedAs, IsSliced, finished}
 
 -- the text is that of the certificate of what is answered for the snapshot, and the judgement says that its claim is accepted: within
@@ -55,7 +55,7 @@ pub record IsAcceptedWith (options : Options) (records : List ℕ) (text : List 
   pub only : (o : Result LargeJudgement Halt) → MayBe large_check records text o → IsJudgedAs judgement o
   -- so each run of it prints the line of the claim, `accepted: ..`, and ends with 0, where its status doesn't say that a device failed or
   -- that memory was out
-  pub prints : (before : Option (List ℕ)) (after : Option (List ℕ)) (code : ℕ) → IsRun large_check records text before after code
+  pub prints : (before : Option (List ℕ)) (after : Option (List ℕ)) (code : ℕ) → IsCheckRunBy large_check records text before after code
       → code ≢ code_of Device → code ≢ code_of Memory → (code ≡ 0) × Appends before after (large_verdict_text judgement)
   -- and what is claimed is true
   pub shown : IsLargeShown records text

@@ -1,5 +1,5 @@
 -- What is answered for the records of an input within the large limits, and what a run of explain --large does with their bytes.
-use Rattle.std.specs.Prelude.{ℕ, ◌≡◌, ◌≢◌, ◌≤◌, ◌⊎◌, nat_le, if◌then◌else◌, List, [], length, take, unwrap_or, Option, None, Some}
+use Rattle.std.specs.Prelude.{ℕ, ◌≡◌, ◌≢◌, ◌<◌, ◌≤◌, ◌⊎◌, nat_le, if◌then◌else◌, List, [], length, take, unwrap_or, Option, None, Some}
 use Rattle.std.specs.Io.KnownBytes.{Appends}
 use Rattle.tcc_rows.specs.Answers as rows
 use Rattle.tcc_txn.specs.Finished.{KeepsLimits}
@@ -19,7 +19,7 @@ use Rattle.tcc_cert.specs.declared.large.LargeCertificate.{LargeCertificate}
 use Rattle.tcc_cert.specs.declared.large.LargeCertificate.TheVariants as claims
 use Rattle.tcc_cert.specs.declared.large.Run.{Run}
 use Rattle.tcc_answer.specs.Answers.{LabelledOrder, LabelledCycle}
-use Rattle.tcc_answer.specs.Labels.{labels_of}
+use Rattle.tcc_graph.specs.Labels.{labels_of}
 use Rattle.tcc_answer.specs.declared.answer.Answer.{Answer}
 use Rattle.tcc_answer.specs.declared.answer.Answer.TheVariants as answer
 use Rattle.tcc_explain.specs.Explained.{IsAnswerOfHistory}
@@ -43,6 +43,7 @@ use Rattle.tcc_print.specs.Statuses.{answer_status, code_of}
 use Rattle.tcc_print.specs.declared.options.Options.{Options}
 use Rattle.tcc_print.specs.declared.status.Status.TheVariants.{Anomaly, Device, Memory}
 use Rattle.tcc_check.specs.Asked.{AllHold, IsVerdictOf}
+use Rattle.tcc_large_run.specs.declared.explained.Explained.{Explained}
 
 -- ---- one answer past the small limits
 
@@ -95,9 +96,11 @@ proved_claim level h links runs = claims.Cycle (links_claim_of level h links (So
 abbrev pub proved_said : Options → History → List Link → List Run → Said
 proved_said options h links runs = claimed options (answer.Anomaly (bare_cycle options.level h links)) (proved_claim options.level h links runs)
 
--- the links are a least cycle of a history; and the claim that they are one, with these runs, keeps all rules of the judge
+-- the links are a least cycle of a history, of more than four steps; and the claim that they are one, with these runs, keeps all rules of
+-- the judge
 pub record IsProvedLeast (level : Level) (h : History) (links : List Link) (runs : List Run) : Type 0 where
   pub least : AreLeast (judged h level) links
+  pub long : 4 < cost links
   pub rules : AllHold (rules_of h (proved_claim level h links runs))
 
 -- ---- one answer
@@ -108,8 +111,8 @@ IsShort (decision.Order order) = Unit {0}
 IsShort (decision.Least links) = cost links.items ≤ 4
 IsShort (decision.Cycle links) = Unit {0}
 
--- what is said of a history past the small limits, and the claim of its certificate: what is decided; or a least cycle that the judge
--- takes for one
+-- what is said of a history past the small limits, and the claim of its certificate: what is decided; or a least cycle of more than four
+-- steps that the judge takes for one. So an anomaly of three steps at most is the first cycle, as within the small limits
 abbrev pub IsClaimedOf : Options → History → LargeCertificate → Said → Type 0
 IsClaimedOf options h claim said =
     ((d : Decision) × IsDecision (judged h options.level) d × IsShort d × (claim ≡ claim_of options.level h d)
@@ -129,6 +132,10 @@ abbrev pub IsSaidWithLarge : Options → Sessions → Said → Type 0
 IsSaidWithLarge options s said =
     ((read_faults s ≡ []) × IsResolvedAs options s said)
     ⊎ ((read_faults s ≢ []) × (said ≡ faults_said options (read_faults s)))
+
+-- the text and the status are those of what is said of a snapshot
+abbrev pub IsExplained : Options → Sessions → Explained → Type 0
+IsExplained options s e = (said : Said) × IsSaidWithLarge options s said × (e.text.items ≡ said.text) × (e.status ≡ said.status)
 
 -- what was said of a history is an anomaly of these links
 abbrev pub HasSaid : Options → History → Said → List Link → Type 0

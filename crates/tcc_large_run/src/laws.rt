@@ -7,10 +7,10 @@ ghost use Rattle.tcc_reads.specs.Faults.{read_faults};
 ghost use Rattle.tcc_graph.specs.Levels.{judged};
 ghost use Rattle.tcc_large.specs.{Decisions.IsDecision, declared.decision.Decision.Decision};
 ghost use Rattle.tcc_print.specs.{Statuses.code_of, declared.options.Options.Options, declared.status.Status.TheVariants.Device, declared.status.Status.TheVariants.Memory};
-ghost use Rattle.tcc_print.specs.Courses.{Contents, IsEnded, IsWhole, Said};
+ghost use Rattle.tcc_print.specs.Courses.{Contents, IsEndedCourse, IsWholeCourse, Said};
 ghost use Rattle.tcc_large_run.specs.{LargeClosing.IsAcceptedWith, LargeClosing.PrintsDecided, private.Laws.Laws};
 ghost use Rattle.tcc_large_run.specs.LargeRuns.{Files, IsAcceptedOf, IsLargeRun, IsSaidWithLarge, answers_of, decision_said, finished};
-ghost use Rattle.tcc_run.specs.Runs.{AskAlike, IsRun, IsSaidOfSnapshot};
+ghost use Rattle.tcc_run.specs.Runs.{AskAlike, IsExplainRun, IsSaidOfSnapshot};
 
 use tcc_cert::laws::large_text_is_read;
 use tcc_check::laws::certified;
@@ -71,18 +71,18 @@ pub fn within_small()
     ensures snapshot { (options : Options) (s : Sessions) (said : Said) → KeepsLimits s
         → IsSaidWithLarge options s said ↔ IsSaidOfSnapshot options s said }
     ensures whole { (options : Options) (records : List ℕ) → KeepsSmall records → (said : List Said)
-        → IsWhole (IsSaidWithLarge options) (answers_of records) said ↔ IsWhole (IsSaidOfSnapshot options) (answers_within Small records) said }
+        → IsWholeCourse (IsSaidWithLarge options) (answers_of records) said ↔ IsWholeCourse (IsSaidOfSnapshot options) (answers_within Small records) said }
     ensures alike { (options others : Options) (records : List ℕ) → KeepsSmall records → (said again : List Said)
-        → AskAlike options others → IsWhole (IsSaidWithLarge options) (answers_of records) said
-        → IsWhole (IsSaidOfSnapshot others) (answers_within Small records) again → said ≡ again }
+        → AskAlike options others → IsWholeCourse (IsSaidWithLarge options) (answers_of records) said
+        → IsWholeCourse (IsSaidOfSnapshot others) (answers_within Small records) again → said ≡ again }
     ensures ended { (options : Options) (records : List ℕ) → KeepsSmall records → (said : List Said)
-        → IsEnded Large (IsSaidWithLarge options) options records said ↔ IsEnded Small (IsSaidOfSnapshot options) options records said }
+        → IsEndedCourse Large (IsSaidWithLarge options) options records said ↔ IsEndedCourse Small (IsSaidOfSnapshot options) options records said }
     ensures without_large { (options : Options) (records : List ℕ) → KeepsSmall records
         → (before after : Option (List ℕ)) (files files' : Files) (code : ℕ)
         → IsLargeRun options records before after files files' code → code ≢ code_of Device → code ≢ code_of Memory
-        → IsRun options records before after files.certificate files'.certificate code }
+        → IsExplainRun options records before after files.certificate files'.certificate code }
     ensures with_large { (options : Options) (records : List ℕ) → KeepsSmall records
-        → (before after : Option (List ℕ)) (file file' : Contents) (code : ℕ) → IsRun options records before after file file' code
+        → (before after : Option (List ℕ)) (file file' : Contents) (code : ℕ) → IsExplainRun options records before after file file' code
         → IsLargeRun options records before after (record { certificate = file; slice = None }) (record { certificate = file'; slice = None }) code }
 {
     finished_is_snapshot();

@@ -4,6 +4,7 @@
 
 mod certifying;
 mod claims;
+mod explained;
 pub mod laws;
 mod outcome;
 mod room;
@@ -12,5 +13,6 @@ mod short;
 mod slice_records;
 mod watching;
 
+pub use explained::{Explained, explain_large_snapshot};
 pub use running::run_large;
 pub use watching::{Stage, Watcher};

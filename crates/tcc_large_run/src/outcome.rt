@@ -1,9 +1,9 @@
 //! What is said of a snapshot: what is known of its history, or all its read faults.
-ghost use Rattle.std.specs.Prelude.{◌≡◌, IfOk, option_map};
+ghost use Rattle.std.specs.Prelude.{◌≡◌, ◌<◌, IfOk, option_map};
 ghost use Rattle.tcc_reads.specs.History.{History};
-ghost use Rattle.tcc_graph.specs.Levels.{judged};
+ghost use Rattle.tcc_graph.specs.{Levels.judged, Links.cost};
 ghost use Rattle.tcc_cert.specs.LargeTexts.{HasLargeText};
-ghost use Rattle.tcc_answer.specs.Labels.{labels_of};
+ghost use Rattle.tcc_graph.specs.Labels.{labels_of};
 ghost use Rattle.tcc_answer.specs.declared.answer.Answer.TheVariants as answer;
 ghost use Rattle.tcc_large.specs.Decisions.{IsDecision};
 ghost use Rattle.tcc_large.specs.declared.decision.Decision.TheVariants as decision;
@@ -21,12 +21,12 @@ use tcc_cert::{LargeCertificate, Links, Numbers, Table};
 use tcc_explain::{ExplainFault, Gate};
 use tcc_graph::{LargeGraph, Level, Link};
 use tcc_judge::laws::is_least;
-use tcc_large::{Decision, LargeAnswer, explain_large_with_order};
+use tcc_large::{Decision, LargeAnswer, explain_large};
 use tcc_print::large::send_unproved;
 use tcc_print::printing::{send_answer, send_unresolved};
 use tcc_print::status::answer_status;
-use tcc_print::{Options, Run, Statement, Status};
-use tcc_proving::{proved_claim, steps_of};
+use tcc_print::{Options, RunContext, Statement, Status};
+use tcc_proving::{proved_claim, steps_of, with_first};
 use tcc_reads::{ReadFault, ResolveFault};
 use tcc_run::first_answer;
 use tcc_txn::{LargeSnapshot, NoMemory, Snapshot};
@@ -93,10 +93,27 @@ fn cycle_answer(
     )))
 }
 
+/// What is answered, with the first of the least cycles where the judge knows it by the order, and a least one of more than four steps
+/// as a cycle of which no more is known.
+fn settled(
+    alloc: Global,
+    level: Level,
+    answer: LargeAnswer,
+    order: &Option<Vec<u32>>,
+) -> Result<LargeAnswer, NoMemory>
+    requires { IsDecision (judged answer.graph level) answer.decision }
+    ensures { IfOk result (λ found. (found.graph ≡ answer.graph) × IsDecision (judged answer.graph level) found.decision × IsShort found.decision) }
+{
+    let LargeAnswer { graph, decision } = answer;
+    let found = with_first(alloc, &graph, level, decision, order)?;
+    let decision = short(found)?;
+    Ok(LargeAnswer { graph, decision })
+}
+
 impl Outcome {
     /// What is said of a small snapshot.
     fn of_small<T: Threads + Sync, G: Gate>(
-        run: &Run<T, G>,
+        run: &RunContext<T, G>,
         snapshot: &Snapshot,
     ) -> Result<Outcome, NoMemory>
         ensures { IfOk result (IsOutcome run.now.options.now.level snapshot.now) }
@@ -118,7 +135,7 @@ impl Outcome {
         links: Vec<Link>,
         order: Option<Vec<u32>>,
     ) -> Result<Outcome, NoMemory>
-        ensures { labels ≡ labels_of graph → HasLargeText (claim_of level graph (decision.Cycle links))
+        ensures { 4 < cost links.items → labels ≡ labels_of graph → HasLargeText (claim_of level graph (decision.Cycle links))
             → IfOk result (IsFoundOf level graph (decision.Cycle links)) }
     {
         // What the judge accepts is a least cycle, as this law says.
@@ -170,7 +187,7 @@ impl Outcome {
 
     /// What is to be said of a snapshot; a small one is searched by so many workers.
     pub(crate) fn of<T: Threads + Sync, G: Gate>(
-        run: &Run<T, G>,
+        run: &RunContext<T, G>,
         snapshot: &LargeSnapshot,
     ) -> Result<Outcome, NoMemory>
         ensures { IfOk result (IsTold (course run.now.options.now) snapshot.now) }
@@ -179,13 +196,9 @@ impl Outcome {
             return Outcome::of_small(run, &small);
         }
         let level = run.options.level;
-        match explain_large_with_order(run.alloc, snapshot, level) {
+        match explain_large(run.alloc, snapshot, level) {
             Ok((answer, order)) => {
-                let LargeAnswer { graph, decision } = answer;
-                let answer = LargeAnswer {
-                    graph,
-                    decision: short(decision)?,
-                };
+                let answer = settled(run.alloc, level, answer, &order)?;
                 Outcome::of_decision(run.alloc, level, answer, order)
             }
             Err(ResolveFault::Reads(faults)) => Ok(Outcome::Unresolved(faults)),

@@ -14,18 +14,18 @@ use crate::watching::{Stage, Watcher};
 use std::alloc::Global;
 use std::io::{Read, Write};
 use std::thread::Threads;
+use tcc_base::send;
 use tcc_graph::Link;
 use tcc_print::notes::{note_last, note_no_slice};
-use tcc_print::printing::{print_device, print_memory};
-use tcc_print::{Last, Options, Run, again, say_again, say_anew};
+use tcc_print::printing::{print_device, print_endless, print_memory};
+use tcc_print::{Last, Options, RunContext, again, say_again, say_anew};
 use tcc_rows::{LargeRecording, Moment, RowFault, RowFaultKind};
-use tcc_sending::send;
 use tcc_txn::{LargeSnapshot, NoMemory};
 use tcc_verdict::stop;
 
 /// What is to be said of the snapshot; the watcher is told of it while it is decided.
-fn decide<T: Threads + Sync, G: Watcher>(
-    run: &Run<T, G>,
+pub(crate) fn decide<T: Threads + Sync, G: Watcher>(
+    run: &RunContext<T, G>,
     snapshot: &LargeSnapshot,
 ) -> Result<Outcome, NoMemory>
     ensures { IfOk result (IsTold (course run.now.options.now) snapshot.now) }
@@ -39,7 +39,7 @@ fn decide<T: Threads + Sync, G: Watcher>(
 /// Says at a moment of the recording what is to be said of the snapshot, and keeps it: what was said last, if nothing was finished
 /// since. Else the run ends with this number.
 fn say<T: Threads + Sync, W: Write, N: Write, G: Watcher>(
-    run: &Run<T, G>,
+    run: &RunContext<T, G>,
     moment: Moment,
     snapshot: &LargeSnapshot,
     last: Option<Last<Outcome>>,
@@ -82,7 +82,7 @@ fn read_on<R: Read + Drop, G: Watcher>(
 /// Writes the answers at the seals that are still to come and the one at the end, if it is due, and gives what was said last;
 /// or writes what ends the run before, and gives the number that it ends with.
 fn answer_all<R: Read + Drop, T: Threads + Sync, W: Write, N: Write, G: Watcher>(
-    run: &Run<T, G>,
+    run: &RunContext<T, G>,
     recording: &mut LargeRecording<R>,
     out: &mut W,
     notes: &mut N,
@@ -109,13 +109,12 @@ fn answer_all<R: Read + Drop, T: Threads + Sync, W: Write, N: Write, G: Watcher>
             }
         }
     }
-    // There are not so many seals.
-    Err(print_memory(out, run.options.json))
+    Err(print_endless(out, run.options.json))
 }
 
 /// Writes the slice by the links of what was said, if it is within the small limits; else the run ends with this number.
 fn send_slice<T, W: Write, S: Write, N: Write, G: Watcher>(
-    run: &Run<T, G>,
+    run: &RunContext<T, G>,
     snapshot: &LargeSnapshot,
     outcome: &Outcome,
     links: &[Link],
@@ -144,7 +143,7 @@ fn send_slice<T, W: Write, S: Write, N: Write, G: Watcher>(
 
 /// Writes the slice of what was said, if that is an anomaly and a file is given for it; else the run ends with this number.
 fn write_slice<T, W: Write, S: Write, N: Write, G: Watcher>(
-    run: &Run<T, G>,
+    run: &RunContext<T, G>,
     snapshot: &LargeSnapshot,
     outcome: &Outcome,
     slice: &mut Option<S>,
@@ -167,7 +166,7 @@ fn write_slice<T, W: Write, S: Write, N: Write, G: Watcher>(
 /// Writes the certificate of what was said, if that is an answer and a file is given for it, and then its slice, if it is an
 /// anomaly and a file is given for that; else the run ends with this number.
 fn write_files<T, W: Write, C: Write, S: Write, N: Write, G: Watcher>(
-    run: &Run<T, G>,
+    run: &RunContext<T, G>,
     snapshot: &LargeSnapshot,
     outcome: &Outcome,
     certificate: &mut Option<C>,
@@ -187,7 +186,7 @@ fn write_files<T, W: Write, C: Write, S: Write, N: Write, G: Watcher>(
 /// Writes the certificate and the slice of what was said last, if files are given for them, and gives the number that the run
 /// ends with. Where an order has fewer transactions than are required, this is noted.
 fn conclude<T, W: Write, C: Write, S: Write, N: Write, G: Watcher>(
-    run: &Run<T, G>,
+    run: &RunContext<T, G>,
     snapshot: &LargeSnapshot,
     last: Last<Outcome>,
     certificate: &mut Option<C>,
@@ -221,7 +220,7 @@ fn run_recording<
     N: Write,
     G: Watcher,
 >(
-    run: &Run<T, G>,
+    run: &RunContext<T, G>,
     recording: &mut LargeRecording<R>,
     out: &mut W,
     certificate: &mut Option<C>,
@@ -277,7 +276,7 @@ pub fn run_large<R: Read + Drop, W: Write, C: Write, S: Write, N: Write, G: Watc
     match LargeRecording::new(alloc, reader) {
         Ok(recording) => {
             let mut recording = recording;
-            let run = Run {
+            let run = RunContext {
                 rt,
                 alloc,
                 options: &options,

@@ -25,7 +25,7 @@ use Rattle.tcc_rows.specs.declared.fault.RowFaultKind.TheVariants as kind
 use Rattle.tcc_rows.proofs.FailingFacts.{first-items}
 use Rattle.tcc_txn.specs.Finished.{transaction_count}
 use Rattle.tcc_txn.specs.Snapshots.{Sessions}
-use Rattle.tcc_print.specs.Courses.{AreSaid, Contents, Gains, IsWhole, MayEnd, Said, halt_said, texts}
+use Rattle.tcc_print.specs.Courses.{AreSaid, Contents, Gains, IsWholeCourse, MayEnd, Said, halt_said, texts}
 use Rattle.tcc_print.specs.Halts.{by_row, is_memory}
 use Rattle.tcc_print.specs.Moments.{at_end, is_due_after, sealed_in}
 use Rattle.tcc_print.specs.Printed.{CutsOff, EndsIn, Prints, PrintsOrMemory, halted, memory_line}
@@ -286,7 +286,7 @@ module _ {R B O : Type 0} (remaining : R → Option (List ℕ)) (course : Course
     no_fault : (answers_within course.limits text).fault ≡ None
     no_fault = all-fault (answers_within course.limits text) way.taken at.0 (ending None) way.ahead way.whole at.1
 
-    whole-by : (said : List Said) → AreSaid course.is_said (sealed_in way.taken ++ at_end all_past) said → IsWhole course.is_said (answers_within course.limits text) said
+    whole-by : (said : List Said) → AreSaid course.is_said (sealed_in way.taken ++ at_end all_past) said → IsWholeCourse course.is_said (answers_within course.limits text) said
     whole-by said answers = (
       no_fault,
       subst (λ items. AreSaid course.is_said (sealed_in items ++ at_end items) said) (sym all_taken)
@@ -313,7 +313,7 @@ module _ {R B O : Type 0} (remaining : R → Option (List ℕ)) (course : Course
       due : is_due_after true all_past ≡ true
       due = is_due (subst (λ (s : Sessions). IfSome answered (λ last. last.transactions ≢ transaction_count s)) same other)
 
-      end-answered : (one : Said) → course.is_said s one → IsWhole course.is_said (answers_within course.limits text) (way.said ++ one ∷ [])
+      end-answered : (one : Said) → course.is_said s one → IsWholeCourse course.is_said (answers_within course.limits text) (way.said ++ one ∷ [])
       end-answered one answer =
           whole-by (way.said ++ one ∷ [])
           (subst (λ end. AreSaid course.is_said (sealed_in way.taken ++ end) (way.said ++ one ∷ [])) (sym (at_end-due all_past due))

@@ -10,7 +10,7 @@ use Rattle.tcc_txn.specs.Snapshots.{Sessions}
 use Rattle.tcc_rows.specs.declared.rows.Item.{Item}
 use Rattle.tcc_rows.specs.declared.rows.Item.TheVariants as item
 use Rattle.tcc_txn.specs.declared.limits.Limits.{Limits}
-use Rattle.tcc_print.specs.Courses.{AreSaid, IsEnded, IsWhole, MayEnd, Said, halt_said, texts}
+use Rattle.tcc_print.specs.Courses.{AreSaid, IsEndedCourse, IsWholeCourse, MayEnd, Said, halt_said, texts}
 use Rattle.tcc_print.specs.Moments.{at_end, is_due_after, sealed_after, sealed_in}
 use Rattle.tcc_print.specs.Printed.{Prints}
 use Rattle.tcc_print.specs.Statuses.{code_of, halt_status, row_status}
@@ -121,7 +121,7 @@ device_code before after text code (inr part) = part.1
 -- ---- how a run ended, by what was said last
 
 module _ (limits : Limits) (is_said : Sessions → Said → Type 0) (options : Options) (bytes : List ℕ) (said : List Said) (last : Said)
-    (end : last_or None said ≡ Some last) (ends : IsWhole is_said (answers_within limits bytes) said ⊎ IsEnded limits is_said options bytes said) where
+    (end : last_or None said ≡ Some last) (ends : IsWholeCourse is_said (answers_within limits bytes) said ⊎ IsEndedCourse limits is_said options bytes said) where
   -- it was said of all that was finished, or ended the run
   abbrev OfAll : Type 0
   OfAll = ((answers_within limits bytes).fault ≡ None) × is_said (finished_in (answers_within limits bytes).items) last
@@ -132,7 +132,7 @@ module _ (limits : Limits) (is_said : Sessions → Said → Type 0) (options : O
   of_all_or_halt : OfAll ⊎ Halts
   of_all_or_halt = by ends
     where
-      by : IsWhole is_said (answers_within limits bytes) said ⊎ IsEnded limits is_said options bytes said → OfAll ⊎ Halts
+      by : IsWholeCourse is_said (answers_within limits bytes) said ⊎ IsEndedCourse limits is_said options bytes said → OfAll ⊎ Halts
       by (inl (unfaulted, are)) = inl (unfaulted, last_said is_said (answers_within limits bytes).items said last are end)
       by (inr (answers, (n, why, may, are, same))) =
           inr (n, why, may, inside last (halt_said options why) (sym end ∙ ap (last_or None) same ∙ last-push None answers (halt_said options why)))

@@ -63,8 +63,8 @@ abbrev pub AreSaid : (Sessions → Said → Type 0) → List Sessions → List S
 AreSaid is_said snapshots said = AllZip is_said snapshots said × AreRepeated snapshots said
 
 -- the records have no fault, and there is an answer at each seal, and one at the end where it is due
-abbrev pub IsWhole : (Sessions → Said → Type 0) → Answers → List Said → Type 0
-IsWhole is_said all said = (all.fault ≡ None) × AreSaid is_said (sealed_in all.items ++ at_end all.items) said
+abbrev pub IsWholeCourse : (Sessions → Said → Type 0) → Answers → List Said → Type 0
+IsWholeCourse is_said all said = (all.fault ≡ None) × AreSaid is_said (sealed_in all.items ++ at_end all.items) said
 
 -- why a run may end after so many items: by the fault of the records, after all items; by the fault of a reader that failed
 -- at one of the records or behind the last, all before which are lawful, after the items of these; or out of memory
@@ -82,13 +82,13 @@ IsEndedAfter limits is_said options text answers said =
     (n : ℕ) × (why : Halt) × MayEnd limits text n why × AreSaid is_said (sealed_in (take n (answers_within limits text).items)) answers
     × (said ≡ answers ++ halt_said options why ∷ [])
 
-abbrev pub IsEnded : Limits → (Sessions → Said → Type 0) → Options → List ℕ → List Said → Type 0
-IsEnded limits is_said options text said = (answers : List Said) × IsEndedAfter limits is_said options text answers said
+abbrev pub IsEndedCourse : Limits → (Sessions → Said → Type 0) → Options → List ℕ → List Said → Type 0
+IsEndedCourse limits is_said options text said = (answers : List Said) × IsEndedAfter limits is_said options text answers said
 
 -- the run said all, or was ended; and this holds of its texts, one after the other, and of the last of them
 abbrev pub IsCourse : Limits → (Sessions → Said → Type 0) → Options → List ℕ → (List ℕ → Said → Type 0) → Type 0
 IsCourse limits is_said options bytes holds =
-    (said : List Said) × (last : Said) × (IsWhole is_said (answers_within limits bytes) said ⊎ IsEnded limits is_said options bytes said)
+    (said : List Said) × (last : Said) × (IsWholeCourse is_said (answers_within limits bytes) said ⊎ IsEndedCourse limits is_said options bytes said)
     × (last_or None said ≡ Some last) × holds (texts said) last
 
 -- ---- what goes out

@@ -1,30 +1,14 @@
 //! What is printed of a large history that has no commit order, each text made as a whole before a byte of it goes out.
 ghost use Rattle.std.specs.Prelude.{◌≡◌, IfErr, IfOk, OnOk};
 ghost use Rattle.std.specs.Io.KnownBytes.{Appends};
-ghost use Rattle.tcc_graph.specs.Links.{cost};
 ghost use Rattle.tcc_print.specs.{Large.unproved, Printed.EndsIn};
 
 use crate::printing::{Made, Sent, send_made};
 use std::alloc::Global;
 use std::io::Write;
 use tcc_answer::{Cycle, Labels, cycle_line, cycle_text};
-use tcc_graph::Link;
+use tcc_graph::{Link, steps_of};
 use tcc_txn::NoMemory;
-
-/// How many steps the links have together.
-pub fn steps_of(links: &[Link]) -> Result<usize, NoMemory>
-    ensures { IfOk result (λ steps. steps ≡ cost links.now) }
-{
-    let mut steps: usize = 0;
-    for link in links {
-        // More steps are held by no memory.
-        let Some(more) = steps.checked_add(link.cost()) else {
-            return Err(NoMemory);
-        };
-        steps = more;
-    }
-    Ok(steps)
-}
 
 /// The text of a cycle that needn't be a least one, or its line of JSON.
 fn unproved_made(alloc: Global, labels: &Labels, links: &[Link], json: bool) -> Made

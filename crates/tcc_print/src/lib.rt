@@ -16,7 +16,7 @@ mod verdicts;
 
 pub use halt::Halt;
 pub use last::{Last, again};
-pub use options::{Options, Run};
+pub use options::{Options, RunContext};
 pub use status::Status;
 pub use telling::{Statement, say_again, say_anew};
 pub use verdicts::{accepted_text, rejected_text, verdict_text};

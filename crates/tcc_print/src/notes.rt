@@ -15,9 +15,9 @@ use std::alloc::Global;
 use std::io::Write;
 use tcc_answer::Answer;
 use tcc_answer::pieces::{joined, push};
+use tcc_base::send;
 use tcc_reads::ReadFault;
 use tcc_rows::{RowFault, RowFaultKind};
-use tcc_sending::send;
 use tcc_txn::{Bounds, Limits, NoMemory, SnapshotWithin};
 use writers::push_writer;
 

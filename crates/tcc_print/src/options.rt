@@ -1,8 +1,8 @@
 //! What a run of explain is asked for.
 
 use std::alloc::Global;
+use tcc_base::Workers;
 use tcc_graph::Level;
-use tcc_workers::Workers;
 
 /// How answers are wanted.
 #[derive(Clone, Copy)]
@@ -19,7 +19,7 @@ pub struct Options {
 
 /// A run of explain, as it is lent to its stages: what it is asked for, and what it works with.
 #[derive(Drop)]
-pub struct Run<'a, T, G> {
+pub struct RunContext<'a, T, G> {
     pub rt: &'a T,
     pub alloc: Global,
     pub options: &'a Options,

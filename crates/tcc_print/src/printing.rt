@@ -11,9 +11,9 @@ use crate::{json, texts};
 use std::alloc::Global;
 use std::io::Write;
 use tcc_answer::{Answer, WriteFault, write_json, write_text};
+use tcc_base::send;
 use tcc_check::Judgement;
 use tcc_reads::ReadFault;
-use tcc_sending::send;
 use tcc_txn::NoMemory;
 
 /// A text that was made, if there was memory for it.
@@ -80,6 +80,14 @@ pub fn print_memory<W: Write>(out: &mut W, json: bool) -> u8
     ensures { Prints (W.contents out.old) (W.contents out.new) (memory_line json) Status.Memory result }
 {
     print_text(out, memory_line(json), Status::Memory)
+}
+
+/// Writes that memory is out, where a run goes on for as many seals as a number of 64 bits counts, and gives the number
+/// that the run ends with. No input has so many: a loop over seals needs an end, and this is what comes after it.
+pub fn print_endless<W: Write>(out: &mut W, json: bool) -> u8
+    ensures { Prints (W.contents out.old) (W.contents out.new) (memory_line json) Status.Memory result }
+{
+    print_memory(out, json)
 }
 
 /// Writes that a file or a writer failed, as text or as a line of JSON, and gives the number that the run ends with. It

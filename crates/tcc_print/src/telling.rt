@@ -7,7 +7,7 @@ ghost use Rattle.tcc_print.specs.Saying.{EndsAnswering, IsTold, SaysAt, SaysLast
 
 use crate::last::Last;
 use crate::notes::note_reads;
-use crate::options::{Options, Run};
+use crate::options::{Options, RunContext};
 use crate::printing::{Sent, print_memory};
 use std::alloc::Global;
 use std::io::Write;
@@ -36,7 +36,7 @@ pub trait Statement: Drop {
 
 /// Says it of the snapshot, and notes of the first read faults which write each of them is about; else the run ends with this number.
 fn tell<O: Statement, T, G, B: Bounds, W: Write, N: Write>(
-    run: &Run<T, G>,
+    run: &RunContext<T, G>,
     snapshot: &SnapshotWithin<B>,
     said: &O,
     out: &mut W,
@@ -52,7 +52,7 @@ fn tell<O: Statement, T, G, B: Bounds, W: Write, N: Write>(
 
 /// Says what was found for the snapshot, and keeps it; else the run ends with this number.
 pub fn say_anew<O: Statement, T, G, B: Bounds, W: Write, N: Write>(
-    run: &Run<T, G>,
+    run: &RunContext<T, G>,
     snapshot: &SnapshotWithin<B>,
     found: Result<O, NoMemory>,
     out: &mut W,
@@ -77,7 +77,7 @@ pub fn say_anew<O: Statement, T, G, B: Bounds, W: Write, N: Write>(
 
 /// Says again at a seal what was said last, since nothing was finished then; at the end it stands. Else the run ends with this number.
 pub fn say_again<O: Statement, T, G, B: Bounds, W: Write, N: Write>(
-    run: &Run<T, G>,
+    run: &RunContext<T, G>,
     moment: Moment,
     snapshot: &SnapshotWithin<B>,
     last: Last<O>,

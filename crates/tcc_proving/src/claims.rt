@@ -7,20 +7,13 @@ use std::alloc::Global;
 use tcc_graph::Link;
 use tcc_txn::NoMemory;
 
-/// How many steps the links have together.
+/// How many steps the links have together, as a claim has them.
 pub fn steps_of(links: &[Link]) -> Result<u32, NoMemory>
     ensures steps { IfOk result (λ steps. steps ≡ cost links.now) }
     ensures room { IfOk result (λ _. cost links.now ≤ V3_MAX_COST) }
 {
-    let mut steps: usize = 0;
-    for link in links {
-        let Some(more) = steps.checked_add(link.cost()) else {
-            return Err(NoMemory);
-        };
-        steps = more;
-    }
     // More steps are held by no memory.
-    let Ok(steps) = u32::try_from(steps) else {
+    let Ok(steps) = u32::try_from(tcc_graph::steps_of(links)?) else {
         return Err(NoMemory);
     };
     Ok(steps)

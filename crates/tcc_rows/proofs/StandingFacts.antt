@@ -2,7 +2,7 @@
 use Rattle.std.proofs.Common.{◌≡◌, ℕ, ◌+◌, ◌<◌, ◌≤◌, ◌⊎◌, Bool, true, false, ◌||◌, List, [], ◌∷◌, ◌++◌, length, Option, None}
 use Rattle.std.proofs.Common.{Some, Ok, Err, Result, length-append, refl, sym, ap, ◌∙◌, rules, arith, cond, nat_lt}
 use Rattle.std.proofs.Common.{inl, inr}
-use Rattle.std.specs.Prelude.{IsSome, is_some}
+use Rattle.std.specs.Prelude.{IfErr, IsSome, is_some}
 use Rattle.std.specs.List.{list_any}
 use Rattle.std.specs.BTreeMap.{get, btree_map_len, Updates}
 use Rattle.std.specs.BTreeSet.{BTreeSet, contains}
@@ -236,7 +236,7 @@ module _ (limits : Limits) where
   -- what comes of an operation that has its seat, by whether its key can be noted
   pub after-operation : {U : Type 0} (past : List Line) (s : List ℕ) (op : Op) (old : Progress) (seats : Seats) (names : List (List ℕ)) (result : Result U RowFaultKind)
       → is_ended s past ≡ false → IsAfter limits past old → Seated past s op old seats → NotesName limits (keys past) (op_key op) result names
-      → PassesLine limits past (line.Operation s op) result (record { limits = old.limits; sessions = seats; ended = old.ended; keys = names; begun = old.begun; seals = old.seals })
+      → PassesLine limits past (line.Operation s op) result (record { limits = old.limits; sessions = seats; ended = old.ended; keys = names; begun = old.begun; seals = old.seals; numbers = old.numbers })
   after-operation past s op old seats names (Ok done) late is seated noted =
       let few : nat_lt (most_keys limits) (length (with_name (op_key op) (keys past))) ≡ false = within _ _ noted.few in (
         fault-of-key past s op late seated.begun seated.room ∙ rw few refl,
@@ -259,6 +259,12 @@ module _ (limits : Limits) where
       let over : nat_lt (most_keys limits) (length (with_name (op_key op) (keys past))) ≡ true = above _ _ many.1 in
       inl (fault-of-key past s op late seated.begun seated.room ∙ rw (over, many.0) refl)
   after-operation past s op old seats names (Err k) late is seated (inr want) = inr want
+
+  -- the key is noted, and after it comes nothing but a refusal of memory
+  pub noted-on : {U : Type 0} (names : List (List ℕ)) (key : List ℕ) (result : Result U RowFaultKind) (new : List (List ℕ))
+      → HoldsNames limits (with_name key names) new → IfErr result (λ k. k ≡ kind.NoMemory) → NotesName limits names key result new
+  noted-on names key (Ok done) new holds memory = holds
+  noted-on names key (Err k) new holds memory = inr memory
 
   -- an operation that was added has its seat
   pub seated-added : {U : Type 0} (past : List Line) (s : List ℕ) (op : Op) (old : Progress) (seats : Seats) (begun new : Option (List Op)) (done : U)

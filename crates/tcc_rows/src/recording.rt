@@ -190,7 +190,8 @@ impl<R: Read + Drop, B: Bounds> RecordingWithin<R, B> {
         ensures known { IfErr result (λ fault. fault.kind ≢ RowFaultKind.Read) }
         ensures memory { IsWithinLimits B.limits (with_transaction self.old.snapshot session txn) → IfErr result (λ fault. fault.kind ≡ RowFaultKind.NoMemory) }
     {
-        match self.snapshot.add(alloc, session, txn) {
+        let told = self.rows.key_hints();
+        match self.snapshot.add_told(alloc, session, txn, told) {
             Ok(()) => Ok(()),
             Err(fault) => Err(self.rows.give_up(RowFaultKind::from(fault))),
         }

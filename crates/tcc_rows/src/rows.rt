@@ -18,7 +18,7 @@ use progress::Progress;
 use records::Records;
 use std::alloc::Global;
 use std::io::Read;
-use tcc_txn::{Limits, Name, NoMemory, Txn};
+use tcc_txn::{KeyHints, Limits, Name, NoMemory, Txn};
 
 /// What the records give, in the order of their last records.
 #[derive(Drop)]
@@ -157,6 +157,11 @@ impl<R: Read + Drop> Rows<R> {
         ensures { option_map (λ field. field.now) result ≡ field_at (last_record self.now) index }
     {
         self.records.field(index)
+    }
+
+    /// What is known of the keys of the transaction that was finished last.
+    pub(crate) fn key_hints(&self) -> KeyHints<'_> {
+        self.progress.key_hints()
     }
 
     /// Keeps the fault for all later answers.

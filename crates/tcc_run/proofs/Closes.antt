@@ -18,7 +18,7 @@ use Rattle.tcc_print.specs.Printed.{device_line}
 use Rattle.tcc_print.specs.Statuses.{code_of}
 use Rattle.tcc_print.specs.declared.status.Status.TheVariants.{Device}
 use Rattle.tcc_print.specs.Courses.{Said}
-use Rattle.tcc_run.specs.Runs.{IsSaidOfSnapshot, IsEnded, IsRun, IsWhole}
+use Rattle.tcc_run.specs.Runs.{IsSaidOfSnapshot, IsEndedRun, IsExplainRun, IsWholeRun}
 use Rattle.tcc_run.proofs.Closing.{accepted, only}
 use Rattle.tcc_print.proofs.LastSaid.{certified_last, device_code}
 
@@ -43,13 +43,13 @@ module _ (options : Options) (records text : List ℕ) (limits : KeepsLimits (fi
       )
   of_answer unfaulted (inr (faulty, same)) = absurd (nothing text (sym (ap (λ (s : Said). s.certificate) same) ∙ has))
 
-  pub closes : IsWhole options (answers_of records) said ⊎ IsEnded options records said → Accepts records text
+  pub closes : IsWholeRun options (answers_of records) said ⊎ IsEndedRun options records said → Accepts records text
   closes ends =
       let all = certified_last Small (IsSaidOfSnapshot options) options records said last end ends text has in of_answer all.0 all.1
 
 -- what stands in a file that was empty is the certificate of the last, where no device failed
 pub left : (options : Options) (records text : List ℕ) → KeepsLimits (finished_in (answers_of records).items) → (before after : Option (List ℕ)) (code : ℕ)
-    → IsRun options records before after (Some (Some [])) (Some (Some text)) code → text ≢ [] → code ≢ code_of Device → Accepts records text
+    → IsExplainRun options records before after (Some (Some [])) (Some (Some text)) code → text ≢ [] → code ≢ code_of Device → Accepts records text
 left options records text limits before after code (said, last, ends, end, inl (out, gains, is)) some fine = go last.certificate refl
   where
     go : (kept : Option (List ℕ)) → last.certificate ≡ kept → Accepts records text

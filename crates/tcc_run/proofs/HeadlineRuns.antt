@@ -18,7 +18,7 @@ use Rattle.tcc_print.specs.declared.status.Status.TheVariants.{Device, Memory}
 use Rattle.tcc_run.specs.Headline.{IsExplained}
 use Rattle.tcc_run.specs.HeadlineRuns.{PrintsExplained, SaysExplained, finished_by}
 use Rattle.tcc_print.specs.Courses.{Contents, Gains, Said, texts}
-use Rattle.tcc_run.specs.Runs.{AllGoesOut, IsSaidOfSnapshot, IsEnded, IsRun, IsWhole}
+use Rattle.tcc_run.specs.Runs.{AllGoesOut, IsSaidOfSnapshot, IsEndedRun, IsExplainRun, IsWholeRun}
 use Rattle.tcc_run.proofs.Closing.{accepted, only}
 use Rattle.tcc_print.proofs.LastSaid.{device_code, last_of_all, texts_end}
 
@@ -53,12 +53,12 @@ module _ (law : (s : Sessions) (level : Level) (a : Answer) → IsAnswerOfSnapsh
     of_answer said last end goes (inr (faulty, same)) = absurd (faulty resolved)
 
     of_ends : (said : List Said) (last : Said) → last_or None said ≡ Some last → AllGoesOut before after file file' (texts said) last code
-        → IsWhole options (answers_of records) said ⊎ IsEnded options records said → Printed
+        → IsWholeRun options (answers_of records) said ⊎ IsEndedRun options records said → Printed
     of_ends said last end goes ends =
         of_answer said last end goes
         (last_of_all Small (IsSaidOfSnapshot options) options records said last end ends unfaulted code fine space goes.2)
 
-    pub prints : IsRun options records before after file file' code → Printed
+    pub prints : IsExplainRun options records before after file file' code → Printed
     prints (said, last, ends, end, inl goes) = of_ends said last end goes ends
     prints (said, last, ends, end, inr (inl failed)) = absurd (fine failed.0.1)
     prints (said, last, ends, end, inr (inr failed)) = absurd (fine (device_code failed.1.0 after (device_line options.json) code failed.1.2))

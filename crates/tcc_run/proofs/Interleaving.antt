@@ -13,7 +13,7 @@ use Rattle.tcc_rows.specs.declared.rows.Item.{Item}
 use Rattle.tcc_rows.specs.declared.rows.Item.TheVariants as item
 use Rattle.tcc_print.specs.declared.options.Options.{Options}
 use Rattle.tcc_print.specs.Courses.{AreSaid, Said}
-use Rattle.tcc_run.specs.Runs.{IsSaidOfSnapshot, IsWhole}
+use Rattle.tcc_run.specs.Runs.{IsSaidOfSnapshot, IsWholeRun}
 use Rattle.tcc_print.specs.Moments.{at_end, is_due_after, sealed_after, sealed_in}
 use Rattle.tcc_print.proofs.Moments.{Passed, passed-from}
 
@@ -174,5 +174,5 @@ module _ (items others : List Item) (seals : seals_in items ≡ seals_in others)
 -- so what a whole run says of one of them, it says of the other, if that has no fault
 pub whole-alike : (options : Options) (all more : rows.Answers) (said : List Said)
     → sealed_in all.items ++ at_end all.items ≡ sealed_in more.items ++ at_end more.items
-    → more.fault ≡ None → IsWhole options all said → IsWhole options more said
+    → more.fault ≡ None → IsWholeRun options all said → IsWholeRun options more said
 whole-alike options all more said same clean is = (clean, subst (λ snapshots. AreSaid (IsSaidOfSnapshot options) snapshots said) same is.1)

@@ -15,7 +15,7 @@ use Rattle.tcc_explain.specs.Explained.{IsAnswerOfHistory}
 use Rattle.tcc_print.specs.declared.options.Options.{Options}
 use Rattle.tcc_print.specs.declared.halt.Halt.TheVariants as halt
 use Rattle.tcc_print.specs.Courses.{Said, answer_said, halt_said}
-use Rattle.tcc_run.specs.Runs.{AreAnswersOfRun, AreFront, AskAlike, IsSaidOfSnapshot, IsStopped, IsWhole}
+use Rattle.tcc_run.specs.Runs.{AreAnswersOfRun, AreFront, AskAlike, IsSaidOfSnapshot, IsStopped, IsWholeRun}
 use Rattle.tcc_print.specs.Moments.{at_end}
 use Rattle.tcc_print.specs.Moments.{sealed_after, sealed_in}
 
@@ -119,6 +119,6 @@ module _ (one : (j : Judged) (some other : Answer) → IsAnswerOfHistory j some 
       ∙ rw alike.form refl ∙ sym same
 
   pub whole_again : (all more : rows.Answers) (xs ys : List Said) → sealed_in all.items ++ at_end all.items ≡ sealed_in more.items ++ at_end more.items
-      → IsWhole options all xs → IsWhole others more ys → xs ≡ ys
+      → IsWholeRun options all xs → IsWholeRun others more ys → xs ≡ ys
   whole_again all more xs ys same is too =
       all_again (sealed_in all.items ++ at_end all.items) xs ys is.1.0 (subst (λ snapshots. AllZip (IsSaidOfSnapshot others) snapshots ys) (sym same) too.1.0)

@@ -10,7 +10,7 @@ use Rattle.tcc_print.specs.declared.options.Options.{Options}
 use Rattle.tcc_print.specs.Saying.{IsTold}
 use Rattle.tcc_print.specs.private.Courses.{AllAnswered, EndsEarly}
 use Rattle.tcc_print.proofs.Courses.{Gains-none}
-use Rattle.tcc_run.specs.Runs.{IsRun, IsSaidOfSnapshot}
+use Rattle.tcc_run.specs.Runs.{IsExplainRun, IsSaidOfSnapshot}
 use Rattle.tcc_run.specs.declared.outcome.Outcome.{Outcome}
 use Rattle.tcc_run.specs.declared.outcome.Outcome.TheVariants as outcome
 use Rattle.tcc_run.specs.private.Stages.{Concludes, IsOutcome, answer_in, course, outcome_said}
@@ -26,7 +26,7 @@ told options s o is = (said_of options s o is, is)
 
 -- a run that ends early has nothing for the file
 pub early : (options : Options) (text : List ℕ) (before after : Option (List ℕ)) (file : Contents) (code : ℕ)
-    → EndsEarly (course options) text before after code → IsRun options text before after file file code
+    → EndsEarly (course options) text before after code → IsExplainRun options text before after file file code
 early options text before after file code (said, last, is, ends, inl whole) =
     (said, last, is, ends, inl (whole.0, subst (λ certificate. Gains file file (unwrap_or certificate [])) (sym whole.1) (Gains-none file), whole.2))
 early options text before after file code (said, last, is, ends, inr cuts) = (said, last, is, ends, inr (inl (cuts, Gains-none file)))
@@ -34,7 +34,7 @@ early options text before after file code (said, last, is, ends, inr cuts) = (sa
 -- one that has answered all ends with the certificate of the last answer
 concluded_last : (options : Options) (text : List ℕ) (before now after : Option (List ℕ)) (file file' : Contents) (last : Last Outcome) (code : ℕ)
     → AllAnswered (course options) text before now last → Concludes options (answer_in last.outcome) now after file file' code
-    → IsRun options text before after file file' code
+    → IsExplainRun options text before after file file' code
 concluded_last options text before now after file file' last code (said, is, ends, known, out) (inl (quiet, gains, ends_by)) =
     (said, outcome_said options last.outcome, inl is, ends, inl (subst (λ o. Appends before o (texts said)) (sym quiet) out, gains, ends_by))
 concluded_last options text before now after file file' last code (said, is, ends, known, out) (inr (part, prints)) =
@@ -42,6 +42,6 @@ concluded_last options text before now after file file' last code (said, is, end
 
 pub concluded : (options : Options) (text : List ℕ) (before now after : Option (List ℕ)) (file file' : Contents) (last : Last Outcome) (kept : Option Answer) (code : ℕ)
     → AllAnswered (course options) text before now last → kept ≡ answer_in last.outcome → Concludes options kept now after file file' code
-    → IsRun options text before after file file' code
+    → IsExplainRun options text before after file file' code
 concluded options text before now after file file' last kept code all same concludes =
     concluded_last options text before now after file file' last code all (subst (λ kept. Concludes options kept now after file file' code) same concludes)

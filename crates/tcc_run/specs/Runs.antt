@@ -37,17 +37,17 @@ pub record AskAlike (some : Options) (other : Options) : Type 0 where
   pub required : some.required ≡ other.required
 
 -- the records have no fault, and there is an answer at each seal, and one at the end where it is due
-abbrev pub IsWhole : Options → rows.Answers → List Said → Type 0
-IsWhole options all said = course.IsWhole (IsSaidOfSnapshot options) all said
+abbrev pub IsWholeRun : Options → rows.Answers → List Said → Type 0
+IsWholeRun options all said = course.IsWholeCourse (IsSaidOfSnapshot options) all said
 
 -- the run was ended after some items: the answers at the seals among them stand, and then comes why
-abbrev pub IsEnded : Options → List ℕ → List Said → Type 0
-IsEnded options text said = course.IsEnded Small (IsSaidOfSnapshot options) options text said
+abbrev pub IsEndedRun : Options → List ℕ → List Said → Type 0
+IsEndedRun options text said = course.IsEndedCourse Small (IsSaidOfSnapshot options) options text said
 
 -- a run said these texts, of which these are its answers: all of them, or all but the line of what ended it
 abbrev pub AreAnswersOfRun : Options → List ℕ → List Said → List Said → Type 0
 AreAnswersOfRun options text said answers =
-    (IsWhole options (rows.answers_of text) said × (answers ≡ said)) ⊎ IsEndedAfter Small (IsSaidOfSnapshot options) options text answers said
+    (IsWholeRun options (rows.answers_of text) said × (answers ≡ said)) ⊎ IsEndedAfter Small (IsSaidOfSnapshot options) options text answers said
 
 -- the run was ended by the fault of the records: the answers at all seals before it stand, and then comes its line
 abbrev pub IsStopped : Options → rows.Answers → List Said → Type 0
@@ -79,8 +79,8 @@ CertificateFails options before after file file' text last code =
 
 -- what a run does with the bytes: its texts go out one after the other, and behind them, into the file that is given for it,
 -- the certificate of the last; the status is that of the last
-abbrev pub IsRun : Options → List ℕ → Option (List ℕ) → Option (List ℕ) → Contents → Contents → ℕ → Type 0
-IsRun options bytes before after file file' code =
+abbrev pub IsExplainRun : Options → List ℕ → Option (List ℕ) → Option (List ℕ) → Contents → Contents → ℕ → Type 0
+IsExplainRun options bytes before after file file' code =
     IsCourse Small (IsSaidOfSnapshot options) options bytes
     (λ text last. AllGoesOut before after file file' text last code
     ⊎ (TextFails before after file file' text code ⊎ CertificateFails options before after file file' text last code))

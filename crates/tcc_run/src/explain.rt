@@ -5,7 +5,7 @@ ghost use Rattle.tcc_txn.specs.declared.limits.Limits.TheVariants.{Small};
 ghost use Rattle.tcc_cert.specs.Texts.{certificate_text};
 ghost use Rattle.tcc_answer.specs.Claims.{certificate_of};
 ghost use Rattle.tcc_print.specs.{Courses.Gains, Saying.SaysAt, private.Courses.AllAnswered, private.Courses.EndsEarly};
-ghost use Rattle.tcc_run.specs.Runs.{GainsPart, IsRun};
+ghost use Rattle.tcc_run.specs.Runs.{GainsPart, IsExplainRun};
 ghost use Rattle.tcc_run.specs.private.Stages.{Concludes, Follows, course};
 
 use crate::outcome::{Outcome, anomaly_of};
@@ -15,9 +15,9 @@ use std::thread::Threads;
 use tcc_cert::CertWriteFault;
 use tcc_explain::{Answer, Gate};
 use tcc_print::notes::note_last;
-use tcc_print::printing::{print_device, print_memory};
+use tcc_print::printing::{print_device, print_endless, print_memory};
 use tcc_print::status::last_status;
-use tcc_print::{Last, Options, Run, again, say_again, say_anew};
+use tcc_print::{Last, Options, RunContext, again, say_again, say_anew};
 use tcc_rows::{Moment, Recording};
 use tcc_txn::{NoMemory, Snapshot};
 use tcc_verdict::stop;
@@ -25,7 +25,7 @@ use tcc_verdict::stop;
 /// Says at a moment of the recording what is to be said of the snapshot, and keeps it: what was said last, if nothing was finished
 /// since. Else the run ends with this number.
 fn say<T: Threads + Sync, W: Write, N: Write, G: Gate>(
-    run: &Run<T, G>,
+    run: &RunContext<T, G>,
     moment: Moment,
     snapshot: &Snapshot,
     last: Option<Last<Outcome>>,
@@ -50,7 +50,7 @@ fn say<T: Threads + Sync, W: Write, N: Write, G: Gate>(
 /// Writes the answers at the seals that are still to come and the one at the end, if it is due, and gives what was said last;
 /// or writes what ends the run before, and gives the number that it ends with.
 fn answer_all<R: Read + Drop, T: Threads + Sync, W: Write, N: Write, G: Gate>(
-    run: &Run<T, G>,
+    run: &RunContext<T, G>,
     recording: &mut Recording<R>,
     out: &mut W,
     notes: &mut N,
@@ -75,14 +75,13 @@ fn answer_all<R: Read + Drop, T: Threads + Sync, W: Write, N: Write, G: Gate>(
             }
         }
     }
-    // There are not so many seals.
-    Err(print_memory(out, run.options.json))
+    Err(print_endless(out, run.options.json))
 }
 
 /// Writes the answers for the records of the reader, and gives what was said last; or writes what ends the run before, and gives
 /// the number that it ends with.
 fn answer_records<R: Read + Drop, T: Threads + Sync, W: Write, N: Write, G: Gate>(
-    run: &Run<T, G>,
+    run: &RunContext<T, G>,
     reader: R,
     out: &mut W,
     notes: &mut N,
@@ -161,10 +160,10 @@ pub fn run_explain<R: Read + Drop, W: Write, C: Write, N: Write, G: Gate>(
     options: Options,
     gate: &G,
 ) -> u8
-    ensures { IfSome (R.remaining reader) (λ bytes. IsRun options bytes (W.contents out.old) (W.contents out.new) (option_map C.contents certificate.old)
+    ensures { IfSome (R.remaining reader) (λ bytes. IsExplainRun options bytes (W.contents out.old) (W.contents out.new) (option_map C.contents certificate.old)
         (option_map C.contents certificate.new) result) }
 {
-    let run = Run {
+    let run = RunContext {
         rt,
         alloc,
         options: &options,

@@ -13,7 +13,7 @@ ghost use Rattle.tcc_explain.specs.Explained.{IsAnswerOfSnapshot, IsAnswerOfHist
 ghost use Rattle.tcc_verdict.specs.Checks.{IsCheck, MayBeCheck};
 ghost use Rattle.tcc_run.specs.{Closing.IsAcceptance, Closing.acceptance, Headline.IsExplained, Interleaved.AreInterleaved};
 ghost use Rattle.tcc_run.specs.HeadlineRuns.{PrintsExplained, SaysExplained, finished_by};
-ghost use Rattle.tcc_run.specs.Runs.{AreAnswersOfRun, AreFront, AskAlike, IsSaidOfSnapshot, IsEnded, IsRun, IsStopped, IsWhole};
+ghost use Rattle.tcc_run.specs.Runs.{AreAnswersOfRun, AreFront, AskAlike, IsSaidOfSnapshot, IsEndedRun, IsExplainRun, IsStopped, IsWholeRun};
 ghost use Rattle.tcc_print.specs.{Courses.Contents, Courses.Said, Statuses.code_of, declared.options.Options.Options, declared.status.Status.TheVariants.Device, declared.status.Status.TheVariants.Memory, declared.halt.Halt.Halt};
 
 use tcc_check::laws::certified as certified_claim;
@@ -38,7 +38,7 @@ pub fn headline()
     ensures each { (options : Options) (s : Sessions) (said : Said) → IsSaidOfSnapshot options s said → SaysExplained options s said }
     ensures last { (options : Options) (records : List ℕ) (before after : Option (List ℕ)) (file file' : Contents) (code : ℕ)
         → (answers_of records).fault ≡ None → read_faults (finished_by records) ≡ []
-        → IsRun options records before after file file' code → code ≢ code_of Device → code ≢ code_of Memory
+        → IsExplainRun options records before after file file' code → code ≢ code_of Device → code ≢ code_of Memory
         → PrintsExplained options records before after file file' code }
 {
     explained();
@@ -65,7 +65,7 @@ pub fn accepted()
 /// nothing else comes of that check, unless a reader fails or memory is refused.
 pub fn closes()
     ensures { (options : Options) (records text : List ℕ) (said : List Said) (last : Said)
-        → IsWhole options (answers_of records) said ⊎ IsEnded options records said
+        → IsWholeRun options (answers_of records) said ⊎ IsEndedRun options records said
         → last_or None said ≡ Some last → last.certificate ≡ Some text
         → (c : Certificate) × IsCheck records text (acceptance c)
         × ((o : Result Judgement Halt) → MayBeCheck records text o → IsAcceptance c o) }
@@ -86,7 +86,7 @@ pub fn own_certificate()
 /// unless a reader fails or memory is refused: where the status doesn't say that a device failed.
 pub fn left()
     ensures { (options : Options) (records text : List ℕ) (before after : Option (List ℕ)) (code : ℕ)
-        → IsRun options records before after (Some (Some [])) (Some (Some text)) code → text ≢ [] → code ≢ code_of Device
+        → IsExplainRun options records before after (Some (Some [])) (Some (Some text)) code → text ≢ [] → code ≢ code_of Device
         → (c : Certificate) × IsCheck records text (acceptance c)
         × ((o : Result Judgement Halt) → MayBeCheck records text o → IsAcceptance c o) }
 {
@@ -98,7 +98,7 @@ pub fn left()
 /// answers of the one are the first of the other's.
 pub fn one_run()
     ensures whole { (options others : Options) (records : List ℕ) (said again : List Said) → AskAlike options others
-        → IsWhole options (answers_of records) said → IsWhole others (answers_of records) again
+        → IsWholeRun options (answers_of records) said → IsWholeRun others (answers_of records) again
         → said ≡ again }
     ensures stopped { (options others : Options) (records : List ℕ) (said again : List Said) → AskAlike options others
         → IsStopped options (answers_of records) said → IsStopped others (answers_of records) again
@@ -113,10 +113,10 @@ pub fn one_run()
 /// Of two inputs with the same records of each session, interleaved anyhow, and the seals after the same records of each
 /// session: what a whole run says of the one, a whole run says of the other, and nothing else, for every number of workers.
 pub fn interleaved()
-    ensures same { (options others : Options) (records other : List ℕ) (said again : List Said) → AskAlike options others → AreInterleaved records other → IsWhole options (answers_of records) said
-        → IsWhole others (answers_of other) again → said ≡ again }
+    ensures same { (options others : Options) (records other : List ℕ) (said again : List Said) → AskAlike options others → AreInterleaved records other → IsWholeRun options (answers_of records) said
+        → IsWholeRun others (answers_of other) again → said ≡ again }
     ensures whole { (options : Options) (records other : List ℕ) (said : List Said) → AreInterleaved records other
-        → IsWhole options (answers_of records) said → IsWhole options (answers_of other) said }
+        → IsWholeRun options (answers_of records) said → IsWholeRun options (answers_of other) said }
 {
     one_answer();
     laws::sealed_alike();

@@ -15,7 +15,7 @@ use tcc_explain::laws::grown;
 use tcc_explain::{Anomaly, Answer, ExplainFault, Gate, NextFault};
 use tcc_graph::Level;
 use tcc_print::printing::{send_answer, send_unresolved};
-use tcc_print::{Last, Options, Run, Statement};
+use tcc_print::{Last, Options, RunContext, Statement};
 use tcc_reads::ReadFault;
 use tcc_txn::{NoMemory, Snapshot};
 
@@ -32,7 +32,7 @@ pub(crate) enum Outcome {
 
 /// The first answer for a snapshot at a level, or all its read faults, by the workers and the gate of a run.
 pub fn first_answer<T: Threads + Sync, G: Gate>(
-    run: &Run<T, G>,
+    run: &RunContext<T, G>,
     snapshot: &Snapshot,
     level: Level,
 ) -> Result<Answer, ExplainFault>
@@ -46,7 +46,7 @@ pub fn first_answer<T: Threads + Sync, G: Gate>(
 
 /// The answer for a snapshot at the level; after an anomaly the search begins with what that one costs now.
 fn work_out<T: Threads + Sync, G: Gate>(
-    run: &Run<T, G>,
+    run: &RunContext<T, G>,
     snapshot: &Snapshot,
     earlier: &Option<Anomaly>,
 ) -> Result<Answer, ExplainFault>
@@ -70,7 +70,7 @@ fn work_out<T: Threads + Sync, G: Gate>(
 impl Outcome {
     /// What is to be said of the snapshot; it continues that of the earlier anomaly, if there was one.
     pub(crate) fn of<T: Threads + Sync, G: Gate>(
-        run: &Run<T, G>,
+        run: &RunContext<T, G>,
         snapshot: &Snapshot,
         earlier: Option<Anomaly>,
     ) -> Result<Outcome, NoMemory>

@@ -83,7 +83,7 @@ module _ (s slice : Sessions) (h : History) (links : List Link) (needs : List (�
   abbrev names : List (List ℕ)
   names = map (λ (e : Named). e.0) (entries s)
 
-  -- one of the sessions of the cut, by the number of a transaction of it
+  -- one of the sessions of the cut, by the index of a transaction of it
   record HasOwner (e : Named) : Type 0 where
     index : ℕ
     number : ℕ

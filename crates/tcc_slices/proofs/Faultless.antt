@@ -25,7 +25,7 @@ use Rattle.tcc_reads.proofs.Sourcing.{no_pair}
 use Rattle.tcc_reads.proofs.Ties.{itself, same_name}
 use Rattle.tcc_graph.specs.declared.step.Step.TheVariants as step
 use Rattle.tcc_graph.specs.declared.link.Link.{Link}
-use Rattle.tcc_operations.specs.Operations.{source_value}
+use Rattle.tcc_graph.specs.Operations.{source_value}
 use Rattle.tcc_slices.specs.Needs.{HasStep}
 use Rattle.tcc_slices.specs.private.Cutting.{IsPartAt, is_wanted}
 use Rattle.tcc_slices.specs.private.Fitting.{IsFit}

@@ -37,7 +37,7 @@ under_one before other op under x none =
 
 -- ---- sites of what is kept
 module _ (keep : List Op → Op → Bool) where
-  -- a site among others whose operation passed there, and behind which what is kept has no more before it
+  -- a site among others whose operation passed there, and after which what is kept has no more before it
   pub record IsFrom (whole : Stand) (before ops : List Op) (site : Site) : Type 0 where
     pub origin : Site
     pub there : Contains (sites_from whole before ops) origin
@@ -77,7 +77,7 @@ module _ (keep : List Op → Op → Bool) where
       go true is (suc k, l, e) one more = later (one (k, omega (arith, l), e))
       go false is c one more = later (more c)
 
-  -- what passes where it doesn't stand before is kept
+  -- what passes where it doesn't come before is kept
   pub kept_in : (before ops : List Op) (op : Op) → ((b : List Op) → (Contains b op → ⊥) → keep b op ≡ true) → (Contains before op → ⊥) → Contains ops op
       → Contains (kept_behind keep before ops) op
   kept_in before [] op passes new (k, l, e) = absurd (omega (arith, l))
@@ -87,7 +87,7 @@ module _ (keep : List Op → Op → Bool) where
       rest : List Op
       rest = kept_behind keep (before ++ first ∷ []) ops
 
-      -- it doesn't stand before the next one either
+      -- it doesn't come before the next one either
       next : (first ≡ op → ⊥) → Contains (before ++ first ∷ []) op → ⊥
       next other more = go (Contains-push_cases before first op more)
         where
@@ -140,7 +140,7 @@ module _ (keep : List Op → Op → Bool) where
       Kept : Type 0
       Kept = Reads (sites_from stand other (cond (keep before op) (op ∷ rest) rest))
 
-      -- where this one isn't the read, it doesn't stand before the next one either
+      -- where this one isn't the read, it doesn't come before the next one either
       next : (op ≡ Get x v → visible_write x before ≡ None → ⊥) → visible_write x (before ++ op ∷ []) ≡ None → Contains (before ++ op ∷ []) (Get x v) → ⊥
       next old none more = go (Contains-push_cases before op (Get x v) more)
         where
@@ -155,7 +155,7 @@ module _ (keep : List Op → Op → Bool) where
       later None reads c = c
       later (Some r) reads (k, l, e) = (suc k, omega (arith, l), e)
 
-      -- the operation is another one, or kept or not: the read stands behind it
+      -- the operation is another one, or kept or not: the read comes after it
       behind : Whole → (Whole → Reads (sites_from stand (other ++ op ∷ []) rest)) → (Whole → Reads (sites_from stand other rest))
           → Reads (sites_from stand other (cond (keep before op) (op ∷ rest) rest))
       behind c both one = go (keep before op)

@@ -70,7 +70,7 @@ module _ (keep : List Op → Op → Bool) (new : (before : List Op) (op : Op) �
       go true is (suc k, l, e) more = more (k, omega (arith, l), e)
       go false is c more = more c
 
-  -- what is kept only where it doesn't stand before is kept once
+  -- what is kept only where it doesn't come before is kept once
   pub once_each : (before ops : List Op) → AreOnce (kept_behind keep before ops)
   once_each before [] = tt
   once_each before (first ∷ ops) = go (keep before first) (once_each (before ++ first ∷ []) ops)

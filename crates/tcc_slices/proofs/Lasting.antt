@@ -1,4 +1,4 @@
--- A snapshot with one more transaction of its last session, or of a session behind the last.
+-- A snapshot with one more transaction of its last session, or of a session after the last.
 use Rattle.std.proofs.Common.{ℕ, zero, suc, ◌≡◌, ◌+◌, ◌++◌, ◌⊎◌, inl, inr, T, cond, List, [], ◌∷◌, length, append_assoc, append-nil, refl, sym, ap, subst, ◌∙◌, arith}
 use Rattle.std.specs.Prelude.{unwrap_or, Some}
 use Rattle.std.specs.List.{Contains}
@@ -35,7 +35,7 @@ module _ (name : List ℕ) (txn : Transaction) where
   abbrev pub IsUpTo : List Named → Type 0
   IsUpTo es = (e : Named) → Contains es e → name_cmp name e.0 ≡ Less → ⊥
 
-  -- one more transaction stands at the end
+  -- one more transaction is at the end
   pub record IsGrown (session : ℕ) (es : List Named) : Type 0 where
     pub last : Stand
     pub name_is : last.name ≡ name

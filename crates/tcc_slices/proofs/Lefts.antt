@@ -41,7 +41,7 @@ kept_left keep before (op ∷ ops) = go (keep before op) (kept_left keep (before
     go true w = inl (refl, w)
     go false w = left_cons (λ one other. one ≡ other) rest ops op w
 
--- items that stand at rising indices
+-- items that are at rising indices
 pub record StandsAt {X : Type 0} (R : X → X → Type 0) (xs ys : List X) (f : ℕ → ℕ) : Type 0 where
   pub inside : (k : ℕ) → k < length xs → f k < length ys
   pub related : (k : ℕ) (d e : X) → k < length xs → R (slice_index_or xs k d) (slice_index_or ys (f k) e)
@@ -59,7 +59,7 @@ left_at {X} R (x ∷ xs) (y ∷ ys) f w = go (f 0) refl (λ v. left_at R xs ys (
         let up = subst (λ (z : ℕ). f k < f z) next (w.rises k (omega (arith, inside))) in
         omega (arith, up, above k (omega (arith, inside)))
 
-    -- the item at an index behind the first
+    -- the item at an index after the first
     behind : (k : ℕ) (e : X) → 0 < k → slice_index_or (y ∷ ys) k e ≡ slice_index_or ys (k - 1) e
     behind zero e some = absurd (omega (arith, some))
     behind (suc k) e some = let same : k ≡ suc k - 1 = omega arith in ap (λ (z : ℕ). slice_index_or ys z e) same
@@ -242,7 +242,7 @@ module _ (s slice : Sessions) (h : History) (needs : List (ℕ × Need)) (number
   name_at : (x : List ℕ) (i : ℕ) → i < length (entries s) → (slice_index_or (entries s) i (x, [])).0 ≡ x → get_or names i [] ≡ x
   name_at x i inside is = get_or-map (λ (e : Named). e.0) (entries s) i (x, []) [] inside ∙ is
 
-  -- where a part's transaction stands in the session of the whole
+  -- where a part's transaction is in the session of the whole
   record IsIn (x : List ℕ) (i n : ℕ) (t : Transaction) : Type 0 where
     spot : ℕ
     session : owner h n ≡ i

@@ -27,7 +27,7 @@ use Rattle.tcc_graph.specs.declared.step.Step.{Step}
 use Rattle.tcc_graph.specs.declared.step.Step.TheVariants as step
 use Rattle.tcc_graph.proofs.Kept.{allowed_by, cycle_by, from_step, leads_on, to_step}
 use Rattle.tcc_graph.proofs.Pairs.{initial_pair, lower_first, pair_parts}
-use Rattle.tcc_operations.specs.Operations.{source_value}
+use Rattle.tcc_graph.specs.Operations.{source_value}
 use Rattle.tcc_slices.specs.Needs.{HasStep, IsMet, IsWritten}
 use Rattle.tcc_slices.specs.private.Carrying.{place}
 use Rattle.tcc_slices.specs.private.Fitting.{IsFit}

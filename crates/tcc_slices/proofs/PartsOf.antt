@@ -18,7 +18,7 @@ use Rattle.tcc_reads.specs.OneSource.{IsNumber}
 use Rattle.tcc_reads.specs.Sites.{Stand, Site, sites_from, sites_of}
 use Rattle.tcc_reads.specs.Sources.{external_part, external_read, external_reads, history, visible_write}
 use Rattle.tcc_graph.specs.Numbers.{at}
-use Rattle.tcc_operations.specs.Operations.{ops_in, ops_of, source_value}
+use Rattle.tcc_graph.specs.Operations.{ops_in, ops_of, source_value}
 use Rattle.tcc_slices.specs.Parts.{IsPart}
 use Rattle.tcc_slices.specs.private.Cutting.{IsNamed, IsPartAt, is_among, is_wanted, kept_behind, own_needs, recorded_of, value_shown, wanted_by, wanted_of}
 use Rattle.tcc_slices.specs.declared.needs.Need.{Need}
@@ -191,7 +191,7 @@ module _ (s : Sessions) where
         (in_filter (λ (z : ℕ × Need). z.0 == n) needs (n, one) has (eq-eqb n n refl)) there
 
     -- ---- of the kept operations
-    -- where an operation of the part stands in the whole one
+    -- where an operation of the part is in the whole one
     pub origin : (site : Site) → Contains (sites_of t) site → IsFrom (is_wanted (wanted_at needs n)) u [] u.txn.ops site
     origin site there =
         kept_site (is_wanted (wanted_at needs n)) u t [] [] u.txn.ops site (λ x none. none)

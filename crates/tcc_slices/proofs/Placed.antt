@@ -1,4 +1,4 @@
--- Where the transactions of a snapshot stand, by name and place.
+-- Where the transactions of a snapshot are, by name and place.
 use Rattle.std.proofs.Common.{length-append, ℕ, zero, suc, ◌≡◌, ◌<◌, ◌+◌, ◌⊎◌, inl, inr, List, [], ◌∷◌, ◌++◌, length, map, get_or, Some}
 use Rattle.std.proofs.Common.{append_assoc, refl, sym, ap, subst, ◌∙◌, arith}
 use Rattle.std.specs.Prelude.{◌-◌, ◌≤◌, slice_get}
@@ -18,7 +18,7 @@ use Rattle.tcc_reads.specs.Sites.{Stand, stands_in, stands_from, stands}
 use Rattle.tcc_reads.specs.Sources.{name_cmp}
 use Rattle.tcc_slices.proofs.Elements.{after}
 
--- the transaction stands at this place of a list, from 1
+-- the transaction is at this place of a list, from 1
 abbrev pub HasAt : List Transaction → ℕ → Transaction → Type 0
 HasAt txns place txn = (k : ℕ) × (k < length txns) × (place ≡ k + 1) × (get_or txns k txn ≡ txn)
 
@@ -74,7 +74,7 @@ from_stands session name from (txn ∷ later) t (suc i, l, e) =
 
 -- ---- in all sessions
 
--- a transaction of a snapshot stands in the list of its session's name
+-- a transaction of a snapshot is in the list of its session's name
 pub entry_of_stand : (session : ℕ) (es : List Named) (t : Stand) → Contains (stands_from session es) t
     → (e : Named) × Contains es e × (t.name ≡ e.0) × HasAt e.1 t.place t.txn
 entry_of_stand session [] t (i, l, e) = absurd (omega arith)
@@ -89,7 +89,7 @@ entry_of_stand session (named ∷ later) t c =
         (named, (0, omega arith, refl), w.name_is, (w.k, w.within, omega (arith, w.place_is), w.txn_is))
     go (inr there) rest = let w = rest there in (w.0, after named w.0 later w.1, w.2, w.3)
 
--- what stands in the list of a name stands in the snapshot
+-- what is in the list of a name is in the snapshot
 pub stand_of_entry : (session : ℕ) (es : List Named) (e : Named) (place : ℕ) (txn : Transaction) → Contains es e → HasAt e.1 place txn
     → (u : Stand) × Contains (stands_from session es) u × (u.name ≡ e.0) × (u.place ≡ place) × (u.txn ≡ txn)
 stand_of_entry session [] e place txn (i, l, is) at = absurd (omega arith)
@@ -164,7 +164,7 @@ module _ (s : Sessions) where
 
 -- ---- by index
 
--- the part of a transaction's session stands at its index, and the transaction in it at its place
+-- the part of a transaction's session is at its index, and the transaction in it at its place
 pub entry_index : (session : ℕ) (es : List Named) (t : Stand) → Contains (stands_from session es) t
     → (e : Named) × (session ≤ t.session) × (slice_get es (t.session - session) ≡ Some e) × HasAt e.1 t.place t.txn
 entry_index session [] t (i, l, e) = absurd (omega arith)

@@ -20,8 +20,8 @@ use Rattle.tcc_graph.specs.declared.step.Step.TheVariants as step
 use Rattle.tcc_graph.specs.declared.link.Link.{Link}
 use Rattle.tcc_graph.specs.declared.link.Link.TheVariants as link
 use Rattle.tcc_graph.proofs.Kept.{from_step, to_step}
-use Rattle.tcc_operations.specs.Operations.{source_value}
-use Rattle.tcc_slices.specs.Needs.{AreNeeded, AreOnce, HasStep, IsMet, IsNeeded, IsNeededWhole, IsNothingSpare, IsWritten}
+use Rattle.tcc_graph.specs.Operations.{source_value}
+use Rattle.tcc_slices.specs.Needs.{AreNeededTxns, AreOnce, HasStep, IsMet, IsNeeded, IsNeededWhole, IsNothingSpare, IsWritten}
 use Rattle.tcc_slices.specs.private.Carrying.{carry, IsRising, place}
 use Rattle.tcc_slices.specs.private.Cutting.{IsCut, IsPartAt, is_wanted, own_needs, wanted_by, wanted_of}
 use Rattle.tcc_slices.specs.private.Needing.{AreNeeds, IsNeedOf}
@@ -87,7 +87,7 @@ txns_from session (e ∷ es) =
 
 -- ---- one after the other
 each_needed : (shown : ℕ → List ℕ → ℕ) (links : List Link) (n : ℕ) (ts : List Stand)
-    → ((i : ℕ) (d : Stand) → i < length ts → IsNeededWhole shown links (n + i) (slice_index_or ts i d).txn) → AreNeeded shown links n (map the_txn ts)
+    → ((i : ℕ) (d : Stand) → i < length ts → IsNeededWhole shown links (n + i) (slice_index_or ts i d).txn) → AreNeededTxns shown links n (map the_txn ts)
 each_needed shown links n [] each = tt
 each_needed shown links n (t ∷ ts) each =
     let here : n + 0 ≡ n = omega arith in (
@@ -158,5 +158,5 @@ module _ (s slice : Sessions) (h : History) (links : List Link) (needs : List (�
 
   pub nothing_spare : IsNothingSpare moved (map (link_by (place numbers)) links) slice
   nothing_spare =
-      subst (AreNeeded moved (map (link_by (place numbers)) links) 1) (txns_from 0 (entries slice))
+      subst (AreNeededTxns moved (map (link_by (place numbers)) links) 1) (txns_from 0 (entries slice))
       (each_needed moved (map (link_by (place numbers)) links) 1 (stands slice) whole_needed)

@@ -5,3 +5,5 @@ pub mod Parts
 pub mod Slices
 pub mod Texts
 pub mod private
+pub mod Growth
+pub mod Moved

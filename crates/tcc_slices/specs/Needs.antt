@@ -28,8 +28,8 @@ IsWritten links n x =
     ((c : ℕ) × HasStep links (step.Reads n c x))
     ⊎ ((a : ℕ) × (c : ℕ) × (walk : List Step) × Contains links (link.Derived n a x c walk))
 
--- the links need an operation of the transaction of this number, where `shown` is the value that others read at a key of a transaction: its
--- read of a key, of the value that the source shows; or its write of a key, of the value that it shows itself
+-- the links need an operation of the transaction of this number. That is its read of a key, of the value that the source shows, or
+-- its write of a key, of the value that it shows itself. What others read at a key of a transaction is `shown`
 abbrev pub IsNeeded : (ℕ → List ℕ → ℕ) → List Link → ℕ → Op → Type 0
 IsNeeded shown links n (Get key value) = (a : ℕ) × HasStep links (step.Reads a n key) × (value ≡ shown a key)
 IsNeeded shown links n (Put key value) = IsWritten links n key × (value ≡ shown n key)
@@ -47,10 +47,10 @@ pub record IsNeededWhole (shown : ℕ → List ℕ → ℕ) (links : List Link) 
   pub once : AreOnce t.ops
 
 -- the links need each of some transactions, which have the numbers from n on
-abbrev pub AreNeeded : (ℕ → List ℕ → ℕ) → List Link → ℕ → List Transaction → Type 0
-AreNeeded shown links n [] = Unit {0}
-AreNeeded shown links n (t ∷ later) = IsNeededWhole shown links n t × AreNeeded shown links (n + 1) later
+abbrev pub AreNeededTxns : (ℕ → List ℕ → ℕ) → List Link → ℕ → List Transaction → Type 0
+AreNeededTxns shown links n [] = Unit {0}
+AreNeededTxns shown links n (t ∷ later) = IsNeededWhole shown links n t × AreNeededTxns shown links (n + 1) later
 
 -- the links need each transaction of a snapshot
 abbrev pub IsNothingSpare : (ℕ → List ℕ → ℕ) → List Link → Sessions → Type 0
-IsNothingSpare shown links s = AreNeeded shown links 1 (flat_map (λ part. part.1) (entries s))
+IsNothingSpare shown links s = AreNeededTxns shown links 1 (flat_map (λ part. part.1) (entries s))

@@ -36,7 +36,7 @@ fn keeps_reads(small: &Graph, large: &LargeGraph, numbers: &[u32], source: u32) 
     true
 }
 
-/// Whether a transaction stands before all those in the large history too that it stands before in session order.
+/// Whether a transaction comes before all those in the large history too that it comes before in session order.
 fn keeps_sessions(small: &Graph, large: &LargeGraph, numbers: &[u32], first: u32) -> bool
     requires { first < count small.now }
     ensures { IsTrue result ↔ KeepsSessions numbers.now small.now large.now first }

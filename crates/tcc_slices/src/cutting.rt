@@ -8,8 +8,7 @@ ghost use Rattle.tcc_slices.specs.private.Cutting.{AreMetBy, IsCut, IsNamed, IsN
 
 use crate::needs::Need;
 use std::alloc::Global;
-use tcc_graph::LargeGraph;
-use tcc_operations::source_value;
+use tcc_graph::{LargeGraph, source_value};
 use tcc_txn::{Alike, GrowFault, LargeSnapshot, Name, NoMemory, Op, Recorded, Snapshot, Txn};
 
 /// What is cut: a snapshot, and the graph that has its transactions by numbers.
@@ -178,8 +177,8 @@ fn own_needs(needs: &[(u32, Need)], number: u32) -> &[(u32, Need)]
     &needs[start..end]
 }
 
-/// The cut of a snapshot by needs, with what is kept of the transactions of these numbers but the first; none where one of them isn't
-/// committed, or where they are more than a snapshot takes.
+/// The cut of a snapshot by needs, with what is kept of the transactions of these numbers but the first. There is none where one of
+/// them isn't committed, or where they are more than a snapshot takes.
 pub(crate) fn cut(
     alloc: Global,
     snapshot: &LargeSnapshot,

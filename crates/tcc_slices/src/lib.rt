@@ -1,13 +1,17 @@
-//! The slice of a history by a cycle: a small snapshot with what the links of the cycle need, and nothing else; and its records.
+//! Small snapshots in larger ones: the slice by a cycle has what its links need and nothing else; and what stays when a snapshot
+//! goes on.
 #![tactic(auto)]
 
+mod by_label;
 mod carrying;
 mod cutting;
-mod laws;
+mod growing;
+pub mod laws;
 mod needs;
 mod numbering;
 mod slicing;
 mod texts;
 
+pub use growing::{carried, first_missing};
 pub use slicing::slice;
 pub use texts::records;

@@ -53,11 +53,11 @@ fn is_slice(
 }
 
 /// The slice of a snapshot by the links of a cycle: of their transactions the operations that the links need, each once, and no others, in
-/// the order of the whole. Its reads are resolved, and by a map of numbers each of its links is one of the whole, so each of its
-/// anomalies is one too, of the same cost; by this map these links are a cycle of it at the level. Each session's transactions are
-/// some of its transactions in the whole, each with some of its operations, in their order. Where the graph is the
-/// snapshot's, all of whose reads are resolved, and the links are a cycle of it, there is none only where they need more transactions,
-/// or those of more sessions, than a snapshot may have.
+/// the order of the whole. Its reads are resolved. By a map of numbers each of its links is one of the whole, so each of its anomalies is
+/// one too, of the same cost. By this map these links are a cycle of it at the level. Each session's transactions are some of its
+/// transactions in the whole, each with some of its operations, in their order. Say the graph is the snapshot's, all of whose reads
+/// are resolved, and the links are a cycle of it. Then there is none only where they need more transactions, or those of more
+/// sessions, than a snapshot may have.
 pub fn slice(
     alloc: Global,
     snapshot: &LargeSnapshot,

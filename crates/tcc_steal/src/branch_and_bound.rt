@@ -18,11 +18,11 @@ use crate::worker::Worker;
 use crate::{AllStart, Crew, Found, Gate};
 use std::alloc::Global;
 use std::thread::Threads;
+use tcc_base::Workers;
 use tcc_bits::PackedRow;
 use tcc_bound::{Bound, Seat};
 use tcc_derive::Prices;
 use tcc_txn::NoMemory;
-use tcc_workers::Workers;
 
 /// The row with each of its values capped, where there is a cap.
 fn capped_row(row: PackedRow, cap: Option<u32>) -> PackedRow

@@ -18,7 +18,7 @@ module _ {A : Type 0} (xs : List A) (x d : A) where
       go (inl less) = subst P (sym (pushed_early k less)) (before k less)
       go (inr more) = subst P (sym (pushed_last k (omega (arith, l, more, length-append xs (x ∷ []))))) new
 
-  -- those so far stand in an order, and each of them to the new one
+  -- those so far are in an order, and each of them to the new one
   pub pushed_order : (R : A → A → Type 0) → ((k l : ℕ) → k < l → l < length xs → R (get_or xs k d) (get_or xs l d)) → ((k : ℕ) → k < length xs → R (get_or xs k d) x)
       → (k l : ℕ) → k < l → l < length (xs ++ x ∷ []) → R (get_or (xs ++ x ∷ []) k d) (get_or (xs ++ x ∷ []) l d)
   pushed_order R before new k l less up = go (cases_lt l (length xs))

@@ -27,7 +27,7 @@ stale_read-by = (
 stale_read-first : HasRead (causally stale_read) 2 0 × Contradicts (causally stale_read) 2 0 1
 stale_read-first = ((omega arith, omega arith), stale_read-by)
 
--- c/2 reads the initial value of x, and knew of a/1 by three pairs
+-- c/2 reads the initial value of x, and had observed a/1 by three pairs
 long_chain-by : IsContradictedBy (causally long_chain) 4 x 0 1
 long_chain-by = (
   (step.Reads 1 2 x ∷ step.Reads 2 3 y ∷ step.Session 3 4 ∷ [], long_chain-link),

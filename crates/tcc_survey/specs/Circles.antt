@@ -1,4 +1,4 @@
--- Transactions that stand in a circle by causal pairs alone.
+-- Transactions that are in a circle by causal pairs alone.
 use Rattle.std.specs.Prelude.{ℕ, ◌+◌, ◌-◌, ◌<◌, ◌≢◌, List, length, slice_index_or}
 use Rattle.tcc_reads.specs.History.{History}
 use Rattle.tcc_graph.specs.Relations.{IsCausalPair}
@@ -12,6 +12,6 @@ pub record IsCircle (h : History) (circle : List ℕ) : Type 0 where
   pub closed : IsCausalPair h (slice_index_or circle 0 0) (slice_index_or circle (length circle - 1) 0)
   pub once : (i : ℕ) (k : ℕ) → i < k → k < length circle → slice_index_or circle i 0 ≢ slice_index_or circle k 0
 
--- causal pairs stand in no circle: no transaction reaches itself
+-- causal pairs are in no circle: no transaction reaches itself
 abbrev pub IsAcyclic : History → Type 0
 IsAcyclic h = (t : ℕ) → IsReached h t t → ⊥

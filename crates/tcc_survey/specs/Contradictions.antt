@@ -15,8 +15,8 @@ use Rattle.tcc_survey.specs.declared.usual_name.UsualName.TheVariants as usual
 use Rattle.tcc_survey.specs.Names.{Fits, rank}
 use Rattle.tcc_survey.specs.declared.surveyed.Surveyed.TheVariants as answer
 
--- c reads the key x from a, and b contradicts it: b, another writer of x, reaches c by a walk that the level allows, so that
--- it has to stand before a; but b is reached from a. From `init` each other transaction is.
+-- c reads the key x from a, and b contradicts it: b, another writer of x, reaches c by a walk that the level allows, so it has to
+-- come before a. But b is reached from a. From `init` each other transaction is.
 abbrev pub IsContradictedBy : Judged → ℕ → List ℕ → ℕ → ℕ → Type 0
 IsContradictedBy j c x a b = ((walk : List Step) × IsReason j b a x c walk) × IsReached j.history a b
 
@@ -69,7 +69,7 @@ pub record AreContradicted (j : Judged) (found : List Contradicted) : Type 0 whe
       → (k : ℕ) × (k < length found) × ((contradicted_at found k).reading.reader ≡ c) × ((contradicted_at found k).reading.index ≡ i)
   pub order : (k : ℕ) (l : ℕ) → k < l → l < length found → ComesBefore (contradicted_at found k).reading (contradicted_at found l).reading
 
--- what is answered: all contradicted reads, where causal pairs stand in no circle, and else such a circle
+-- what is answered: all contradicted reads, where causal pairs are in no circle, and else such a circle
 abbrev pub IsSurvey : Judged → Surveyed → Type 0
 IsSurvey j (answer.Listed found) = IsAcyclic j.history × AreContradicted j found.items
 IsSurvey j (answer.Circular circle) = IsCircle j.history circle.items

@@ -9,11 +9,11 @@ use Rattle.tcc_survey.specs.declared.usual_name.UsualName.TheVariants as name
 abbrev pub ReadsFrom : History → ℕ → ℕ → Type 0
 ReadsFrom h a b = (y : List ℕ) × IsReadsPair h a b y
 
--- e is the committed transaction c, or stands before it in its session
+-- e is the committed transaction c, or comes before it in its session
 abbrev pub IsUpTo : History → ℕ → ℕ → Type 0
 IsUpTo h e c = (0 < e) × ((e ≡ c) ⊎ IsSessionPair h e c)
 
--- c knew of the writer b of the key x in the way of this name
+-- c had observed the writer b of the key x in the way of this name
 abbrev pub Fits : History → ℕ → List ℕ → ℕ → UsualName → Type 0
 Fits h c x b name.ReadYourWrites = IsSessionPair h b c
 Fits h c x b name.FracturedRead = ReadsFrom h b c

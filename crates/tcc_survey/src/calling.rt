@@ -23,6 +23,7 @@ use crate::seen::{Mark, mark_reads};
 use crate::session_guarantees::Knowledge;
 use crate::usual_name::UsualName;
 use std::alloc::{AllocError, Global};
+use tcc_base::Progress;
 use tcc_clocks::{SharedRows, WIDE, between, block_bounds, find_spans, owners};
 use tcc_graph::{LargeGraph, Level};
 use tcc_txn::NoMemory;
@@ -54,7 +55,7 @@ impl Calling<'_> {
         lane < WIDE && self.first[lane] <= b
     }
 
-    /// Whether the level lets the reader know of a writer that reaches it.
+    /// Whether the level lets the reader know about a writer that reaches it.
     fn is_known(&self, b: u32) -> bool
         requires calling { IsCalling self.now }
         requires inside { b < count self.now.knowledge.graph.now }
@@ -190,8 +191,9 @@ fn call_block(
     Ok(())
 }
 
-/// Goes on, for each read, to the writers of all blocks that have some that may contradict one of those chosen.
-fn call_blocks(
+/// Goes on, for each read, to the writers of all blocks that have some that may contradict one of those chosen. Before
+/// each block `progress` is told how many are done; they are the second half of the work.
+fn call_blocks<P: Progress>(
     alloc: Global,
     graph: &LargeGraph,
     level: Level,
@@ -199,6 +201,7 @@ fn call_blocks(
     reads: &[Reading],
     chosen: &[Reading],
     called: &mut [Called],
+    progress: &P,
 ) -> Result<(), NoMemory>
     requires numbering { IsNumbering (count graph.now) order.now }
     requires onward { LeadsOnward graph.now order.now }
@@ -213,7 +216,9 @@ fn call_blocks(
     let needed = needed_blocks(alloc, graph, &owners, chosen)?;
     let backward = reversed(alloc, order)?;
     let mut firsts = SharedRows::new(alloc, graph.count())?;
-    for number in 0..sessions.div_ceil(WIDE) {
+    let blocks = sessions.div_ceil(WIDE);
+    for number in 0..blocks {
+        progress.done(blocks + number, 2 * blocks);
         if !needed[number] {
             continue;
         }
@@ -257,21 +262,31 @@ fn as_chains(alloc: Global, found: &[u32]) -> Result<Vec<Called>, AllocError>
 }
 
 /// How each read is called, by an order in which causal pairs lead onward.
-pub(crate) fn call_reads(
+pub(crate) fn call_reads<P: Progress>(
     alloc: Global,
     graph: &LargeGraph,
     level: Level,
     order: &[u32],
     reads: &[Reading],
+    progress: &P,
 ) -> Result<Vec<Called>, NoMemory>
     requires numbering { IsNumbering (count graph.now) order.now }
     requires onward { LeadsOnward graph.now order.now }
     requires reads { AreReadsUpTo graph.now (count graph.now) 0 reads.now }
     ensures { IfOk result (λ called. AreCalled (judged graph.now level) reads.now called.items) }
 {
-    let found = find_least(alloc, graph, level, order, reads)?;
+    let found = find_least(alloc, graph, level, order, reads, progress)?;
     let chosen = chosen_reads(alloc, reads, &found)?;
     let mut called = as_chains(alloc, &found)?;
-    call_blocks(alloc, graph, level, order, reads, &chosen, &mut called)?;
+    call_blocks(
+        alloc,
+        graph,
+        level,
+        order,
+        reads,
+        &chosen,
+        &mut called,
+        progress,
+    )?;
     Ok(called)
 }

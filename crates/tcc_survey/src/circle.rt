@@ -88,7 +88,7 @@ fn first_left(graph: &LargeGraph, placed: &[u64]) -> u32
     0
 }
 
-/// What stands in a trail from a transaction of it on.
+/// What is in a trail from a transaction of it on.
 fn trail_from(alloc: Global, trail: &[u32], at: u32) -> Result<Vec<u32>, AllocError>
     requires { Contains trail.now at }
     ensures { IfOk result (λ found. (start : ℕ) × (start < length trail.now) × (slice_index trail.now start ≡ at) × (found.items ≡ drop start trail.now)) }
@@ -98,7 +98,7 @@ fn trail_from(alloc: Global, trail: &[u32], at: u32) -> Result<Vec<u32>, AllocEr
             return Vec::from_slice(alloc, &trail[start..]);
         }
     }
-    // Never reached: it stands in the trail.
+    // Never reached: it is in the trail.
     Ok(Vec::new(alloc))
 }
 

@@ -11,6 +11,7 @@ use crate::calling::call_reads;
 use crate::external_reads::{Reading, all_reads};
 use crate::usual_name::UsualName;
 use std::alloc::Global;
+use tcc_base::Progress;
 use tcc_graph::{LargeGraph, Level};
 use tcc_txn::NoMemory;
 
@@ -26,18 +27,19 @@ pub struct Contradicted {
 }
 
 /// All contradicted reads, by an order in which causal pairs lead onward.
-pub(crate) fn contradicted_along(
+pub(crate) fn contradicted_along<P: Progress>(
     alloc: Global,
     graph: &LargeGraph,
     level: Level,
     order: &[u32],
+    progress: &P,
 ) -> Result<Vec<Contradicted>, NoMemory>
     requires numbering { IsNumbering (count graph.now) order.now }
     requires onward { LeadsOnward graph.now order.now }
     ensures { IfOk result (λ list. AreContradicted (judged graph.now level) list.items) }
 {
     let reads = all_reads(alloc, graph)?;
-    let called = call_reads(alloc, graph, level, order, &reads)?;
+    let called = call_reads(alloc, graph, level, order, &reads, progress)?;
     let mut list = Vec::new(alloc);
     for (index, read) in reads.iter().enumerate() {
         let Called { name, writer } = called[index];

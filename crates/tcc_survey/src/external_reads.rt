@@ -10,13 +10,13 @@ use tcc_txn::NoMemory;
 /// An external read, by numbers.
 #[derive(Clone, Copy)]
 pub struct Reading {
-    /// The number of the transaction that reads.
+    /// The index of the transaction that reads.
     pub reader: u32,
-    /// The index of the read among those of its transaction, which stand by key in byte order and then by source.
+    /// The index of the read among those of its transaction, ordered by key in byte order and then by source.
     pub index: u32,
     /// The index of the key.
     pub key_index: u32,
-    /// The number of the transaction that is read from.
+    /// The index of the transaction that is read from.
     pub source: u32,
 }
 

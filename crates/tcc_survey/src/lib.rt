@@ -22,5 +22,5 @@ mod usual_name;
 pub use contradicted::Contradicted;
 pub use external_reads::Reading;
 pub use surveyed::Surveyed;
-pub use surveying::survey;
+pub use surveying::{survey, survey_watched};
 pub use usual_name::{NAMES, UsualName};

@@ -29,7 +29,7 @@ fn next_in_session(graph: &LargeGraph, a: u32) -> Option<u32>
     }
 }
 
-/// What stands right behind a transaction: its readers, and the next of its session.
+/// What comes right after a transaction: its readers, and the next of its session.
 fn find_children(found: &mut Vec<u32>, graph: &LargeGraph, a: u32) -> Result<(), AllocError>
     requires { a < count graph.now }
     ensures { OnOk result (AreChildren graph.now a found.new.items) }
@@ -70,7 +70,7 @@ fn first_numbers(owners: &[u32], from: u32) -> Clock
     row
 }
 
-/// Gives a transaction its row, once those of what stands behind it are known.
+/// Gives a transaction its row, once those of what comes after it are known.
 fn put_first(
     table: &mut SharedRows,
     block: &Block<'_>,

@@ -1,7 +1,7 @@
 //! Which of the writers in a block of sessions contradict a read: those that its source reaches and that reach its reader. Of few
-//! writers each is looked at; of many, in each session the first by binary search, as numbers rise with places in a session; and at
-//! `Atomic`, where a single pair leads to the reader, those of its own session and those that it reads from. A read of a key with W
-//! writers in the block takes 32 steps, or 64 log W, and at `Atomic` log W for each read of its reader.
+//! writers each is looked at; of many, in each session the first by binary search, as numbers rise with places in a session. At
+//! `Atomic`, where a single pair leads to the reader, those of its own session are, and those that it reads from. A read of a key
+//! with W writers in the block takes 32 steps, or 64 log W, and at `Atomic` log W for each read of its reader.
 ghost use Rattle.std.specs.Prelude.{◌≡◌, ◌<◌, ◌≤◌, ◌+◌, ◌⊎◌, ◌↔◌, ℕ, true, false, length, slice_index, Contains, IsTrue, OnOk};
 ghost use Rattle.std.specs.List.Sorted.{IsNonDecreasing};
 ghost use Rattle.tcc_reads.specs.History.{count};

@@ -1,7 +1,7 @@
-//! Which of the usual names fits a writer of a key: those of the session guarantees (Terry et al., Session guarantees for weakly
-//! consistent replicated data, 1994) among them, by what the session of a reader has read so far (`seen`). The first that fits is
-//! found by a look at each reader of the key from the writer; a writer that nobody reads from needs a step alone, unless the
-//! session of the reader has read past it, or wrote it.
+//! Which of the usual names fits a writer of a key, by what the session of a reader has read so far (`seen`). Those of the session
+//! guarantees (Terry et al., Session guarantees for weakly consistent replicated data, 1994) are among them. The first that fits is
+//! found by a look at each reader of the key from the writer. A writer that nobody reads from needs a step alone, unless the session
+//! of the reader has read past it, or wrote it.
 ghost use Rattle.std.specs.Prelude.{◌≡◌, ◌<◌, ◌⊎◌, ◌↔◌, ℕ, false, length, All, Contains, IsTrue};
 ghost use Rattle.tcc_reads.specs.History.{count};
 ghost use Rattle.tcc_graph.specs.Keys.{key_at, readers};

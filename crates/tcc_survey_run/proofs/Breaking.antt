@@ -46,7 +46,7 @@ lines_all line each (one ∷ all) = lines_join (line one) (flat_map line all) (e
 
 -- ---- where a text breaks off
 
--- behind a part that went out
+-- after a part that was written
 pub breaks_behind : (json : Bool) (a m b : Option (List ℕ)) (x y : List ℕ) (code : ℕ) → AreWholeLines x → Appends a m x → BreaksOff json m b y code
     → BreaksOff json a b (x ++ y) code
 breaks_behind json a m b x y code whole out (inl cuts) = inl ((length x + cuts.0.0, joined b cuts.0.0 cuts.0.1), cuts.1)
@@ -59,7 +59,7 @@ breaks_behind json a m b x y code whole out (inr (n, between, lines, part, memor
     joined : (c : Option (List ℕ)) (n : ℕ) → Appends m c (take n y) → Appends a c (take (length x + n) (x ++ y))
     joined c n part = subst (λ t. Appends a c t) (sym (take-append-add x y n)) (Appends-trans a m c x (take n y) out part)
 
--- in one of the lines, those before which went out
+-- in one of the lines, those before which were written
 pub breaks_among : {A : Type 0} (json : Bool) (line : A → List ℕ) (a m b : Option (List ℕ)) (before : List A) (one : A) (behind : List A) (code : ℕ)
     → ((one : A) → AreWholeLines (line one)) → Appends a m (flat_map line before) → BreaksOff json m b (line one) code
     → BreaksOff json a b (flat_map line (before ++ one ∷ behind)) code
@@ -68,7 +68,7 @@ breaks_among json line a m b before one behind code each out breaks =
     (breaks_behind json a m b (flat_map line before) (line one ++ flat_map line behind) code (lines_all line each before) out
     (breaks_first json m b (line one) (flat_map line behind) code breaks))
 
--- one line more went out
+-- one line more was written
 pub lines_more : {A : Type 0} (line : A → List ℕ) (a m b : Option (List ℕ)) (all : List A) (k : ℕ) (d : A) → k < length all
     → Appends a m (flat_map line (take k all)) → Appends m b (line (get_or all k d)) → Appends a b (flat_map line (take (k + 1) all))
 lines_more line a m b all k d inside out more =
@@ -81,7 +81,7 @@ lines_more line a m b all k d inside out more =
     suc_is : (k : ℕ) → suc k ≡ k + 1
     suc_is k = omega arith
 
--- a line broke off, before which others went out
+-- a line broke off, before which others were written
 pub lines_break : {A : Type 0} (json : Bool) (line : A → List ℕ) (a m b : Option (List ℕ)) (all : List A) (k : ℕ) (d : A) (code : ℕ) → k < length all
     → ((one : A) → AreWholeLines (line one)) → Appends a m (flat_map line (take k all)) → BreaksOff json m b (line (get_or all k d)) code
     → BreaksOff json a b (flat_map line all) code

@@ -1,5 +1,5 @@
 -- Each line of a survey ends.
-use Rattle.std.proofs.Common.{Bool, true, false, List, [], ◌∷◌, ◌++◌, ℕ, length, flat_map, codes, decimal, inl, inr, refl}
+use Rattle.std.proofs.Common.{Bool, true, false, List, [], ◌∷◌, ◌++◌, length, flat_map, codes, decimal, inl, inr, refl}
 use Rattle.serde_json.specs.Data.{Data}
 use Rattle.serde_json.specs.Written.{compact_text}
 use Rattle.tcc_reads.specs.History.{History}

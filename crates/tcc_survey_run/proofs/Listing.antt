@@ -75,7 +75,7 @@ module _ (json : Bool) (h : History) (told : List ToldRead) (faults : List ReadF
           names_out : Appends n k names_said
           names_out = subst (λ ns. Appends n k (flat_map (name_line json) ns)) alike named
 
-          -- the last line went out, or the run ended in it
+          -- the last line was written, or the run ended in it
           pub total_out : (b : Option (List ℕ)) (r : Result (Unit {0}) ℕ) → OnOk r (Appends k b text) → IfErr r (EndsIn json k b text)
               → OnOk r (Appends a b whole) × IfErr r (BreaksOff json a b whole)
           total_out b (Ok done) out ends = (
@@ -99,7 +99,7 @@ faults_ended json a b [] some r ends = absurd (omega (arith, some))
 faults_ended json a b (fault ∷ faults) some (Ok done) ends = tt
 faults_ended json a b (fault ∷ faults) some (Err code) ends = breaks_ending json a b (unresolved json (fault ∷ faults)) code ends
 
--- what is found was said, where its lines go out
+-- what is found was said, where its lines are written
 pub said : (json : Bool) (s : Sessions) (h : History) (found : List Contradicted) (before after : Option (List ℕ)) (code : ℕ)
     (faults : List ReadFault) (told : List ToldRead) (names : List NameCount) → AreTold s h found told → AreNames told names → faults ≡ read_faults s
     → GoesOut json before after (survey_text json h told faults names) (survey_status told faults) code → SaysFound json s h found before after code

@@ -49,7 +49,7 @@ told_below j found first are k d inside reader writer reads writes =
       subst (λ n. n < count j.history) (sym (writes ∙ ap (λ (one : Contradicted). one.writer) same)) is.writer,
     )
 
--- one more is told
+-- one more is reported
 pub told_more : (s : Sessions) (h : History) (found : List Contradicted) (k : ℕ) (d : Contradicted) (told : List ToldRead) (it : ToldRead) → k < length found
     → AllZip (IsToldOf s h) (take k found) told → IsToldOf s h (get_or found k d) it → AllZip (IsToldOf s h) (take (k + 1) found) (told ++ it ∷ [])
 told_more s h found k d told it inside before is =

@@ -1,4 +1,4 @@
--- The lines of a survey as JSON: each the compact text of one object, whose keys stand in byte order.
+-- The lines of a survey as JSON: each the compact text of one object, whose keys are in byte order.
 use Rattle.std.specs.Prelude.{ℕ, List, map, codes}
 use Rattle.serde_json.specs.Data.{Data, number, unsigned, string, array, object, no_members, member}
 use Rattle.serde_json.specs.View.{items_of}

@@ -25,7 +25,7 @@ use Rattle.tcc_survey_run.specs.declared.told.ToldRead.{ToldRead}
 
 -- ---- one snapshot
 
--- causal pairs of its traced history stand in no circle: all its contradicted reads, all read faults, and how many reads there are of
+-- causal pairs of its traced history are in no circle: all its contradicted reads, all read faults, and how many reads there are of
 -- each name
 abbrev pub IsListing : SurveyOptions → Sessions → List ℕ → Status → Type 0
 IsListing options s text status =
@@ -49,7 +49,7 @@ IsSaid options s text status = IsListing options s text status ⊎ IsCircular op
 abbrev pub limits_of : SurveyOptions → Limits
 limits_of options = if options.large then Large else Small
 
--- the answers to the bytes of records, within the limits that are asked for
+-- the answers to the bytes of records, at the limits that are asked for
 abbrev pub answers_of : SurveyOptions → List ℕ → Answers
 answers_of options bytes = answers_within (limits_of options) bytes
 
@@ -57,17 +57,17 @@ answers_of options bytes = answers_within (limits_of options) bytes
 abbrev pub finished : SurveyOptions → List ℕ → Sessions
 finished options bytes = finished_in (answers_of options bytes).items
 
--- the records have no fault, and what a survey says of all that they finish goes out
+-- the records have no fault, and what a survey says of all that they finish is written
 abbrev pub IsSurveyed : SurveyOptions → List ℕ → Option (List ℕ) → Option (List ℕ) → ℕ → Type 0
 IsSurveyed options bytes before after code =
     ((answers_of options bytes).fault ≡ None)
     × ((text : List ℕ) × (status : Status) × IsSaid options (finished options bytes) text status × GoesOut options.json before after text status code)
 
--- nothing is said of the records, but why: their fault, that of a reader that failed behind lawful ones, or that memory is out
-abbrev pub IsEnded : SurveyOptions → List ℕ → Option (List ℕ) → Option (List ℕ) → ℕ → Type 0
-IsEnded options bytes before after code =
+-- nothing is said of the records, but why: their fault, that of a reader that failed after lawful ones, or that memory is out
+abbrev pub IsEndedSurvey : SurveyOptions → List ℕ → Option (List ℕ) → Option (List ℕ) → ℕ → Type 0
+IsEndedSurvey options bytes before after code =
     (n : ℕ) × (why : Halt) × MayEnd (limits_of options) bytes n why × Prints before after (halted options.json why) (halt_status why) code
 
 -- what a run does with the bytes
 abbrev pub IsSurveyRun : SurveyOptions → List ℕ → Option (List ℕ) → Option (List ℕ) → ℕ → Type 0
-IsSurveyRun options bytes before after code = IsSurveyed options bytes before after code ⊎ IsEnded options bytes before after code
+IsSurveyRun options bytes before after code = IsSurveyed options bytes before after code ⊎ IsEndedSurvey options bytes before after code

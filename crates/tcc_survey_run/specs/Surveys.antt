@@ -1,4 +1,4 @@
--- What is said of a survey, and how it goes out.
+-- What is said of a survey, and how it is written.
 use Rattle.std.specs.Prelude.{ℕ, ◌≡◌, ◌⊎◌, Bool, List, [], ◌∷◌, ◌++◌, length, map, take, flat_map, sum_by, codes, Option, if◌then◌else◌}
 use Rattle.std.specs.Io.KnownBytes.{Appends}
 use Rattle.tcc_reads.specs.History.{History}
@@ -53,7 +53,7 @@ survey_status (one ∷ others) faults = Anomaly
 survey_status [] (first ∷ others) = ReadFaults
 survey_status [] [] = Success
 
--- ---- how it goes out
+-- ---- how it is written
 
 abbrev pub EndsLine : List ℕ → Type 0
 EndsLine text = (front : List ℕ) × (text ≡ front ++ codes "\n")
@@ -62,7 +62,7 @@ EndsLine text = (front : List ℕ) × (text ≡ front ++ codes "\n")
 abbrev pub AreWholeLines : List ℕ → Type 0
 AreWholeLines text = (text ≡ []) ⊎ EndsLine text
 
--- a part of a text, from its front, went out, and then a writer failed; or whole lines of it went out, and then memory was out, and
+-- a part of a text, from its front, was written, and then a writer failed; or whole lines of it were written, and then memory was out, and
 -- that was said after them
 abbrev pub BreaksOff : Bool → Option (List ℕ) → Option (List ℕ) → List ℕ → ℕ → Type 0
 BreaksOff json before after text code =
@@ -70,7 +70,7 @@ BreaksOff json before after text code =
     ⊎ ((n : ℕ) × (between : Option (List ℕ)) × AreWholeLines (take n text) × Appends before between (take n text)
     × Prints between after (memory_line json) Memory code)
 
--- the text went out whole, and the status is its own; or it broke off
+-- the text was written whole, and the status is its own; or it broke off
 abbrev pub GoesOut : Bool → Option (List ℕ) → Option (List ℕ) → List ℕ → Status → ℕ → Type 0
 GoesOut json before after text status code =
     (Appends before after text × (code ≡ code_of status)) ⊎ BreaksOff json before after text code

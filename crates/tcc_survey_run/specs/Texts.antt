@@ -5,7 +5,7 @@ use Rattle.tcc_survey_run.specs.declared.counting.NameCount.{NameCount}
 use Rattle.tcc_survey_run.specs.declared.told.ToldRead.{ToldRead}
 use Rattle.tcc_survey_run.specs.Told.{name_words}
 
--- contradicted READER op I KEY VALUE: knew of WRITER, NAME
+-- `contradicted READER op I KEY VALUE: knew of WRITER, NAME`
 abbrev pub read_text : List ℕ → List ℕ → ToldRead → List ℕ
 read_text reader writer told =
     codes "contradicted "

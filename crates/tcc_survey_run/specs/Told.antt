@@ -1,4 +1,4 @@
--- What is told of contradicted reads, by the operations that were recorded.
+-- What is reported of contradicted reads, by the operations that were recorded.
 use Rattle.std.specs.Prelude.{ℕ, ◌+◌, ◌-◌, ◌≡◌, ◌==◌, List, [], ◌∷◌, length, map, filter, nat_lt, codes, slice_index_or}
 use Rattle.std.specs.List.{AllZip}
 use Rattle.std.specs.List.Sorted.{IsPermutation, IsSortedByKey}
@@ -9,7 +9,7 @@ use Rattle.tcc_txn.specs.Snapshots.{Sessions}
 use Rattle.tcc_txn.specs.declared.op.Op.{Op}
 use Rattle.tcc_reads.specs.History.{History}
 use Rattle.tcc_graph.specs.Keys.{key_at}
-use Rattle.tcc_operations.specs.Operations.{first_reading, ops_of, source_value}
+use Rattle.tcc_graph.specs.Operations.{first_reading, ops_of, source_value}
 use Rattle.tcc_survey.specs.Names.{rank}
 use Rattle.tcc_survey.specs.declared.contradicted.Contradicted.{Contradicted}
 use Rattle.tcc_survey.specs.declared.usual_name.UsualName.{UsualName}
@@ -21,7 +21,7 @@ use Rattle.tcc_survey_run.specs.declared.told.ToldRead.{ToldRead}
 abbrev pub first_read : List ℕ → ℕ → List Op → ℕ
 first_read x v ops = option_map_or (λ before. before + 1) (first_reading x v ops) 0
 
--- what is told of a contradicted read
+-- what is reported of a contradicted read
 pub record IsToldOf (s : Sessions) (h : History) (one : Contradicted) (told : ToldRead) : Type 0 where
   pub reader : told.reader ≡ one.reading.reader
   pub key : told.key ≡ key_at h one.reading.key_index
@@ -30,11 +30,11 @@ pub record IsToldOf (s : Sessions) (h : History) (one : Contradicted) (told : To
   pub writer : told.writer ≡ one.writer
   pub name : told.name ≡ one.name
 
--- by the number of the transaction, then by operation
+-- by the index of the transaction, then by operation
 abbrev pub operation_cmp : ℕ × ℕ → ℕ × ℕ → Ordering
 operation_cmp p q = ordering_then (nat_cmp p.0 q.0) (nat_cmp p.1 q.1)
 
--- what is told of contradicted reads, in order
+-- what is reported of contradicted reads, in order
 abbrev pub AreTold : Sessions → History → List Contradicted → List ToldRead → Type 0
 AreTold s h found told =
     (each : List ToldRead) × AllZip (IsToldOf s h) found each × IsPermutation each told

@@ -1,5 +1,5 @@
 //! Runs of `tcc survey` from bytes to bytes: what is written of the contradicted reads of the records, and the statuses that the
-//! runs end with. Nothing here knows of command lines or files.
+//! runs end with. Nothing here knows about command lines or files.
 #![tactic(auto)]
 
 mod counting;
@@ -16,5 +16,5 @@ mod told;
 
 pub use counting::NameCount;
 pub use options::SurveyOptions;
-pub use running::run_survey;
+pub use running::{run_survey, run_survey_watched};
 pub use told::ToldRead;

@@ -1,4 +1,4 @@
-//! The lines of a survey as text, each made as a whole before a byte of it goes out.
+//! The lines of a survey as text, each made as a whole before a byte of it is written.
 ghost use Rattle.std.specs.Prelude.{◌≡◌, IfOk, map, string_bytes};
 ghost use Rattle.tcc_survey_run.specs.Texts.{circle_text, name_text, read_text, total_text};
 

@@ -4,8 +4,8 @@ ghost use Rattle.tcc_print.specs.Notes.{IsNoted};
 ghost use Rattle.tcc_survey_run.specs.Texts.{no_answer_note, nothing_note};
 
 use std::io::Write;
+use tcc_base::send;
 use tcc_print::Status;
-use tcc_sending::send;
 
 /// Writes a note. What standard error takes of it changes nothing.
 fn send_note<N: Write>(text: &[u8], notes: &mut N)

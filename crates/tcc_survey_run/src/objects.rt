@@ -1,4 +1,4 @@
-//! The lines of a survey as JSON, each an object that is made as a whole before a byte of it goes out.
+//! The lines of a survey as JSON, each an object that is made as a whole before a byte of it is written.
 ghost use Rattle.std.specs.Prelude.{◌≡◌, IfOk, map, string_bytes};
 ghost use Rattle.serde_json.specs.Data.{array, string};
 ghost use Rattle.serde_json.specs.View.{items_of, view};

@@ -1,12 +1,12 @@
-//! How the lines of a survey go out, one after the other.
+//! How the lines of a survey are written, one after the other.
 ghost use Rattle.std.specs.Prelude.{◌≡◌, ℕ, List, IfErr, IfOk, OnOk};
 ghost use Rattle.std.specs.Io.KnownBytes.{Appends};
 ghost use Rattle.tcc_print.specs.Printed.{EndsIn};
 
 use std::io::Write;
+use tcc_base::write_out;
 use tcc_print::Status;
 use tcc_print::printing::{Made, Sent, print_memory};
-use tcc_sending::write_out;
 use tcc_txn::NoMemory;
 
 /// Writes a line that was made, and leaves the flush to the last one; else the run ends with this number.

@@ -11,12 +11,13 @@ use crate::options::SurveyOptions;
 use crate::saying::{say_circle, say_found};
 use std::alloc::Global;
 use std::io::{Read, Write};
+use tcc_base::{Progress, Unwatched};
 use tcc_graph::{LargeGraph, Level};
 use tcc_print::notes::note_reads;
 use tcc_print::printing::print_memory;
 use tcc_reads::{ReadFault, Traced, resolve_traced};
 use tcc_rows::RecordingWithin;
-use tcc_survey::{Surveyed, survey};
+use tcc_survey::{Surveyed, survey_watched};
 use tcc_txn::{Bounds, LargeLimits, NoMemory, SmallLimits, SnapshotWithin};
 use tcc_verdict::stop;
 
@@ -30,10 +31,11 @@ struct Examined {
 }
 
 /// What is found in a snapshot at a level.
-fn examine<B: Bounds>(
+fn examine<B: Bounds, P: Progress>(
     alloc: Global,
     snapshot: &SnapshotWithin<B>,
     level: Level,
+    progress: &P,
 ) -> Result<Examined, NoMemory>
     ensures graph { IfOk result (λ e. e.graph ≡ traced_history snapshot.now) }
     ensures surveyed { IfOk result (λ e. IsSurvey (judged (traced_history snapshot.now) level) e.surveyed) }
@@ -41,7 +43,7 @@ fn examine<B: Bounds>(
 {
     let Traced { history, faults } = resolve_traced(alloc, snapshot)?;
     let graph = LargeGraph::build(alloc, history)?;
-    let surveyed = survey(alloc, &graph, level)?;
+    let surveyed = survey_watched(alloc, &graph, level, progress)?;
     Ok(Examined {
         graph,
         surveyed,
@@ -51,16 +53,17 @@ fn examine<B: Bounds>(
 
 /// Says what a survey finds in a snapshot, and gives the number that the run ends with. Of the first read faults it is noted which
 /// write each of them is about; and where nothing is found, that this is no answer.
-fn say<B: Bounds, W: Write, N: Write>(
+fn say<B: Bounds, W: Write, N: Write, P: Progress>(
     alloc: Global,
     snapshot: &SnapshotWithin<B>,
     options: &SurveyOptions,
     out: &mut W,
     notes: &mut N,
+    progress: &P,
 ) -> u8
     ensures { SaysSurvey options.now snapshot.now (W.contents out.old) (W.contents out.new) result }
 {
-    let Ok(examined) = examine(alloc, snapshot, options.level) else {
+    let Ok(examined) = examine(alloc, snapshot, options.level, progress) else {
         return print_memory(out, options.json);
     };
     let Examined {
@@ -80,12 +83,13 @@ fn say<B: Bounds, W: Write, N: Write>(
 }
 
 /// The run of a recording that has just begun.
-fn run_recording<R: Read + Drop, B: Bounds, W: Write, N: Write>(
+fn run_recording<R: Read + Drop, B: Bounds, W: Write, N: Write, P: Progress>(
     alloc: Global,
     recording: &mut RecordingWithin<R, B>,
     options: &SurveyOptions,
     out: &mut W,
     notes: &mut N,
+    progress: &P,
 ) -> u8
     requires limits { B.limits ≡ limits_of options.now }
     ensures { (bytes : List ℕ) → IsRecording B.limits R.remaining recording.old [] (answers_within B.limits bytes)
@@ -93,18 +97,19 @@ fn run_recording<R: Read + Drop, B: Bounds, W: Write, N: Write>(
         → IsSurveyRun options.now bytes (W.contents out.old) (W.contents out.new) result }
 {
     match recording.pass_seals(alloc) {
-        Ok(()) => say(alloc, recording.snapshot(), options, out, notes),
+        Ok(()) => say(alloc, recording.snapshot(), options, out, notes, progress),
         Err(fault) => stop(alloc, recording, fault, options.json, out, notes),
     }
 }
 
-/// The run of records within the limits that `B` stands for.
-fn run_within<R: Read + Drop, B: Bounds, W: Write, N: Write>(
+/// The run of records at the limits that `B` represents.
+fn run_within<R: Read + Drop, B: Bounds, W: Write, N: Write, P: Progress>(
     alloc: Global,
     reader: R,
     options: &SurveyOptions,
     out: &mut W,
     notes: &mut N,
+    progress: &P,
 ) -> u8
     requires limits { B.limits ≡ limits_of options.now }
     ensures { IfSome (R.remaining reader) (λ bytes. IsSurveyRun options.now bytes (W.contents out.old) (W.contents out.new) result) }
@@ -112,15 +117,15 @@ fn run_within<R: Read + Drop, B: Bounds, W: Write, N: Write>(
     match RecordingWithin::<R, B>::new(alloc, reader) {
         Ok(recording) => {
             let mut recording = recording;
-            run_recording(alloc, &mut recording, options, out, notes)
+            run_recording(alloc, &mut recording, options, out, notes, progress)
         }
         Err(NoMemory) => print_memory(out, options.json),
     }
 }
 
-/// Writes the contradicted reads, at the level, of all that the records of the reader finish, whatever they seal, with all read
-/// faults and the counts of the usual names, as text or as lines of JSON, and gives the number that the run ends with. Reads that
-/// can't be traced are left out. The lines go out one by one. What to mend, where records or reads have faults, goes to the notes.
+/// Writes the contradicted reads, at the level, of all that the records of the reader finish, whatever they seal, as text or as lines
+/// of JSON. All read faults and the counts of the usual names follow. Reads that can't be traced are left out. The lines are written
+/// one by one. Gives the number that the run ends with. What to mend, where records or reads have faults, goes to the notes.
 pub fn run_survey<R: Read + Drop, W: Write, N: Write>(
     alloc: Global,
     reader: R,
@@ -130,9 +135,23 @@ pub fn run_survey<R: Read + Drop, W: Write, N: Write>(
 ) -> u8
     ensures { IfSome (R.remaining reader) (λ bytes. IsSurveyRun options bytes (W.contents out.old) (W.contents out.new) result) }
 {
+    run_survey_watched(alloc, reader, out, notes, options, &Unwatched)
+}
+
+/// As `run_survey`, and once all records are read `progress` is told how far the survey is (`tcc_survey::survey_watched`).
+pub fn run_survey_watched<R: Read + Drop, W: Write, N: Write, P: Progress>(
+    alloc: Global,
+    reader: R,
+    out: &mut W,
+    notes: &mut N,
+    options: SurveyOptions,
+    progress: &P,
+) -> u8
+    ensures { IfSome (R.remaining reader) (λ bytes. IsSurveyRun options bytes (W.contents out.old) (W.contents out.new) result) }
+{
     if options.large {
-        run_within::<R, LargeLimits, W, N>(alloc, reader, &options, out, notes)
+        run_within::<R, LargeLimits, W, N, P>(alloc, reader, &options, out, notes, progress)
     } else {
-        run_within::<R, SmallLimits, W, N>(alloc, reader, &options, out, notes)
+        run_within::<R, SmallLimits, W, N, P>(alloc, reader, &options, out, notes, progress)
     }
 }

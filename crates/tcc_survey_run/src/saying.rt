@@ -1,4 +1,4 @@
-//! What is said of a snapshot, and how it goes out line by line.
+//! What is said of a snapshot, and how it is written line by line.
 ghost use Rattle.std.specs.Prelude.{◌≡◌, ◌<◌, All, flat_map, map, string_bytes, IfErr, IfOk, OnOk};
 ghost use Rattle.std.specs.Io.KnownBytes.{Appends};
 ghost use Rattle.tcc_reads.specs.Faults.{read_faults};
@@ -236,7 +236,7 @@ pub(crate) fn say_found<B: Bounds, W: Write>(
     }
 }
 
-/// Says which transactions stand in a circle, and gives the number that the run ends with.
+/// Says which transactions are in a circle, and gives the number that the run ends with.
 pub(crate) fn say_circle<W: Write>(
     alloc: Global,
     graph: &LargeGraph,

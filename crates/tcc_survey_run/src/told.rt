@@ -1,22 +1,21 @@
-//! What is told of contradicted reads: by the operations that were recorded.
+//! What is reported of contradicted reads: by the operations that were recorded.
 ghost use Rattle.std.specs.Prelude.{◌≡◌, ◌<◌, All, length, IfOk};
 ghost use Rattle.std.specs.List.Sorted.{IsPermutation, IsSortedByKey};
 ghost use Rattle.tcc_reads.specs.History.{count, entry_at, initial};
 ghost use Rattle.tcc_graph.specs.{Keys.keys, Levels.judged, declared.level.Level.Level};
 ghost use Rattle.tcc_survey.specs.Contradictions.{AreContradicted};
-ghost use Rattle.tcc_operations.specs.Operations.{ops_of};
+ghost use Rattle.tcc_graph.specs.Operations.{ops_of};
 ghost use Rattle.tcc_survey_run.specs.Told.{AreTold, IsToldOf, first_read, operation_cmp};
 
 use std::alloc::Global;
-use tcc_graph::LargeGraph;
-use tcc_operations::{first_reading, source_value};
+use tcc_graph::{LargeGraph, first_reading, source_value};
 use tcc_survey::{Contradicted, UsualName};
 use tcc_txn::{Bounds, Name, NoMemory, SnapshotWithin};
 
-/// What is told of a contradicted read.
+/// What is reported of a contradicted read.
 #[derive(Clone, Copy)]
 pub struct ToldRead {
-    /// The number of the transaction that reads.
+    /// The index of the transaction that reads.
     pub reader: u32,
     /// The position of the first of its operations that reads this value at the key, from 1.
     pub op: usize,
@@ -43,7 +42,7 @@ fn first_read<B: Bounds>(
     }
 }
 
-/// What is told of one contradicted read.
+/// What is reported of one contradicted read.
 fn told_of<B: Bounds>(
     snapshot: &SnapshotWithin<B>,
     graph: &LargeGraph,
@@ -66,7 +65,7 @@ fn told_of<B: Bounds>(
     }
 }
 
-/// Sorts what is told by the number of the transaction, then by operation.
+/// Sorts what is reported by the index of the transaction, then by operation.
 fn sort_by_operation(told: &mut [ToldRead])
     ensures permutation { IsPermutation told.old told.new }
     ensures sorted { IsSortedByKey (λ one. (one.reader, one.op)) operation_cmp told.new }
@@ -74,7 +73,7 @@ fn sort_by_operation(told: &mut [ToldRead])
     told.sort_unstable_by_key(|one| (one.reader, one.op));
 }
 
-/// What is told, by the number of the transaction, then by operation.
+/// What is reported, by the index of the transaction, then by operation.
 fn by_operation(told: Vec<ToldRead>) -> Vec<ToldRead>
     ensures permutation { IsPermutation told.items result.items }
     ensures sorted { IsSortedByKey (λ one. (one.reader, one.op)) operation_cmp result.items }
@@ -84,7 +83,7 @@ fn by_operation(told: Vec<ToldRead>) -> Vec<ToldRead>
     told
 }
 
-/// What is told of the contradicted reads of a snapshot, by the number of the transaction and then by operation.
+/// What is reported of the contradicted reads of a snapshot, by the index of the transaction and then by operation.
 pub(crate) fn told_reads<B: Bounds>(
     alloc: Global,
     snapshot: &SnapshotWithin<B>,

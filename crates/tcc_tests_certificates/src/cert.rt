@@ -10,8 +10,8 @@ use std::io::ErrorKind;
 use std::process::Abort;
 use std::test::Fail;
 use streams::{Failing, Fault, Faulty, gives_twice, nothing_held};
+use tcc_base::send;
 use tcc_cert::{CertFault, CertFaultKind, CertWriteFault, Certificate, read, write};
-use tcc_sending::send;
 use texts::{STALE_READ, STALE_READ_UPWARD, TEXTS, altered};
 
 /// The certificate that a text is.

@@ -11,6 +11,7 @@ use std::sync::atomic::{AtomicU64, Ordering};
 use std::test::Fail;
 use std::thread;
 use std::thread::Threads;
+use tcc_base::Workers;
 use tcc_bits::PackedRow;
 use tcc_core::seed;
 use tcc_derive::{Prices, derive};
@@ -20,7 +21,6 @@ use tcc_reads::resolve;
 use tcc_rows::snapshot_of;
 use tcc_steal::{AllStart, Crew, Found, Gate, OpenGate, search, search_with};
 use tcc_txn::NoMemory;
-use tcc_workers::Workers;
 
 /// a/1 writes x, but a/2 reads its initial value, and so in session b with y: two cycles of three steps, over a/1 and over
 /// b/1, each by way of `init`.

@@ -3,6 +3,7 @@
 
 mod alike;
 mod by_name;
+mod key_hints;
 mod key_numbers;
 mod limits;
 mod list;
@@ -18,6 +19,7 @@ mod symbols;
 mod txn;
 
 pub use alike::{Alike, are_same};
+pub use key_hints::KeyHints;
 pub use key_numbers::KeyNumbers;
 pub use limits::{
     Bounds, LARGE_COUNT, LARGE_INPUT_BYTES, LARGE_KEYS, LARGE_SESSIONS, LARGE_TRANSACTIONS,

@@ -1,6 +1,6 @@
 //! Sessions as a large snapshot holds them. Each key stands once in a symbol table, an operation has its number there
 //! and takes 16 bytes, and the operations of a session stand one behind the other, as the edges of an adjacency list in
-//! compressed rows. One more transaction costs a look-up for each of its operations.
+//! compressed rows. One more transaction costs a look-up for each of its operations whose key's number isn't told.
 ghost use Rattle.std.specs.Prelude.{◌≡◌, ◌≤◌, ◌<◌, ◌⊎◌, ◌++◌, ◌∷◌, [], T, List, None, IfErr, IfOk, OnErr, OnOk, length, option_map, slice_get};
 ghost use Rattle.std.specs.Prelude.{unwrap_or, ◌+◌, All, flat_map, map};
 ghost use Rattle.std.specs.Cmp.Lexicographic.{slice_cmp};
@@ -12,7 +12,7 @@ ghost use Rattle.tcc_txn.specs.private.Packing.{AllPacked, ArePacked, PacksOps, 
 
 use crate::by_name::part_of;
 use crate::symbols::{SymbolTable, number_of};
-use crate::{GrowFault, KeyNumbers, Limits, Name, NoMemory, Op, Recorded, Txn};
+use crate::{GrowFault, KeyHints, KeyNumbers, Limits, Name, NoMemory, Op, Recorded, Txn};
 use std::alloc::Global;
 use std::marker::Model;
 
@@ -80,13 +80,13 @@ impl PackedOp {
     }
 }
 
-/// The operation with the number of its key, which is named if it isn't yet.
-fn pack(keys: &mut SymbolTable, op: &Op) -> Result<PackedOp, NoMemory>
+/// The operation with the number of its key, which is named if it isn't yet; the number is told, or looked up.
+fn pack(keys: &mut SymbolTable, op: &Op, told: Option<u32>) -> Result<PackedOp, NoMemory>
     ensures within { IfOk result (λ packed. packed.key < length keys.new) }
     ensures same { IfOk result (λ packed. op_in keys.new packed ≡ op.now) }
     ensures more { IsPrefix keys.old keys.new }
 {
-    let key = keys.number(op.key())?;
+    let key = keys.number_from(op.key(), told)?;
     Ok(PackedOp {
         key,
         is_put: matches!(op, Op::Put { .. }),
@@ -95,20 +95,31 @@ fn pack(keys: &mut SymbolTable, op: &Op) -> Result<PackedOp, NoMemory>
 }
 
 /// Operations, packed behind those that there are.
-fn pack_each(keys: &mut SymbolTable, packed: &mut Vec<PackedOp>, ops: &[Op]) -> Result<(), NoMemory>
+fn pack_each(
+    keys: &mut SymbolTable,
+    packed: &mut Vec<PackedOp>,
+    ops: &[Op],
+    numbers: &[u32],
+) -> Result<(), NoMemory>
     ensures packed { OnOk result ((more : List PackedOp) × (packed.new.items ≡ packed.old.items ++ more) × PacksOps keys.new more ops.now) }
     ensures behind { IsPrefix packed.old.items packed.new.items }
     ensures more { IsPrefix keys.old keys.new }
 {
+    let mut told = numbers.iter();
     for op in ops {
-        let op = pack(keys, op)?;
+        let op = pack(keys, op, told.next().copied())?;
         packed.push(op)?;
     }
     Ok(())
 }
 
 /// One more transaction of a session. Where memory is refused, some of its operations may stand behind those that there were.
-fn pack_behind(keys: &mut SymbolTable, txns: &mut PackedTxns, txn: &Txn) -> Result<(), NoMemory>
+fn pack_behind(
+    keys: &mut SymbolTable,
+    txns: &mut PackedTxns,
+    txn: &Txn,
+    told: KeyHints<'_>,
+) -> Result<(), NoMemory>
     requires { ArePacked keys.old txns.old }
     ensures added { OnOk result (txns_in keys.new txns.new ≡ txns_in keys.old txns.old ++ txn.now ∷ []) }
     ensures packed { OnOk result (ArePacked keys.new txns.new) }
@@ -118,7 +129,8 @@ fn pack_behind(keys: &mut SymbolTable, txns: &mut PackedTxns, txn: &Txn) -> Resu
 {
     let ops = txn.ops();
     let start = number_of(txns.ops.len())?;
-    pack_each(keys, &mut txns.ops, ops)?;
+    keys.learn(told.names_from(keys.len()))?;
+    pack_each(keys, &mut txns.ops, ops, told.numbers)?;
     txns.spans.push(Span {
         start,
         len: ops.len() as u16,
@@ -128,7 +140,12 @@ fn pack_behind(keys: &mut SymbolTable, txns: &mut PackedTxns, txn: &Txn) -> Resu
 }
 
 /// One more transaction of a session; refused, they are as they were.
-fn push_packed(keys: &mut SymbolTable, txns: &mut PackedTxns, txn: &Txn) -> Result<(), GrowFault>
+fn push_packed(
+    keys: &mut SymbolTable,
+    txns: &mut PackedTxns,
+    txn: &Txn,
+    told: KeyHints<'_>,
+) -> Result<(), GrowFault>
     requires { ArePacked keys.old txns.old }
     ensures added { OnOk result (txns_in keys.new txns.new ≡ txns_in keys.old txns.old ++ txn.now ∷ []) }
     ensures kept { OnErr result (txns_in keys.new txns.new ≡ txns_in keys.old txns.old) }
@@ -137,7 +154,7 @@ fn push_packed(keys: &mut SymbolTable, txns: &mut PackedTxns, txn: &Txn) -> Resu
     ensures refused { IfErr result (λ k. k ≡ GrowFault.NoMemory) }
 {
     let count = txns.ops.len();
-    match pack_behind(keys, txns, txn) {
+    match pack_behind(keys, txns, txn, told) {
         Ok(()) => Ok(()),
         Err(_) => {
             txns.ops.truncate(count);
@@ -147,7 +164,12 @@ fn push_packed(keys: &mut SymbolTable, txns: &mut PackedTxns, txn: &Txn) -> Resu
 }
 
 /// The transactions of a session that has this one alone.
-fn first_packed(keys: &mut SymbolTable, alloc: Global, txn: &Txn) -> Result<PackedTxns, GrowFault>
+fn first_packed(
+    keys: &mut SymbolTable,
+    alloc: Global,
+    txn: &Txn,
+    told: KeyHints<'_>,
+) -> Result<PackedTxns, GrowFault>
     ensures first { IfOk result (λ txns. txns_in keys.new txns ≡ txn.now ∷ []) }
     ensures packed { IfOk result (λ txns. ArePacked keys.new txns) }
     ensures more { IsPrefix keys.old keys.new }
@@ -157,7 +179,7 @@ fn first_packed(keys: &mut SymbolTable, alloc: Global, txn: &Txn) -> Result<Pack
         ops: Vec::new(alloc),
         spans: Vec::new(alloc),
     };
-    push_packed(keys, &mut txns, txn)?;
+    push_packed(keys, &mut txns, txn, told)?;
     Ok(txns)
 }
 
@@ -169,6 +191,7 @@ fn add_packed(
     alloc: Global,
     session: Name,
     txn: &Txn,
+    told: KeyHints<'_>,
 ) -> Result<(), GrowFault>
     requires sorted { T (is_sorted (slice_cmp nat_cmp) parts.old.items) }
     requires packed { AllPacked keys.old parts.old.items }
@@ -182,12 +205,12 @@ fn add_packed(
     ensures packed { AllPacked keys.new parts.new.items }
 {
     match part_of(parts, &session) {
-        Ok(at) => push_packed(keys, &mut parts[at].1, txn),
+        Ok(at) => push_packed(keys, &mut parts[at].1, txn, told),
         Err(at) => {
             if parts.len() >= limits.sessions() {
                 return Err(GrowFault::TooManySessions);
             }
-            let first = first_packed(keys, alloc, txn)?;
+            let first = first_packed(keys, alloc, txn, told)?;
             parts.insert(at, (session, first))?;
             Ok(())
         }
@@ -313,6 +336,7 @@ impl PackedSessions {
         alloc: Global,
         session: Name,
         txn: &Txn,
+        told: KeyHints<'_>,
     ) -> Result<(), GrowFault>
         requires { T (is_sorted (slice_cmp nat_cmp) self.old) }
         ensures added { OnOk result (self.new ≡ put (slice_cmp nat_cmp) session (unwrap_or (find (slice_cmp nat_cmp) session self.old) [] ++ txn.now ∷ []) self.old) }
@@ -328,6 +352,7 @@ impl PackedSessions {
             alloc,
             session,
             txn,
+            told,
         )
     }
 }

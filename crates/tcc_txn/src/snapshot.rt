@@ -18,8 +18,8 @@ ghost use Rattle.std.specs.Option.{option_map_or};
 use crate::by_name::part_of;
 use crate::storage::Storage;
 use crate::{
-    Alike, Bounds, KeyNumbers, LargeLimits, Limits, MAX_SESSIONS, MAX_TRANSACTIONS, Name, NoMemory,
-    Recorded, SmallLimits, Txn,
+    Alike, Bounds, KeyHints, KeyNumbers, LargeLimits, Limits, MAX_SESSIONS, MAX_TRANSACTIONS, Name,
+    NoMemory, Recorded, SmallLimits, Txn,
 };
 use std::alloc::{AllocFailed, Global};
 use std::collections::BTreeSet;
@@ -373,11 +373,27 @@ impl<B: Bounds> SnapshotWithin<B> {
         ensures kept { OnErr result (self.new ≡ self.old) }
         ensures refused { IsWithinLimits B.limits (with_transaction self.old session txn) → IfErr result (λ k. k ≡ GrowFault.NoMemory) }
     {
+        self.add_told(alloc, session, txn, KeyHints::none())
+    }
+
+    /// The session has finished one more transaction, just as `add` has it. What is told of the keys saves their look-ups.
+    /// Each is compared, so nothing else depends on it.
+    pub fn add_told(
+        &mut self,
+        alloc: Global,
+        session: Name,
+        txn: Txn,
+        told: KeyHints<'_>,
+    ) -> Result<(), GrowFault>
+        ensures added { OnOk result (self.new ≡ with_transaction self.old session txn) }
+        ensures kept { OnErr result (self.new ≡ self.old) }
+        ensures refused { IsWithinLimits B.limits (with_transaction self.old session txn) → IfErr result (λ k. k ≡ GrowFault.NoMemory) }
+    {
         let limits = B::limits();
         if self.transactions >= limits.transactions() {
             return Err(GrowFault::TooManyTransactions);
         }
-        match self.sessions.add(limits, alloc, session, txn) {
+        match self.sessions.add(limits, alloc, session, txn, told) {
             Ok(()) => {
                 self.transactions += 1;
                 Ok(())

@@ -8,7 +8,7 @@ ghost use Rattle.tcc_txn.specs.{Limits.most_sessions, Snapshots.listed_at, Snaps
 use crate::key_numbers::numbered;
 use crate::packed::PackedSessions;
 use crate::snapshot::add_to;
-use crate::{GrowFault, KeyNumbers, Limits, Name, NoMemory, Recorded, Txn};
+use crate::{GrowFault, KeyHints, KeyNumbers, Limits, Name, NoMemory, Recorded, Txn};
 use std::alloc::Global;
 
 /// The sessions of a snapshot.
@@ -117,6 +117,7 @@ impl Storage {
         alloc: Global,
         session: Name,
         txn: Txn,
+        told: KeyHints<'_>,
     ) -> Result<(), GrowFault>
         requires { T (is_sorted (slice_cmp nat_cmp) (parts_in self.old)) }
         ensures added { OnOk result (parts_in self.new ≡ put (slice_cmp nat_cmp) session
@@ -130,7 +131,7 @@ impl Storage {
     {
         match self {
             Storage::Plain(parts) => add_to(parts, limits, alloc, session, txn),
-            Storage::Packed(sessions) => sessions.add(limits, alloc, session, &txn),
+            Storage::Packed(sessions) => sessions.add(limits, alloc, session, &txn, told),
         }
     }
 }

@@ -2,7 +2,7 @@
 //! cache of numbers and compares one name; where that is another one it goes down a B-tree, by as many comparisons as
 //! the logarithm of their count.
 ghost use Rattle.std.specs.Prelude.{◌≡◌, ◌++◌, ◌∷◌, [], false, IfOk, IfSome, MatchOption, OnErr, OnOk, length};
-ghost use Rattle.tcc_txn.specs.Symbols.{IsNumber, is_symbol, with_symbol};
+ghost use Rattle.tcc_txn.specs.{Nested.IsPrefix, Symbols.IsNumber, Symbols.is_symbol, Symbols.with_symbol};
 
 use crate::{Name, Nearby, NoMemory};
 use std::alloc::Global;
@@ -72,15 +72,21 @@ impl SymbolTable {
         self.names
     }
 
-    /// The number of a name that the cache knows; none says nothing.
-    fn near(&self, name: &Name) -> Option<u32>
+    /// The number, where the name stands at it; none says nothing.
+    fn checked(&self, name: &Name, number: u32) -> Option<u32>
         ensures { IfSome result (λ n. IsNumber self.now name.now n) }
     {
-        let number = self.nearby.number(name);
         match self.names.get(number as usize) {
             Some(known) => { if *known == *name { Some(number) } else { None } }
             None => None,
         }
+    }
+
+    /// The number of a name that the cache knows; none says nothing.
+    fn near(&self, name: &Name) -> Option<u32>
+        ensures { IfSome result (λ n. IsNumber self.now name.now n) }
+    {
+        self.checked(name, self.nearby.number(name))
     }
 
     /// The number that the map has for a name.
@@ -157,5 +163,29 @@ impl SymbolTable {
             return Ok(number);
         }
         self.push(name)
+    }
+
+    /// The number of the name, as `number` gives it. Where it is the one that is told, that costs no look-up.
+    pub(crate) fn number_from(&mut self, name: Name, told: Option<u32>) -> Result<u32, NoMemory>
+        ensures number { IfOk result (λ n. IsNumber self.new name n) }
+        ensures once { OnOk result (self.new ≡ with_symbol name self.old) }
+        ensures kept { OnErr result (self.new ≡ self.old) }
+    {
+        if let Some(told) = told {
+            if let Some(number) = self.checked(&name, told) {
+                return Ok(number);
+            }
+        }
+        self.number(name)
+    }
+
+    /// Has these names too.
+    pub(crate) fn learn(&mut self, names: &[Name]) -> Result<(), NoMemory>
+        ensures { IsPrefix self.old self.new }
+    {
+        for name in names {
+            self.number(*name)?;
+        }
+        Ok(())
     }
 }

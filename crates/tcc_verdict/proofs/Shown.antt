@@ -22,7 +22,7 @@ use Rattle.tcc_print.specs.declared.halt.Halt.TheVariants.{Row, Reads, Text, NoM
 use Rattle.tcc_print.specs.declared.status.Status.TheVariants as status
 use Rattle.tcc_print.specs.Statuses.{certificate_status, code_of, halt_status, row_status, verdict_status}
 use Rattle.tcc_print.specs.Printed.{Prints, PrintsOrMemory, memory_line}
-use Rattle.tcc_verdict.specs.Checking.{Check, IsOfRecords, IsRun, MayBe, PrintsOutcome}
+use Rattle.tcc_verdict.specs.Checking.{Check, IsOfRecords, IsCheckRunBy, MayBe, PrintsOutcome}
 use Rattle.tcc_verdict.specs.private.Stages.{TellsHalts}
 use Rattle.tcc_verdict.specs.Checks.{IsCheckRun, IsShown, small_check}
 
@@ -76,7 +76,7 @@ module _ {J : Type 0} (check : Check J) (records text : List ℕ) where
     outcome_succeeds (Err why) may success = absurd (halt_fails why (subst (λ s. code_of s ≡ 0) (tells.status why) success))
 
     -- a run that ends with success has such a judgement
-    pub run_succeeds : (before after : Option (List ℕ)) (code : ℕ) → IsRun check records text before after code → code ≡ 0
+    pub run_succeeds : (before after : Option (List ℕ)) (code : ℕ) → IsCheckRunBy check records text before after code → code ≡ 0
         → Succeeds check records text
     run_succeeds before after code (o, may, inl whole) zero = outcome_succeeds o may (sym whole.1 ∙ zero)
     run_succeeds before after code (o, may, inr part) zero = absurd (not_zero (sym part.1 ∙ zero))
@@ -90,7 +90,7 @@ module _ {J : Type 0} (check : Check J) (tells : TellsHalts check) (before after
 
   -- what is printed of the outcome, or of `NoMemory` in its place, is what a run may print
   pub run_of : (records text : List ℕ) → MayBe check records text o → PrintsOrMemory false before after (check.text o) (check.status o) code
-      → IsRun check records text before after code
+      → IsCheckRunBy check records text before after code
   run_of records text may (inl prints) = (o, may, prints)
   run_of records text may (inr prints) = (Err NoMemory, inr (inr refl), memory prints)
 

@@ -24,13 +24,13 @@ pub record Check (J : Type 0) : Type 1 where
   pub status : Result J Halt → Status
 
 -- all read faults
-abbrev pub AreReads : {J : Type 0} → Sessions → Result J Halt → Type 0
-AreReads s (Err (Reads faults)) = faults.items ≡ read_faults s
-AreReads s _ = ⊥
+abbrev pub AreReadFaults : {J : Type 0} → Sessions → Result J Halt → Type 0
+AreReadFaults s (Err (Reads faults)) = faults.items ≡ read_faults s
+AreReadFaults s _ = ⊥
 
 -- what comes of a snapshot: its read faults where there are any, else what comes of the text
 abbrev pub IsOfSnapshot : {J : Type 0} → Check J → Sessions → List ℕ → Result J Halt → Type 0
-IsOfSnapshot check s text o = ((read_faults s ≢ []) × AreReads s o) ⊎ ((read_faults s ≡ []) × check.of_text s text o)
+IsOfSnapshot check s text o = ((read_faults s ≢ []) × AreReadFaults s o) ⊎ ((read_faults s ≡ []) × check.of_text s text o)
 
 -- what comes of the records: their fault, else what comes of the snapshot of all that was finished, whatever was sealed
 abbrev pub IsOfRecords : {J : Type 0} → Check J → List Item → Option RowFault → List ℕ → Result J Halt → Type 0
@@ -56,6 +56,6 @@ abbrev pub PrintsOutcome : {J : Type 0} → Check J → Option (List ℕ) → Op
 PrintsOutcome {J} check before after code = (o : Result J Halt) × Prints before after (check.text o) (check.status o) code
 
 -- what a run does with the bytes
-abbrev pub IsRun : {J : Type 0} → Check J → List ℕ → List ℕ → Option (List ℕ) → Option (List ℕ) → ℕ → Type 0
-IsRun {J} check records text before after code =
+abbrev pub IsCheckRunBy : {J : Type 0} → Check J → List ℕ → List ℕ → Option (List ℕ) → Option (List ℕ) → ℕ → Type 0
+IsCheckRunBy {J} check records text before after code =
     (o : Result J Halt) × MayBe check records text o × Prints before after (check.text o) (check.status o) code

@@ -20,7 +20,7 @@ use Rattle.tcc_print.specs.declared.halt.Halt.{Halt}
 use Rattle.tcc_print.specs.declared.halt.Halt.TheVariants.{Text}
 use Rattle.tcc_print.specs.Printed.{check_text}
 use Rattle.tcc_print.specs.Statuses.{check_status}
-use Rattle.tcc_verdict.specs.Checking.{Check, IsOfRecords, IsOfSnapshot, IsOutcome, IsRun, MayBe, PrintsOutcome}
+use Rattle.tcc_verdict.specs.Checking.{Check, IsOfRecords, IsOfSnapshot, IsOutcome, IsCheckRunBy, MayBe, PrintsOutcome}
 
 -- what comes of the certificate's text, for a history: the claim of the certificate that it is the text of and the verdict
 -- on that certificate, else its first fault, or that of a reader that failed before
@@ -61,7 +61,7 @@ PrintsSome before after code = PrintsOutcome small_check before after code
 
 -- what a run does with the bytes
 abbrev pub IsCheckRun : List ℕ → List ℕ → Option (List ℕ) → Option (List ℕ) → ℕ → Type 0
-IsCheckRun records text before after code = IsRun small_check records text before after code
+IsCheckRun records text before after code = IsCheckRunBy small_check records text before after code
 
 -- the bytes are those of a history without faults and the text of a certificate for it, whose claim is true: its order is
 -- a commit order, or its links are a least cycle and cost what is claimed

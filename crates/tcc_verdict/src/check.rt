@@ -1,5 +1,6 @@
 //! From the bytes of a history and of a certificate to the verdict.
 ghost use Rattle.std.specs.Prelude.{◌≡◌, IfSome};
+ghost use Rattle.tcc_print.specs.Notes.{AddsEach, resolved_notes};
 ghost use Rattle.tcc_verdict.specs.private.Stages.{MayBeTextCheck};
 ghost use Rattle.tcc_verdict.specs.Checks.{IsCheckRun, IsShown, PrintsSome};
 
@@ -12,6 +13,7 @@ use tcc_graph::Graph;
 use tcc_print::Halt;
 use tcc_print::notes::note_reads;
 use tcc_print::printing::print_check;
+use tcc_base::{Progress, Unwatched};
 use tcc_reads::{ResolveFault, resolve};
 use tcc_txn::{Bounds, SmallLimits, Snapshot, SnapshotWithin};
 
@@ -22,7 +24,8 @@ pub fn noted<T, B: Bounds, N: Write>(
     resolved: Result<T, ResolveFault>,
     notes: &mut N,
 ) -> Result<T, ResolveFault>
-    ensures { result ≡ resolved }
+    ensures resolved { result ≡ resolved }
+    ensures notes { AddsEach (N.contents notes.old) (N.contents notes.new) (resolved_notes snapshot.now resolved) }
 {
     if let Err(ResolveFault::Reads(faults)) = &resolved {
         note_reads(alloc, snapshot, faults, notes);
@@ -59,7 +62,12 @@ impl Checker for Graph {
         Ok(graph)
     }
 
-    fn judged<R: Read + Drop>(&self, alloc: Global, reader: R) -> Result<Judgement, Halt> {
+    fn judged<R: Read + Drop, P: Progress>(
+        &self,
+        alloc: Global,
+        reader: R,
+        _progress: &P,
+    ) -> Result<Judgement, Halt> {
         judged(alloc, self, reader)
     }
 
@@ -84,5 +92,5 @@ pub fn run_check<H: Read + Drop, C: Read + Drop, W: Write, N: Write>(
     ensures shown { IfSome (H.remaining history) (λ records. IfSome (C.remaining certificate) (λ text. result ≡ 0 → IsShown records text)) }
 {
     certified();
-    run_checker::<Graph, H, C, W, N>(alloc, history, certificate, out, notes)
+    run_checker::<Graph, H, C, W, N, Unwatched>(alloc, history, certificate, out, notes, &Unwatched)
 }

@@ -1,13 +1,14 @@
 //! The run of a check, whatever history it makes of the records and however it judges a certificate.
 ghost use Rattle.std.specs.Prelude.{◌≡◌, Ok, IfSome, MatchResult};
 ghost use Rattle.tcc_rows.specs.Recordings.{IsRecorded};
-ghost use Rattle.tcc_verdict.specs.Checking.{IsRun, MayBe, PrintsOutcome};
+ghost use Rattle.tcc_verdict.specs.Checking.{IsCheckRunBy, MayBe, PrintsOutcome};
 ghost use Rattle.tcc_verdict.specs.private.Stages.{IsMadeOf};
 
 use crate::stopping::note_stop;
 use std::alloc::Global;
 use std::io::{Read, Write};
 use tcc_print::Halt;
+use tcc_base::Progress;
 use tcc_rows::{RecordingWithin, RowFault, RowFaultKind};
 use tcc_txn::{Bounds, SnapshotWithin};
 
@@ -15,7 +16,8 @@ use tcc_txn::{Bounds, SnapshotWithin};
 pub trait Checker: Drop {
     ghost use Rattle.std.specs.Prelude.{◌≡◌, IfSome, false};
     ghost use Rattle.tcc_txn.specs.Snapshots.{Sessions};
-    ghost use Rattle.tcc_print.specs.Printed.{PrintsOrMemory};
+    ghost use Rattle.tcc_print.specs.{Notes.AddsEach, Notes.read_notes, Printed.PrintsOrMemory};
+    ghost use Rattle.tcc_reads.specs.Faults.{read_faults};
     ghost use Rattle.tcc_verdict.specs.Checking.{Check};
     ghost use Rattle.tcc_verdict.specs.private.Stages.{IsCheckWithin, MayBeOfText, MayBeResolution};
 
@@ -35,10 +37,16 @@ pub trait Checker: Drop {
         snapshot: &SnapshotWithin<Self::Limits>,
         notes: &mut N,
     ) -> Result<Self, Halt>
-        ensures { MayBeResolution is_made snapshot.now result };
+        ensures made { MayBeResolution is_made snapshot.now result }
+        ensures notes { AddsEach (N.contents notes.old) (N.contents notes.new) (read_notes snapshot.now (read_faults snapshot.now)) };
 
-    /// What the certificate claims whose text the reader gives, and the verdict on it.
-    fn judged<R: Read + Drop>(&self, alloc: Global, reader: R) -> Result<Self::Judgement, Halt>
+    /// What the certificate claims whose text the reader gives, and the verdict on it. `progress` may be told how far this is.
+    fn judged<R: Read + Drop, P: Progress>(
+        &self,
+        alloc: Global,
+        reader: R,
+        progress: &P,
+    ) -> Result<Self::Judgement, Halt>
         ensures { IfSome (R.remaining reader) (λ text. (s : Sessions) → is_made s self.now → MayBeOfText check s text result) };
 
     /// Writes the outcome, and gives the status of the run. Where memory is out, that is written in its place.
@@ -87,34 +95,36 @@ fn history_of<C: Checker, R: Read + Drop, N: Write>(
 }
 
 /// The verdict on the certificate for the history, or the first fault of the two.
-fn checked<C: Checker, H: Read + Drop, R: Read + Drop, N: Write>(
+fn checked<C: Checker, H: Read + Drop, R: Read + Drop, N: Write, P: Progress>(
     alloc: Global,
     history: H,
     certificate: R,
     notes: &mut N,
+    progress: &P,
 ) -> Result<C::Judgement, Halt>
     ensures { IfSome (H.remaining history) (λ records. IfSome (R.remaining certificate) (λ text. MayBe C.check records text result)) }
 {
     let graph = history_of::<C, H, N>(alloc, history, notes)?;
-    graph.judged(alloc, certificate)
+    graph.judged(alloc, certificate, progress)
 }
 
 /// Writes the verdict on the certificate for the history, or the first fault of the two, and gives the status of the
-/// run. What to mend, where records or reads have faults, goes to the notes.
-pub fn run_checker<C: Checker, H: Read + Drop, R: Read + Drop, W: Write, N: Write>(
+/// run. What to mend, where records or reads have faults, goes to the notes. `progress` may be told how far the judgement is.
+pub fn run_checker<C: Checker, H: Read + Drop, R: Read + Drop, W: Write, N: Write, P: Progress>(
     alloc: Global,
     history: H,
     certificate: R,
     out: &mut W,
     notes: &mut N,
+    progress: &P,
 ) -> u8
     ensures run { IfSome (H.remaining history)
-        (λ records. IfSome (R.remaining certificate) (λ text. IsRun C.check records text (W.contents out.old) (W.contents out.new) result)) }
+        (λ records. IfSome (R.remaining certificate) (λ text. IsCheckRunBy C.check records text (W.contents out.old) (W.contents out.new) result)) }
     ensures printed { PrintsOutcome C.check (W.contents out.old) (W.contents out.new) result }
 {
     C::print(
         alloc,
-        &checked::<C, H, R, N>(alloc, history, certificate, notes),
+        &checked::<C, H, R, N, P>(alloc, history, certificate, notes, progress),
         out,
     )
 }

@@ -1,5 +1,5 @@
 -- Histories that are one but for the numbers of their transactions have a cycle both or neither.
-use Rattle.std.proofs.Common.{ℕ, map, List}
+use Rattle.std.proofs.Common.{ℕ, map}
 use Rattle.tcc_reads.specs.History.{History}
 use Rattle.tcc_graph.specs.Levels.{judged}
 use Rattle.tcc_graph.specs.Routes.{HasCycle}

@@ -1,14 +1,14 @@
 -- A transaction that comes last: what is there keeps its pairs, walks and reasons, and all that is new has it as its end or its reader.
-use Rattle.std.proofs.Common.{ℕ, zero, suc, ◌+◌, ◌-◌, ◌≡◌, ◌<◌, ◌≤◌, ◌==◌, ◌||◌, ◌⊎◌, inl, inr, true, List, [], ◌∷◌, ◌++◌, length, map, filter, get_or, refl, sym, ap, subst, ◌∙◌, arith, length-append}
+use Rattle.std.proofs.Common.{ℕ, ◌+◌, ◌≡◌, ◌<◌, ◌≤◌, ◌==◌, ◌||◌, ◌⊎◌, inl, inr, true, List, [], ◌∷◌, map, filter, refl, sym, ap, subst, ◌∙◌, arith, length-append}
 use Rattle.std.specs.Prelude.{All}
 use Rattle.std.specs.List.{Contains}
 use Rattle.std.proofs.Math.ListN.{get_or-append}
 use Rattle.std.proofs.lemmas.List.{get_or_push}
 use Rattle.std.proofs.lemmas.Bool.{cases_lt}
 use Rattle.tcc_reads.specs.History.{Entry, History, count, entry_at, owner, place, initial}
-use Rattle.tcc_graph.specs.Relations.{IsSessionPair, IsReadsPair, reads_from, IsCausalPair}
+use Rattle.tcc_graph.specs.Relations.{IsSessionPair, IsReadsPair, IsCausalPair}
 use Rattle.tcc_graph.specs.Keys.{has_name, IsWriter}
-use Rattle.tcc_graph.specs.Walks.{step_from, step_to, IsStep, Leads, IsWalk, IsReached}
+use Rattle.tcc_graph.specs.Walks.{step_to, IsStep, Leads, IsReached}
 use Rattle.tcc_graph.specs.Levels.{judged}
 use Rattle.tcc_graph.specs.Links.{IsReason, IsLink, link_from, link_to}
 use Rattle.tcc_graph.specs.Routes.{LinksLead, HasCycle}
@@ -18,10 +18,10 @@ use Rattle.tcc_graph.specs.declared.step.Step.TheVariants as step
 use Rattle.tcc_graph.specs.declared.link.Link.{Link}
 use Rattle.tcc_graph.specs.declared.link.Link.TheVariants as link
 use Rattle.tcc_graph.proofs.Kept.{IsKept, kept_link, same_link, kept_walk}
-use Rattle.tcc_graph.proofs.Pairs.{PairParts, pair_parts, lower_first, initial_pair, step_pair}
+use Rattle.tcc_graph.proofs.Pairs.{PairParts, pair_parts, lower_first, initial_pair}
 use Rattle.tcc_watch.specs.Delivered.{IsBy, IsDelivered, MayCome, with_last}
 use Rattle.tcc_watch.specs.private.Rows.{IsRouted}
-use Rattle.tcc_watch.proofs.Rising.{pair_rises, session_rises, read_rises, leads_rise, walk_rises}
+use Rattle.tcc_watch.proofs.Rising.{session_rises, read_rises, leads_rise, walk_rises}
 
 module _ (h : History) (e : Entry) where
   abbrev g : History

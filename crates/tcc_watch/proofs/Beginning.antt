@@ -1,13 +1,12 @@
 -- A history with `init` alone: all is known of it.
-use Rattle.std.proofs.Common.{ℕ, zero, suc, ◌≡◌, ◌<◌, ◌⊎◌, inl, inr, List, [], ◌∷◌, length, slice_index, refl, sym, ap, subst, ◌∙◌, arith}
+use Rattle.std.proofs.Common.{ℕ, zero, suc, ◌≡◌, ◌<◌, inl, inr, List, [], ◌∷◌, length, slice_index, refl, sym, subst, arith}
 use Rattle.std.specs.Prelude.{All, slice_index_or}
 use Rattle.std.proofs.lemmas.List.Elements.{All-nil}
-use Rattle.tcc_reads.specs.History.{History, count, entry_at, initial, owner, place}
+use Rattle.tcc_reads.specs.History.{History, entry_at, owner, place}
 use Rattle.tcc_graph.specs.Relations.{IsCausalPair}
 use Rattle.tcc_graph.specs.Tables.{row_of}
 use Rattle.tcc_graph.specs.Levels.{causally}
-use Rattle.tcc_graph.specs.Links.{IsLink, link_from, link_to}
-use Rattle.tcc_graph.specs.Walks.{IsReached}
+use Rattle.tcc_graph.specs.Links.{IsLink}
 use Rattle.tcc_graph.specs.declared.link.Link.{Link}
 use Rattle.tcc_graph.specs.declared.link.Link.TheVariants as link
 use Rattle.tcc_graph.proofs.Pairs.{pair_below}
@@ -15,12 +14,12 @@ use Rattle.tcc_watch.specs.Delivered.{IsDelivered}
 use Rattle.tcc_watch.specs.declared.at.At.{At}
 use Rattle.tcc_watch.specs.declared.delivered.Delivered.{Delivered}
 use Rattle.tcc_watch.specs.declared.linking.SessionWriters.{SessionWriters}
-use Rattle.tcc_watch.specs.private.Rows.{IsUpTo, AreOrdered, AreStands, AreMembers, AreSound, IsRouted, OrdersPairs, OrdersLinks}
+use Rattle.tcc_watch.specs.private.Rows.{IsUpTo, AreOrdered, AreStands, AreMembers}
 use Rattle.tcc_watch.specs.private.Links.{AreWriters, IsClosure}
 use Rattle.tcc_watch.specs.private.Tables.{AreClocks}
 use Rattle.tcc_watch.specs.private.Writers.{lists_in}
 use Rattle.tcc_watch.specs.private.Delivering.{IsState, before_all}
-use Rattle.tcc_watch.proofs.Rising.{pair_rises, read_rises}
+use Rattle.tcc_watch.proofs.Rising.{pair_rises}
 
 module _ (sessions : List (List ℕ)) where
   abbrev h : History

@@ -1,8 +1,7 @@
 -- What is known of a history, when a transaction is taken in.
-use Rattle.std.proofs.Common.{Bool, true, false, not, ◌≡◌, subst}
+use Rattle.std.proofs.Common.{Bool, true, false, not, ◌≡◌}
 use Rattle.tcc_reads.specs.History.{History}
 use Rattle.tcc_graph.specs.Levels.{causally}
-use Rattle.tcc_graph.specs.Routes.{HasCycle}
 use Rattle.tcc_graph.specs.declared.level.Level.TheVariants as level
 use Rattle.tcc_watch.specs.declared.delivered.Delivered.{Delivered}
 use Rattle.tcc_watch.specs.private.Tables.{Arriving, after}

@@ -1,18 +1,18 @@
 -- What was delivered of a snapshot is its history but for the numbers.
-use Rattle.std.proofs.Common.{ℕ, zero, suc, ◌≡◌, ◌≢◌, ◌<◌, ◌≤◌, ◌==◌, ◌⊎◌, inl, inr, true, List, [], map, filter, refl, sym, ap, subst, ◌∙◌, arith}
+use Rattle.std.proofs.Common.{ℕ, ◌≡◌, ◌≢◌, ◌<◌, ◌≤◌, ◌==◌, ◌⊎◌, inl, inr, true, List, [], map, filter, refl, sym, ap, subst, ◌∙◌, arith}
 use Rattle.std.specs.List.{Contains}
-use Rattle.std.proofs.lemmas.Bool.{cases_lt, cases_eq, eqb-true, eq-eqb}
+use Rattle.std.proofs.lemmas.Bool.{cases_lt, cases_eq, eq-eqb}
 use Rattle.tcc_txn.specs.Snapshots.{Sessions}
-use Rattle.tcc_txn.proofs.Lists.{in_filter, from_filter, in_map, from_map}
+use Rattle.tcc_txn.proofs.Lists.{in_filter, in_map, from_map}
 use Rattle.tcc_reads.specs.Faults.{read_faults}
-use Rattle.tcc_reads.specs.History.{Entry, History, count, entry_at, owner, place}
+use Rattle.tcc_reads.specs.History.{Entry, History, count, entry_at, place}
 use Rattle.tcc_reads.specs.OneSource.{Gives, IsNumber, HasOneSource}
 use Rattle.tcc_reads.specs.Sites.{Stand, stands}
-use Rattle.tcc_reads.specs.Sources.{external_reads, source, pair_cmp, history, reads_of, writes_of}
+use Rattle.tcc_reads.specs.Sources.{external_reads, source, pair_cmp, history, reads_of}
 use Rattle.tcc_reads.proofs.OneSource.{one_source}
 use Rattle.tcc_graph.specs.Relations.{IsSessionPair, IsReadsPair, reads_from}
 use Rattle.tcc_graph.specs.Keys.{has_name}
-use Rattle.tcc_graph.proofs.Pairs.{PairParts, pair_parts, lower_first}
+use Rattle.tcc_graph.proofs.Pairs.{pair_parts, lower_first}
 use Rattle.tcc_slices.proofs.Elements.{once_in, once_from, reads_apart}
 use Rattle.tcc_slices.proofs.Numbered.{number_some, number_below, entry_is, place_is}
 use Rattle.tcc_watch.specs.Delivered.{AreAlike, CarriesOver, ComesFrom, IsAs, IsDeliveryOf}

@@ -1,14 +1,13 @@
 -- One transaction more: what is known before, and after it is taken in.
-use Rattle.std.proofs.Common.{ℕ, ◌+◌, ◌≡◌, ◌<◌, ◌==◌, ◌||◌, ◌⊎◌, inl, inr, Bool, true, false, List, [], ◌∷◌, length, get_or, refl, sym, ap, subst, ◌∙◌, arith}
+use Rattle.std.proofs.Common.{ℕ, ◌+◌, ◌≡◌, ◌<◌, ◌==◌, ◌||◌, ◌⊎◌, inl, inr, Bool, true, false, List, [], length, get_or, refl, sym, ap, subst, ◌∙◌, arith}
 use Rattle.std.specs.List.{Contains}
 use Rattle.std.proofs.lemmas.Bool.{cases_eq, or_cases, or_right, eqb-true}
 use Rattle.std.proofs.lemmas.List.{get_or_read}
-use Rattle.tcc_reads.specs.History.{Entry, History, count, entry_at, owner}
+use Rattle.tcc_reads.specs.History.{Entry, History, count, entry_at}
 use Rattle.tcc_graph.specs.Relations.{IsReadsPair}
-use Rattle.tcc_graph.specs.Keys.{has_name, writes, IsWriter}
+use Rattle.tcc_graph.specs.Keys.{has_name, IsWriter}
 use Rattle.tcc_graph.specs.Levels.{causally}
 use Rattle.tcc_graph.proofs.Walking.{walk_below}
-use Rattle.tcc_graph.specs.Routes.{HasCycle}
 use Rattle.std.specs.Str.{bytes_eq}
 use Rattle.std.proofs.lemmas.List.Folds.{list_any_at}
 use Rattle.tcc_graph.proofs.NameLemmas.{bytes_eq-same}
@@ -18,10 +17,10 @@ use Rattle.tcc_watch.specs.declared.linking.SessionWriters.{SessionWriters}
 use Rattle.tcc_watch.specs.declared.tables.Tables.{Tables}
 use Rattle.tcc_watch.specs.declared.delivered.Delivered.{Delivered}
 use Rattle.tcc_watch.specs.private.Rows.{AreStands, AreMembers, OrdersLinks}
-use Rattle.tcc_watch.specs.private.Links.{IsClosure, Keeps, OrdersWriters, OrdersReasons, AreWriters, IsLinked, Reading}
-use Rattle.tcc_watch.specs.private.Tables.{AreClocks, AreLaid, AreTables, HasArrived, Arriving, after}
+use Rattle.tcc_watch.specs.private.Links.{IsClosure, OrdersReasons, AreWriters, IsLinked, Reading}
+use Rattle.tcc_watch.specs.private.Tables.{AreClocks, AreLaid, HasArrived, Arriving, after}
 use Rattle.tcc_watch.specs.private.Writers.{AreKeyWriters, WriterMap, lists_in}
-use Rattle.tcc_watch.specs.private.Delivering.{CanLinkKey, OrdersReads, AreReadsLinked, reading_of, HasDelivered, IsState}
+use Rattle.tcc_watch.specs.private.Delivering.{CanLinkKey, OrdersReads, AreReadsLinked, reading_of, HasDelivered}
 use Rattle.tcc_watch.proofs.Arrived.{count_more, old_entry, new_entry, old_owner, more}
 use Rattle.tcc_watch.proofs.NoCycle.{no_cycle}
 use Rattle.tcc_watch.proofs.Settled.{reasons_done}

@@ -1,24 +1,23 @@
 -- What there is a ledger of was delivered: the history of the ledger is that of the snapshot but for the numbers.
-use Rattle.std.proofs.Common.{ℕ, zero, suc, ◌≡◌, ◌≢◌, ◌<◌, ◌≤◌, ◌⊎◌, inl, inr, Bool, true, false, List, [], refl, sym, ap, subst, ◌∙◌, arith}
+use Rattle.std.proofs.Common.{ℕ, ◌≡◌, ◌<◌, ◌≤◌, ◌⊎◌, inl, inr, Bool, true, false, List, [], refl, sym, ap, subst, ◌∙◌, arith}
 use Rattle.std.specs.Prelude.{◌↔◌, Some, get_or}
 use Rattle.std.specs.List.{Contains}
-use Rattle.std.proofs.lemmas.Bool.{cases_Bool, cases_lt, false≢true}
+use Rattle.std.proofs.lemmas.Bool.{cases_lt, false≢true}
 use Rattle.std.proofs.lemmas.List.{get_or_default}
 use Rattle.tcc_txn.specs.Nested.{list_of}
 use Rattle.tcc_txn.specs.Snapshots.{Sessions}
 use Rattle.tcc_txn.specs.Transactions.{Transaction}
-use Rattle.tcc_txn.specs.declared.op.Op.TheVariants.{Put}
 use Rattle.tcc_reads.specs.History.{History, count, entry_at, owner, place}
-use Rattle.tcc_reads.specs.OneSource.{Gives, IsNumber}
+use Rattle.tcc_reads.specs.OneSource.{IsNumber}
 use Rattle.tcc_reads.specs.Sites.{Stand, stands, committed}
-use Rattle.tcc_reads.specs.Sources.{external_reads, history, shows, visible_write, writes_of}
+use Rattle.tcc_reads.specs.Sources.{history, visible_write, writes_of}
 use Rattle.tcc_graph.specs.Keys.{has_name}
 use Rattle.tcc_slices.proofs.Freed.{put_visible, visible_put}
 use Rattle.tcc_slices.proofs.Numbered.{number_some, number_stands, number_of, of_number, one_name}
 use Rattle.tcc_slices.proofs.Sliced.{same_names, same_owner}
 use Rattle.tcc_slices.proofs.Written.{written_value, value_written, shown, shows_it}
 use Rattle.tcc_watch.specs.Delivered.{ComesFrom, IsAs, IsDeliveryOf}
-use Rattle.tcc_watch.specs.Ledger.{IsEntered, IsFrom, IsLedger, IsNumbered, IsPlaced, ReadsExternally, session_of}
+use Rattle.tcc_watch.specs.Ledger.{IsEntered, IsFrom, IsLedger, IsPlaced, session_of}
 use Rattle.tcc_watch.proofs.LedgerSites.{placed, stand_of, one_txn}
 use Rattle.tcc_watch.proofs.Sited.{reads_of_stand, stand_reads}
 

@@ -1,6 +1,6 @@
 -- The writes of a snapshot of which there is a ledger: each value has one writer, and a value that is read has one that gives it.
-use Rattle.std.proofs.Common.{ℕ, zero, suc, ◌≡◌, ◌≢◌, ◌<◌, ◌+◌, ◌++◌, ◌==◌, ◌⊎◌, inl, inr, Bool, true, false, cond, not, List, [], ◌∷◌, length, length-append, get_or, map, filter_map, refl, sym, ap, subst, ◌∙◌, arith}
-use Rattle.std.specs.Prelude.{Option, Some, None, find, flat_map, option_map, unwrap_or}
+use Rattle.std.proofs.Common.{ℕ, zero, suc, ◌≡◌, ◌≢◌, ◌<◌, ◌+◌, ◌==◌, ◌⊎◌, inl, inr, Bool, true, false, cond, not, List, [], ◌∷◌, length, length-append, get_or, map, filter_map, refl, sym, ap, subst, ◌∙◌, arith}
+use Rattle.std.specs.Prelude.{Option, Some, None, find, option_map, unwrap_or}
 use Rattle.std.specs.List.{Contains, cons_option, list_any}
 use Rattle.std.specs.FinMap.{get, entries}
 use Rattle.std.specs.Option.{option_or}
@@ -23,7 +23,7 @@ use Rattle.tcc_reads.specs.declared.fault.ReadFaultKind.TheVariants.{Duplicate, 
 use Rattle.tcc_slices.proofs.Freed.{put_visible, visible_put}
 use Rattle.tcc_slices.proofs.Once.{op_site, site_stand}
 use Rattle.tcc_slices.proofs.Placed.{entry_of_stand, stand_of_entry, same_session, session_named}
-use Rattle.tcc_watch.specs.Ledger.{IsEntered, IsFrom, IsLedger, IsNumbered, IsPlaced, IsRead, KeepsOwn, Lists, ReadsExternally, WritesOnce, session_of}
+use Rattle.tcc_watch.specs.Ledger.{IsEntered, IsFrom, IsLedger, IsNumbered, IsPlaced, IsRead, Lists, WritesOnce, session_of}
 use Rattle.tcc_watch.proofs.Sited.{IsSiteAt, shown_after, site_index}
 
 -- ---- lists

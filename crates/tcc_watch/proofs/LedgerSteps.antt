@@ -1,6 +1,6 @@
 -- One transaction more in a ledger, or one session more.
-use Rattle.std.proofs.Common.{ℕ, zero, suc, ◌+◌, ◌≡◌, ◌≢◌, ◌<◌, ◌≤◌, ◌++◌, ◌⊎◌, inl, inr, Bool, true, false, List, [], ◌∷◌, length, length-append, get_or, refl, sym, ap, subst, ◌∙◌, arith}
-use Rattle.std.specs.Prelude.{◌↔◌, Some}
+use Rattle.std.proofs.Common.{ℕ, ◌+◌, ◌≡◌, ◌<◌, ◌≤◌, ◌++◌, ◌⊎◌, inl, inr, true, false, List, [], ◌∷◌, length, length-append, get_or, refl, sym, ap, subst, ◌∙◌, arith}
+use Rattle.std.specs.Prelude.{◌↔◌}
 use Rattle.std.specs.List.{Contains}
 use Rattle.std.specs.Str.{bytes_eq}
 use Rattle.std.proofs.Math.ListN.{get_or-append}
@@ -8,12 +8,11 @@ use Rattle.std.proofs.lemmas.Bool.{cases_Bool, cases_lt, false≢true}
 use Rattle.std.proofs.lemmas.List.{get_or_push, get_or_default}
 use Rattle.tcc_txn.specs.Transactions.{Transaction}
 use Rattle.tcc_txn.specs.declared.op.Op.TheVariants.{Put}
-use Rattle.tcc_reads.specs.History.{Entry, History, count, entry_at, owner, place}
-use Rattle.tcc_reads.specs.Sources.{visible_write}
+use Rattle.tcc_reads.specs.History.{Entry, History, count, owner, place}
 use Rattle.tcc_reads.proofs.Ties.{itself, same_name}
 use Rattle.tcc_graph.specs.Keys.{has_name}
 use Rattle.tcc_watch.specs.Delivered.{MayCome, with_last}
-use Rattle.tcc_watch.specs.Ledger.{IsEntered, IsFrom, IsLedger, IsNumbered, IsPlaced, Lists, ReadsExternally, WritesOnce, session_of}
+use Rattle.tcc_watch.specs.Ledger.{IsEntered, IsFrom, IsLedger, IsNumbered, IsPlaced, Lists, WritesOnce, session_of}
 use Rattle.tcc_watch.specs.private.LedgerSteps.{AreNew, IsLonger, IsNext}
 use Rattle.tcc_watch.proofs.Arrived.{count_more, more, new_entry, old_entry, old_or_new, old_owner, old_place}
 

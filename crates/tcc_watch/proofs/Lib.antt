@@ -22,3 +22,8 @@ pub mod ValueLemmas
 pub mod OperationLemmas
 pub mod Worked
 pub mod WorkedLedger
+pub mod KeepingLemmas
+pub mod LineLemmas
+pub mod ArrivalLemmas
+pub mod OneVerdict
+pub mod GapLemmas

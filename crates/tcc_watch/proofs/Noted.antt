@@ -1,9 +1,9 @@
 -- The writers of keys when a transaction is taken in.
-use Rattle.std.proofs.Common.{ℕ, ◌+◌, ◌≡◌, ◌≢◌, ◌<◌, ◌≤◌, ◌⊎◌, inl, inr, true, false, List, [], ◌∷◌, ◌++◌, length, get_or, set, slice_index, take, refl, sym, ap, subst, ◌∙◌, arith, length-append}
+use Rattle.std.proofs.Common.{ℕ, ◌+◌, ◌≡◌, ◌<◌, ◌≤◌, ◌⊎◌, inl, inr, true, false, List, [], ◌∷◌, ◌++◌, length, get_or, set, slice_index, take, refl, sym, ap, subst, ◌∙◌, arith, length-append}
 use Rattle.std.specs.List.{Contains}
-use Rattle.std.specs.Prelude.{Option, Some, Ok, Err, OnOk, unwrap_or}
+use Rattle.std.specs.Prelude.{Some, Ok, Err, OnOk, unwrap_or}
 use Rattle.std.specs.declared.result.Result.{Result}
-use Rattle.std.specs.BTreeMap.{Updates, get, is_at}
+use Rattle.std.specs.BTreeMap.{Updates, is_at}
 use Rattle.std.specs.Cmp.Lexicographic.{slice_cmp, texts_ties}
 use Rattle.std.specs.Ordering.{nat_cmp}
 use Rattle.tcc_txn.specs.Bytes.{same}

@@ -1,16 +1,16 @@
 -- The row of a transaction that comes last, over the rows of those right before it.
-use Rattle.std.proofs.Common.{ℕ, ◌+◌, ◌-◌, ◌≡◌, ◌≢◌, ◌<◌, ◌≤◌, ◌⊎◌, inl, inr, List, [], ◌∷◌, ◌++◌, length, get_or, slice_index, refl, sym, ap, subst, ◌∙◌, arith, length-append}
+use Rattle.std.proofs.Common.{ℕ, ◌≡◌, ◌<◌, ◌≤◌, ◌⊎◌, inl, inr, List, [], ◌∷◌, ◌++◌, slice_index, refl, sym, ap, subst, ◌∙◌, arith, length-append}
 use Rattle.std.specs.List.{Contains}
 use Rattle.std.proofs.Math.ListN.{get_or-append}
 use Rattle.std.proofs.lemmas.List.{get_or_push}
 use Rattle.std.proofs.lemmas.Bool.{cases_lt, cases_eq}
-use Rattle.tcc_reads.specs.History.{Entry, History, count, entry_at, owner, place}
+use Rattle.tcc_reads.specs.History.{Entry, History, count, owner, place}
 use Rattle.tcc_graph.specs.Relations.{IsSessionPair, IsCausalPair}
 use Rattle.tcc_graph.specs.Tables.{row_of}
 use Rattle.tcc_graph.proofs.Pairs.{lower_first, pair_below}
 use Rattle.tcc_watch.specs.Delivered.{IsDelivered, MayCome, with_last}
-use Rattle.tcc_watch.specs.private.Rows.{last_in, IsUpTo, IsPlaceOf, AreHeld, AreOrdered, OrdersPairs, AreSound, AreParents, IsRowOver}
-use Rattle.tcc_watch.proofs.Arrived.{count_more, old_entry, new_entry, old_owner, old_place, old_or_new, more, delivered_more, session_was, pair_was}
+use Rattle.tcc_watch.specs.private.Rows.{last_in, IsUpTo, IsPlaceOf, AreOrdered, OrdersPairs, AreSound, AreParents, IsRowOver}
+use Rattle.tcc_watch.proofs.Arrived.{count_more, new_entry, old_owner, old_place, old_or_new, more, delivered_more, session_was, pair_was}
 use Rattle.tcc_watch.proofs.Rising.{pair_rises}
 
 module _ (h : History) (e : Entry) (rows : List (List ℕ)) (row : List ℕ) (parents : List ℕ) (delivered : IsDelivered h) (may : MayCome h e)

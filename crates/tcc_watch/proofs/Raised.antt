@@ -4,7 +4,7 @@ use Rattle.std.specs.Prelude.{max}
 use Rattle.std.proofs.lemmas.Bool.{cases_lt}
 use Rattle.tcc_reads.specs.History.{History, count, owner, place}
 use Rattle.tcc_graph.specs.Tables.{row_of}
-use Rattle.tcc_watch.specs.private.Rows.{last_in, IsUpTo, IsPlaceOf, AreHeld, AreOrdered, IsRaisedAt, IsRaised, AreSound}
+use Rattle.tcc_watch.specs.private.Rows.{last_in, IsUpTo, IsPlaceOf, AreOrdered, IsRaisedAt, IsRaised, AreSound}
 
 either : (x y z : ℕ) → z ≡ max x y → (z ≡ x) ⊎ (z ≡ y)
 either x y z e = by (cases_lt x y)

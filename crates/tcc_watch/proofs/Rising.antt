@@ -1,10 +1,10 @@
 -- In a history whose numbers go along its causal pairs, pairs, walks and reads lead to higher numbers.
-use Rattle.std.proofs.Common.{ℕ, ◌≡◌, ◌<◌, ◌≤◌, ◌==◌, ◌⊎◌, inl, inr, List, [], ◌∷◌, map, filter, sym, ap, subst, arith}
+use Rattle.std.proofs.Common.{ℕ, ◌≡◌, ◌<◌, ◌≤◌, ◌==◌, ◌⊎◌, inl, inr, List, [], ◌∷◌, filter, sym, ap, arith}
 use Rattle.std.specs.List.{Contains}
 use Rattle.std.proofs.lemmas.Bool.{cases_lt, cases_order, eqb-true}
 use Rattle.std.proofs.lemmas.List.Elements.{All-contains}
 use Rattle.tcc_txn.proofs.Lists.{from_filter, from_map}
-use Rattle.tcc_reads.specs.History.{History, count, entry_at, owner, place}
+use Rattle.tcc_reads.specs.History.{History, entry_at, place}
 use Rattle.tcc_graph.specs.Relations.{IsSessionPair, IsReadsPair, reads_from, IsCausalPair}
 use Rattle.tcc_graph.specs.Walks.{step_from, step_to, Leads, IsWalk, IsReached}
 use Rattle.tcc_graph.specs.Levels.{Judged}

@@ -1,5 +1,5 @@
 -- Rows as loops work them out: one number more, one parent more, one row more that is raised.
-use Rattle.std.proofs.Common.{ℕ, zero, suc, ◌+◌, ◌≡◌, ◌≢◌, ◌<◌, ◌≤◌, ◌⊎◌, inl, inr, List, [], ◌∷◌, ◌++◌, length, get_or, set, slice_index, take, refl, sym, ap, subst, ◌∙◌, arith}
+use Rattle.std.proofs.Common.{ℕ, zero, suc, ◌+◌, ◌≡◌, ◌≢◌, ◌<◌, ◌≤◌, ◌⊎◌, inl, inr, List, [], ◌∷◌, ◌++◌, length, get_or, set, slice_index, take, refl, sym, ap, ◌∙◌, arith}
 use Rattle.std.specs.Prelude.{max}
 use Rattle.std.specs.List.{Contains}
 use Rattle.std.proofs.lemmas.Bool.{cases_lt, cases_eq, cases_order}
@@ -7,7 +7,7 @@ use Rattle.std.proofs.lemmas.List.{get_or_default, get_or-set_same, get_or-set_o
 use Rattle.tcc_bits.proofs.Lists.{nothing_in, one_of_taken, still_taken, last_taken}
 use Rattle.tcc_graph.specs.Tables.{row_of}
 use Rattle.tcc_watch.specs.declared.at.At.{At}
-use Rattle.tcc_watch.specs.private.Rows.{last_in, GoesTo, IsLastOver, IsRaisedRow, AreRising, IsFirstWith, IsRaisedBetween, AreRaised}
+use Rattle.tcc_watch.specs.private.Rows.{last_in, IsLastOver, IsRaisedRow, AreRising, IsFirstWith, IsRaisedBetween, AreRaised}
 
 -- a 0 at the end changes nothing
 pub push_zero : (xs : List ℕ) (k : ℕ) → slice_index (xs ++ 0 ∷ []) k ≡ slice_index xs k

@@ -1,17 +1,14 @@
 -- A link that is put in order, and all that a read brings: that of each session the last one is enough.
-use Rattle.std.proofs.Common.{ℕ, ◌+◌, ◌≡◌, ◌≢◌, ◌<◌, ◌≤◌, ◌⊎◌, inl, inr, Bool, true, false, List, [], length, get_or, slice_index, nat_le, refl, sym, ap, subst, ◌∙◌, arith}
+use Rattle.std.proofs.Common.{ℕ, ◌+◌, ◌≡◌, ◌≢◌, ◌<◌, ◌≤◌, ◌⊎◌, inl, inr, Bool, true, false, List, [], length, get_or, slice_index, nat_le, sym, ap, subst, ◌∙◌, arith}
 use Rattle.std.specs.Prelude.{slice_index_or, Ok, Err, IfOk}
 use Rattle.std.specs.declared.result.Result.{Result}
-use Rattle.std.specs.List.{Contains}
 use Rattle.std.proofs.lemmas.Bool.{cases_lt, cases_eq, cases_order, leb-true, leb-false}
 use Rattle.std.proofs.lemmas.List.{get_or_default, get_or_read}
 use Rattle.tcc_reads.specs.History.{Entry, History, count, owner, place}
 use Rattle.tcc_graph.specs.Keys.{IsWriter}
 use Rattle.tcc_graph.specs.Walks.{IsReached}
 use Rattle.tcc_graph.specs.Levels.{causally}
-use Rattle.tcc_graph.specs.Links.{IsReason}
 use Rattle.tcc_graph.specs.Routes.{HasCycle}
-use Rattle.tcc_graph.specs.declared.step.Step.{Step}
 use Rattle.tcc_graph.specs.declared.link.Link.TheVariants as link
 use Rattle.tcc_graph.specs.Relations.{IsSessionPair}
 use Rattle.tcc_graph.proofs.Pairs.{lower_first, pair_below, pair_parts}
@@ -19,8 +16,8 @@ use Rattle.tcc_graph.proofs.Walking.{walk_below}
 use Rattle.tcc_watch.specs.Delivered.{IsDelivered}
 use Rattle.tcc_watch.specs.declared.at.At.{At}
 use Rattle.tcc_watch.specs.declared.linking.SessionWriters.{SessionWriters}
-use Rattle.tcc_watch.specs.private.Rows.{last_in, IsUpTo, AreOrdered, AreStands, AreMembers, IsRaised, CanRaise, IsRouted}
-use Rattle.tcc_watch.specs.private.Links.{IsClosure, Keeps, IsOutcome, IsSettled, CanSettle, Reading, IsClock, AreWritersIn, AreWriters, IsReading, CanLinkSession, CanLink, OrdersWriters, IsLinkedIn, OrdersReasons, IsLinked, place_at, RisePlaces, NoneWithin, IsLastWithin}
+use Rattle.tcc_watch.specs.private.Rows.{last_in, IsUpTo, AreStands, IsRaised, CanRaise, IsRouted}
+use Rattle.tcc_watch.specs.private.Links.{IsClosure, Keeps, IsSettled, CanSettle, Reading, AreWritersIn, CanLinkSession, CanLink, OrdersWriters, IsLinkedIn, OrdersReasons, place_at, RisePlaces, NoneWithin, IsLastWithin}
 use Rattle.tcc_watch.proofs.Rising.{reached_rises}
 use Rattle.tcc_watch.proofs.NoCycle.{routed_join, routed_link}
 use Rattle.tcc_watch.proofs.Raised.{raised_order, raised_sound, stays, linked}

@@ -1,16 +1,15 @@
 -- The operations of a transaction by their index, and as sites.
-use Rattle.std.proofs.Common.{ℕ, zero, suc, ◌≡◌, ◌<◌, ◌++◌, ◌⊎◌, inl, inr, Bool, true, false, cond, List, [], ◌∷◌, length, length-append, append-nil, append_assoc, filter_map, get_or, take, refl, sym, ap, subst, ◌∙◌, arith}
+use Rattle.std.proofs.Common.{ℕ, zero, suc, ◌≡◌, ◌<◌, ◌++◌, cond, List, [], ◌∷◌, length, length-append, append-nil, append_assoc, filter_map, get_or, take, refl, sym, ap, subst, ◌∙◌, arith}
 use Rattle.std.specs.Prelude.{Option, Some, None, is_none}
 use Rattle.std.specs.List.{Contains, cons_option}
 use Rattle.std.specs.Option.{option_or}
-use Rattle.std.specs.Str.{bytes_eq}
 use Rattle.std.proofs.Math.Seq.{get_or-append_seam, take-append_seam}
 use Rattle.tcc_txn.specs.declared.op.Op.{Op}
 use Rattle.tcc_txn.specs.declared.op.Op.TheVariants.{Get, Put}
 use Rattle.tcc_reads.specs.Sites.{Stand, Site, sites_from, sites_of}
 use Rattle.tcc_reads.specs.Sources.{external_part, external_read, external_reads, value_put, visible_write}
 use Rattle.tcc_slices.proofs.Once.{site_split}
-use Rattle.tcc_watch.specs.Ledger.{IsRead, ReadsExternally}
+use Rattle.tcc_watch.specs.Ledger.{ReadsExternally}
 
 -- ---- lists
 from_filter_map : {X Y : Type 0} (f : X → Option Y) (xs : List X) (y : Y) → Contains (filter_map f xs) y → (x : X) × Contains xs x × (f x ≡ Some y)

@@ -1,19 +1,18 @@
 -- The tables when a transaction comes: those right before it, where it stands, and what its links bring.
-use Rattle.std.proofs.Common.{ℕ, zero, suc, ◌+◌, ◌-◌, ◌≡◌, ◌<◌, ◌≤◌, ◌==◌, ◌⊎◌, inl, inr, true, List, [], ◌∷◌, ◌++◌, length, map, filter, get_or, slice_index, refl, sym, ap, subst, ◌∙◌, arith, length-append}
-use Rattle.std.specs.Prelude.{if◌then◌else◌, slice_index_or}
+use Rattle.std.proofs.Common.{ℕ, zero, suc, ◌-◌, ◌≡◌, ◌<◌, ◌≤◌, ◌==◌, ◌⊎◌, inl, inr, List, [], ◌∷◌, ◌++◌, length, map, filter, get_or, slice_index, refl, sym, ap, subst, ◌∙◌, arith, length-append}
+use Rattle.std.specs.Prelude.{if◌then◌else◌}
 use Rattle.std.specs.List.{Contains}
 use Rattle.std.proofs.Math.ListN.{get_or-append}
-use Rattle.std.proofs.lemmas.Bool.{cases_lt, cases_eq, cases_order, eq-eqb, ne_eqb}
+use Rattle.std.proofs.lemmas.Bool.{cases_lt, cases_eq, eq-eqb, ne_eqb}
 use Rattle.std.proofs.lemmas.List.{get_or_default, get_or_past, get_or_push}
 use Rattle.std.proofs.lemmas.List.Elements.{Contains-append_left, Contains-get_or, Contains-push, All-contains}
 use Rattle.tcc_txn.proofs.Lists.{in_filter, in_map, from_map}
-use Rattle.tcc_reads.specs.History.{Entry, History, count, entry_at, owner, place}
-use Rattle.tcc_graph.specs.Relations.{IsSessionPair, IsReadsPair, reads_from, IsCausalPair}
+use Rattle.tcc_reads.specs.History.{Entry, History, count, owner, place}
+use Rattle.tcc_graph.specs.Relations.{IsSessionPair, IsReadsPair, IsCausalPair}
 use Rattle.tcc_graph.specs.Tables.{row_of}
 use Rattle.tcc_graph.specs.Walks.{step_from, step_to, Leads, IsReached}
 use Rattle.tcc_graph.specs.Levels.{causally}
 use Rattle.tcc_graph.specs.Links.{IsLink, link_from, link_to}
-use Rattle.tcc_graph.specs.Routes.{HasCycle}
 use Rattle.tcc_graph.specs.declared.level.Level.TheVariants as level
 use Rattle.tcc_graph.specs.declared.step.Step.{Step}
 use Rattle.tcc_graph.specs.declared.link.Link.{Link}
@@ -22,10 +21,10 @@ use Rattle.tcc_graph.proofs.Pairs.{PairParts, pair_parts, lower_first, initial_p
 use Rattle.tcc_graph.proofs.Walking.{pair_walk, reached_append, walk_below}
 use Rattle.tcc_watch.specs.Delivered.{IsDelivered, MayCome, with_last}
 use Rattle.tcc_watch.specs.declared.at.At.{At}
-use Rattle.tcc_watch.specs.private.Rows.{last_in, IsUpTo, AreOrdered, AreStands, AreMembers, AreSound, AreParents, IsRowOver, IsRouted, OrdersPairs, OrdersLinks}
+use Rattle.tcc_watch.specs.private.Rows.{IsUpTo, AreStands, AreMembers, AreParents, IsRowOver, IsRouted, OrdersPairs, OrdersLinks}
 use Rattle.tcc_watch.specs.private.Links.{IsClosure, IsClock, Keeps, OrdersReasons}
 use Rattle.tcc_watch.specs.private.Tables.{AreClocks, previous_in, parents_in}
-use Rattle.tcc_watch.proofs.Arrived.{count_more, old_entry, new_entry, old_owner, old_place, old_or_new, more, delivered_more, routed_stays, reached_stays, all_links}
+use Rattle.tcc_watch.proofs.Arrived.{count_more, new_entry, old_owner, old_place, old_or_new, more, delivered_more, routed_stays, reached_stays, all_links}
 use Rattle.tcc_watch.proofs.NoCycle.{routed_join}
 use Rattle.tcc_watch.proofs.Over.{more_order, more_pairs, more_stays, more_sound}
 use Rattle.tcc_watch.proofs.Rising.{pair_rises, read_of}

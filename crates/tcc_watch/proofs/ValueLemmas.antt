@@ -1,31 +1,29 @@
 -- The values that were written so far, when a transaction is delivered.
-use Rattle.std.proofs.Common.{ℕ, zero, suc, ◌+◌, ◌≡◌, ◌≢◌, ◌<◌, ◌≤◌, ◌||◌, ◌==◌, ◌⊎◌, inl, inr, Bool, true, false, cond, not, List, [], ◌∷◌, ◌++◌, length, length-append, get_or, take, refl, sym, ap, subst, ◌∙◌, arith}
-use Rattle.std.specs.Prelude.{◌↔◌, Option, Some, None, is_some, unwrap_or}
+use Rattle.std.proofs.Common.{ℕ, zero, suc, ◌+◌, ◌≡◌, ◌<◌, ◌||◌, ◌==◌, ◌⊎◌, inl, inr, Bool, true, false, cond, not, List, [], ◌∷◌, ◌++◌, length, get_or, take, refl, sym, ap, subst, ◌∙◌, arith}
+use Rattle.std.specs.Prelude.{Option, Some, None, is_some, unwrap_or}
 use Rattle.std.specs.List.{Contains, list_any}
 use Rattle.std.specs.Option.{option_eq}
-use Rattle.std.proofs.lemmas.Bool.{cases_Bool, cases_eq, cases_lt, eq-eqb, eqb-true, false≢true, ne_eqb}
-use Rattle.std.proofs.lemmas.List.{get_or_default, get_or-take, length-take, take_more, get_or_push}
-use Rattle.std.proofs.lemmas.List.Elements.{Contains-append_left, Contains-push, Contains-push_cases}
+use Rattle.std.proofs.lemmas.Bool.{cases_Bool, cases_eq, eq-eqb, eqb-true, false≢true, ne_eqb}
+use Rattle.std.proofs.lemmas.List.{get_or-take, length-take}
 use Rattle.tcc_txn.specs.Transactions.{Transaction}
 use Rattle.tcc_txn.specs.declared.op.Op.{Op}
-use Rattle.tcc_txn.specs.declared.op.Op.TheVariants.{Get, Put}
+use Rattle.tcc_txn.specs.declared.op.Op.TheVariants.{Put}
 use Rattle.tcc_reads.specs.Faults.{puts}
 use Rattle.tcc_reads.specs.History.{Entry, History, count}
 use Rattle.tcc_reads.specs.Sources.{visible_write}
-use Rattle.tcc_graph.specs.Keys.{has_name}
 use Rattle.tcc_graph.proofs.NameLemmas.{has_name-contains, contains-has_name}
 use Rattle.tcc_watch.specs.Delivered.{with_last}
-use Rattle.tcc_watch.specs.Ledger.{IsFrom, IsLedger, IsNumbered, IsPlaced, IsRead, KeepsOwn, Lists, ReadsExternally, WritesOnce, session_of}
+use Rattle.tcc_watch.specs.Ledger.{IsFrom, IsLedger, IsNumbered, IsPlaced, Lists}
 use Rattle.tcc_watch.specs.private.LedgerSteps.{AreNew, IsLonger, IsNext}
 use Rattle.tcc_watch.specs.private.Operations.{AreKeys}
-use Rattle.tcc_watch.specs.private.Values.{AreNoted, AreSources, AreUnwritten, AreUnwrittenBelow, AreValues, ValueMap, is_unwritten, noted, number_shown, source_in}
+use Rattle.tcc_watch.specs.private.Values.{AreNoted, AreSources, AreUnwritten, AreValues, ValueMap, is_unwritten, noted, number_shown, source_in}
 use Rattle.tcc_watch.proofs.Arrived.{count_more, more}
 use Rattle.tcc_watch.proofs.LedgerSites.{any_of, put_is, puts_it}
-use Rattle.tcc_watch.proofs.LedgerSteps.{IsTheNew, from_still, numbered_still, numbered_there, placed_before, placed_new, placed_still}
+use Rattle.tcc_watch.proofs.LedgerSteps.{IsTheNew, numbered_still, numbered_there, placed_before, placed_still}
 
 -- ---- tests
 
-any_there : {X : Type 0} (p : X → Bool) (xs : List X) (x : X) → Contains xs x → p x ≡ true → list_any p xs ≡ true
+pub any_there : {X : Type 0} (p : X → Bool) (xs : List X) (x : X) → Contains xs x → p x ≡ true → list_any p xs ≡ true
 any_there p [] x (k, l, e) is = absurd (omega (arith, l))
 any_there p (y ∷ xs) x (zero, l, e) is = ap (λ (b : Bool). b || list_any p xs) (ap p e ∙ is)
 any_there p (y ∷ xs) x (suc k, l, e) is = go (p y) (any_there p xs x (k, omega (arith, l), e) is)

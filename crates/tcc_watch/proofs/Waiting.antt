@@ -1,14 +1,14 @@
 -- Where each transaction that hasn't come waits for another that hasn't, causal pairs stand in a circle.
 use Rattle.std.proofs.Common.{ℕ, ◌≡◌, ◌<◌, Bool, true, false, List, [], ◌∷◌}
 use Rattle.tcc_reads.specs.History.{History, count}
-use Rattle.tcc_graph.specs.Relations.{causal_pair, IsCausalPair}
+use Rattle.tcc_graph.specs.Relations.{causal_pair}
 use Rattle.tcc_graph.specs.Levels.{Judged, judged}
 use Rattle.tcc_graph.specs.Routes.{HasCycle}
 use Rattle.tcc_graph.specs.declared.level.Level.{Level}
 use Rattle.tcc_graph.proofs.Linking.{pair_link, link_route}
 use Rattle.tcc_graph.proofs.Pairs.{pair_kinds, pair_from_kinds}
 use Rattle.tcc_order.specs.private.Numbering.{HasCircle, Joins}
-use Rattle.tcc_order.proofs.Circle.{HasBefore, left_circle}
+use Rattle.tcc_order.proofs.Circle.{left_circle}
 use Rattle.tcc_watch.specs.Delivered.{AllWait}
 use Rattle.tcc_watch.specs.private.Rows.{IsRouted}
 use Rattle.tcc_watch.proofs.NoCycle.{routed_join}

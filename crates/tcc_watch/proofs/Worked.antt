@@ -8,7 +8,7 @@ use Rattle.tcc_graph.specs.declared.link.Link.TheVariants as link
 use Rattle.tcc_graph.proofs.Worked.{x, y, entry}
 use Rattle.tcc_txn.specs.Snapshots.{Sessions}
 use Rattle.tcc_watch.specs.Delivered.{with_last, ComesFrom, MayCome, IsBy}
-use Rattle.tcc_watch.specs.private.Rows.{IsUpTo, IsRaisedAt, IsRaised, IsRowOver}
+use Rattle.tcc_watch.specs.private.Rows.{IsUpTo, IsRaisedAt}
 
 abbrev writers : History
 writers = record {

@@ -4,7 +4,7 @@ use Rattle.tcc_txn.specs.declared.op.Op.{Op}
 use Rattle.tcc_txn.specs.declared.op.Op.TheVariants.{Get, Put}
 use Rattle.tcc_reads.specs.History.{History}
 use Rattle.tcc_graph.proofs.Worked.{x, y}
-use Rattle.tcc_watch.specs.Ledger.{IsFrom, IsRead, KeepsOwn, Lists, ReadsExternally, WritesOnce}
+use Rattle.tcc_watch.specs.Ledger.{IsFrom, KeepsOwn, Lists, ReadsExternally, WritesOnce}
 
 -- it writes x, reads that, and reads y from another transaction
 abbrev ops : List Op

@@ -1,3 +1,4 @@
 pub mod Delivered
 pub mod Ledger
+pub mod Verdicts
 pub mod private

@@ -9,3 +9,6 @@ pub mod LedgerSteps
 pub mod Operations
 pub mod Values
 pub mod Lines
+pub mod Keeping
+pub mod Arrivals
+pub mod Gaps

@@ -5,6 +5,7 @@ ghost use Rattle.tcc_reads.specs.{Faults.read_faults, Sources.history};
 ghost use Rattle.tcc_reads.specs.History.{Entry, History, count};
 ghost use Rattle.tcc_graph.specs.{Levels.judged, Links.IsLink, Routes.HasCycle, Walks.IsReached, declared.level.Level.Level, declared.link.Link.Link};
 ghost use Rattle.tcc_watch.specs.Ledger.{IsLedger};
+ghost use Rattle.tcc_watch.specs.{Verdicts.IsVerdict, declared.verdict.Verdict.Verdict};
 ghost use Rattle.tcc_watch.specs.Delivered.{AllWait, AreAlike, IsBy, IsDelivered, IsDeliveryOf, MayCome, with_last};
 
 /// Where a transaction comes after all that it needs, each link stays one, and each that is new is a pair into it or a derived link of
@@ -42,4 +43,9 @@ pub fn ledgers()
     ensures delivered { (s : Sessions) (names : List (List ℕ)) (h : History) → IsLedger (list_of s) names h → (f : ℕ → ℕ) × IsDeliveryOf s h f }
     ensures decided { (s : Sessions) (names : List (List ℕ)) (h : History) (level : Level) → IsLedger (list_of s) names h
         → HasCycle (judged h level) ↔ HasCycle (judged (history s) level) }
+{}
+
+/// Of a snapshot one thing alone is told at a level: in whatever order its sessions came, and whatever was known before.
+pub fn verdicts()
+    ensures { (s : Sessions) (level : Level) (v : Verdict) (w : Verdict) → IsVerdict s level v → IsVerdict s level w → v ≡ w }
 {}

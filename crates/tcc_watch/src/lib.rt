@@ -2,9 +2,12 @@
 //! what is kept in rows.
 #![tactic(auto)]
 
+mod arrivals;
 mod at;
 mod decided;
 mod delivered;
+mod gaps;
+mod kept;
 pub mod laws;
 mod lines;
 mod linking;
@@ -13,4 +16,9 @@ mod places;
 mod raising;
 mod tables;
 mod values;
+mod verdict;
+mod watch;
 mod writers;
+
+pub use verdict::Verdict;
+pub use watch::Watch;

@@ -35,11 +35,11 @@ are_levels = refl
 abbrev program : App
 program = tcc_command levels
 
--- what clap finds wrong with these words behind the program's name
+-- what clap finds wrong with these words after the program's name
 abbrev faults : List Text → List ErrorKind
 faults words = fault_of program (codes "tcc" ∷ words)
 
--- what it reads behind `explain`
+-- what it reads after `explain`
 record Asked : Type 0 where
   level : Option Text
   workers : Option Text
@@ -68,7 +68,7 @@ asks words =
       history = history_path met;
     }
 
--- without a word behind it
+-- without a word after it
 abbrev plain : Asked
 plain = record {
   level = Some (codes "causal");
@@ -106,7 +106,7 @@ explain_lines =
       codes "--require=4294967295" ∷ codes "--json" ∷ codes "h.csv" ∷ [],
       record plain { history = Some (codes "h.csv"); required = Some (codes "4294967295"); json = Some (codes "true") },
     )
-    -- behind `--` each word is a path
+    -- after `--` each word is a path
     ∷ (codes "--" ∷ codes "--json" ∷ [], record plain { history = Some (codes "--json") })
     ∷ []
 
@@ -120,7 +120,7 @@ explain_asks = refl
 
 -- ---- survey
 
--- what is read behind it: the subcommand that was met, level, flags and path
+-- what is read after it: the subcommand that was met, level, flags and path
 abbrev survey_asks : List Text → Option Text × Option Text × Option Text × Option Text × Option Text
 survey_asks words =
     let met = subcommand_of program (codes "tcc" ∷ codes "survey" ∷ words) in
@@ -133,6 +133,22 @@ survey_read : (faults (codes "survey" ∷ survey_line) ≡ []) × (survey_asks s
     ≡ (Some (codes "survey"), Some (codes "atomic"), Some (codes "false"), Some (codes "true"), Some (codes "h.csv")))
 unfolding clap_on_literals
 survey_read = (refl, refl)
+
+-- ---- watch
+
+-- what is read after it: the subcommand that was met, level, flag and path
+abbrev watch_asks : List Text → Option Text × Option Text × Option Text × Option Text
+watch_asks words =
+    let met = subcommand_of program (codes "tcc" ∷ codes "watch" ∷ words) in
+    (option_map (λ entered. entered.0) met, level_text met, flag_text (codes "json") met, history_path met)
+
+abbrev watch_line : List Text
+watch_line = codes "--json" ∷ codes "-" ∷ codes "--level" ∷ codes "atomic" ∷ []
+
+watch_read : (faults (codes "watch" ∷ watch_line) ≡ []) × (watch_asks watch_line
+    ≡ (Some (codes "watch"), Some (codes "atomic"), Some (codes "true"), Some (codes "-")))
+unfolding clap_on_literals
+watch_read = (refl, refl)
 
 -- ---- check, of whichever program
 
@@ -203,6 +219,8 @@ faulty_lines =
     ∷ (codes "explain" ∷ codes "--json=true" ∷ [], TooManyValues ∷ [])
     ∷ (codes "explain" ∷ codes "--json" ∷ codes "--json" ∷ [], ArgumentConflict ∷ [])
     ∷ (codes "explain" ∷ codes "--colour" ∷ [], UnknownArgument ∷ [])
+    -- a watch takes no certificate
+    ∷ (codes "watch" ∷ codes "--certificate=c.txt" ∷ [], UnknownArgument ∷ [])
     -- the workers are a number from 1 to 32
     ∷ (codes "explain" ∷ codes "--workers" ∷ codes "0" ∷ [], ValueValidation ∷ [])
     ∷ (codes "explain" ∷ codes "--workers=33" ∷ [], ValueValidation ∷ [])

@@ -23,7 +23,7 @@ AsksFor (Some met) files = AsksFiles met.1 files
 abbrev pub Asks : List Text → Files → Type 0
 Asks words files = AsksFor (subcommand_of checker_command words) files
 
--- a check is asked for only where clap finds no fault in the words, and it is the one that they ask for; else the run ends as
+-- a check is asked for only where clap finds no fault in the words, and it is the one that they ask for. Else the run ends as
 -- one of their faults has it, or out of memory
 abbrev pub AreAsked : List Text → Option (List ℕ) → Option (List ℕ) → Result Files ℕ → Type 0
 AreAsked words before after (Ok files) = (fault_of checker_command words ≡ []) × Asks words files × (after ≡ before)

@@ -17,13 +17,13 @@ use Rattle.clap.specs.declared.error.kind.ErrorKind.{ErrorKind}
 use Rattle.clap.specs.declared.error.kind.ErrorKind.TheVariants.{ArgumentConflict, DisplayHelp, DisplayVersion, OutOfMemory}
 use Rattle.tcc_words.specs.declared.command_line.Files.{Files}
 use Rattle.tcc_words.specs.declared.command_line.Request.{Request}
-use Rattle.tcc_words.specs.declared.command_line.Request.TheVariants.{Explain, Survey, Check}
+use Rattle.tcc_words.specs.declared.command_line.Request.TheVariants.{Explain, Survey, Watch, Check}
 use Rattle.tcc_graph.specs.declared.level.Level.{Level}
 use Rattle.tcc_graph.specs.declared.level.Level.TheVariants.{Causal, Atomic}
 use Rattle.tcc_print.specs.declared.status.Status.TheVariants.{Success, Memory, Usage}
 use Rattle.tcc_print.specs.Statuses.{code_of}
 use Rattle.tcc_print.specs.Printed.{Prints, memory_line}
-use Rattle.tcc_workers.specs.declared.workers.TheConstants.{MAX_WORKERS}
+use Rattle.tcc_base.specs.declared.workers.TheConstants.{MAX_WORKERS}
 
 abbrev pub with_subcommand_required : Shape → Shape
 with_subcommand_required s = record s { subcommand_required = true }
@@ -48,7 +48,7 @@ Words = Bor (List (Bor Text))
 abbrev pub AreLevels : Words → Type 0
 AreLevels levels = map (λ word. word.now) levels.now ≡ level_word Causal ∷ level_word Atomic ∷ []
 
--- an option by its own name, whose value this parser takes; without it, a word that stands for it
+-- an option by its own name, whose value this parser takes; without it, a word that represents it
 abbrev pub valued_option : Text → ValueParser → Text → Rule
 valued_option id parser word = record (new_rule id) { long = Some id; value_names = 1; parser = Some parser; defaults = word ∷ [] }
 
@@ -94,24 +94,31 @@ survey_command levels =
     let judged : App = with_rule (new_app (codes "survey")) (level_option levels) in
     with_rule (with_rule (with_rule judged (flag (codes "json"))) (flag (codes "large"))) (path (codes "history") false)
 
+-- watch [--level LEVEL] [--json] [FILE]
+abbrev pub watch_command : Words → App
+watch_command levels =
+    let judged : App = with_rule (new_app (codes "watch")) (level_option levels) in
+    with_rule (with_rule judged (flag (codes "json"))) (path (codes "history") false)
+
 -- check [--large] HISTORY CERTIFICATE
 abbrev pub check_command : App
 check_command =
     let sized : App = with_rule (new_app (codes "check")) (flag (codes "large")) in
     with_rule (with_rule sized (path (codes "history") true)) (path (codes "certificate") true)
 
--- tcc explain [OPTIONS] [FILE], tcc survey [OPTIONS] [FILE], or tcc check [--large] HISTORY CERTIFICATE: the program's name and version, and its subcommands, one of
--- which has to be given
+-- tcc explain [OPTIONS] [FILE], tcc survey [OPTIONS] [FILE], tcc watch [OPTIONS] [FILE], or tcc check [--large] HISTORY CERTIFICATE: the
+-- program's name and version, and its subcommands, one of which has to be given
 abbrev pub tcc_command : Words → App
 tcc_command levels =
     let named : App = on_top with_subcommand_required (on_top with_version (new_app (codes "tcc"))) in
-    with_subcommand (with_subcommand (with_subcommand named (explain_command levels).top) (survey_command levels).top) check_command.top
+    let asked : App = with_subcommand (with_subcommand named (explain_command levels).top) (survey_command levels).top in
+    with_subcommand (with_subcommand asked (watch_command levels).top) check_command.top
 
 -- what clap reads of a flag in the matches of a subcommand that was met
 abbrev pub flag_text : Text → Option (Text × List Row) → Option Text
 flag_text id met = option_and_then (one_of id) (option_map (λ entered. entered.1) met)
 
--- a flag is set where it is read as true, and isn't where it is read as false or stands in no subcommand
+-- a flag is set where it is read as true, and isn't where it is read as false or is in no subcommand
 abbrev pub IsFlag : Option Text → Bool → Type 0
 IsFlag text set =
     (text ≡ Some (codes "true") → set ≡ true) × ((text ≡ Some (codes "false") → set ≡ false) × (text ≡ None → set ≡ false))
@@ -168,9 +175,9 @@ IsInput None path = path ≡ None
 IsInput (Some word) None = word ≡ codes "-"
 IsInput (Some word) (Some path) = (word ≢ codes "-") × (path ≡ word)
 
--- the answers are as JSON, without orders, in full and within the large limits by the flags, at the level of the word, by as many workers as the word
--- says, and for as many transactions; the records are those of the file, and the certificate and the slice go to their paths,
--- if there are any
+-- the answers are as JSON, without orders, in full and within the large limits by the flags. They are at the level of the word, by
+-- as many workers as the word says, and for as many transactions. The records are those of the file, and the certificate and the
+-- slice go to their paths, if there are any
 abbrev pub AsksExplain : Option (Text × List Row) → Request → Type 0
 AsksExplain met (Explain options history certificate large slice quiet full) =
     IsFlag (flag_text (codes "json") met) options.json × IsLevel (level_text met) options.level × IsWorkers (workers_text met) options.workers
@@ -179,6 +186,7 @@ AsksExplain met (Explain options history certificate large slice quiet full) =
     × IsFlag (flag_text (codes "large") met) large × (option_map string_bytes slice ≡ slice_path met)
     × IsFlag (flag_text (codes "quiet") met) quiet × IsFlag (flag_text (codes "full") met) full
 AsksExplain met (Survey level json large history) = ⊥
+AsksExplain met (Watch level json history) = ⊥
 AsksExplain met (Check files) = ⊥
 
 -- the list is in lines of JSON and within the large limits by the flags, at the level of the word; the records are those of the file
@@ -187,7 +195,16 @@ AsksSurvey met (Survey level json large history) =
     IsLevel (level_text met) level × IsFlag (flag_text (codes "json") met) json × IsFlag (flag_text (codes "large") met) large
     × IsInput (history_path met) (option_map string_bytes history)
 AsksSurvey met (Explain options history certificate large slice quiet full) = ⊥
+AsksSurvey met (Watch level json history) = ⊥
 AsksSurvey met (Check files) = ⊥
+
+-- each answer is a line of JSON by the flag, at the level of the word; the records are those of the file
+abbrev pub AsksWatch : Option (Text × List Row) → Request → Type 0
+AsksWatch met (Watch level json history) =
+    IsLevel (level_text met) level × IsFlag (flag_text (codes "json") met) json × IsInput (history_path met) (option_map string_bytes history)
+AsksWatch met (Explain options history certificate large slice quiet full) = ⊥
+AsksWatch met (Survey level json large history) = ⊥
+AsksWatch met (Check files) = ⊥
 
 -- the paths are those that clap finds, and it is within the large limits by the flag
 abbrev pub AsksFiles : List Row → Files → Type 0
@@ -195,13 +212,14 @@ AsksFiles rows files =
     (first_of (codes "history") rows ≡ Some (string_bytes files.history)) × (first_of (codes "certificate") rows ≡ Some (string_bytes files.certificate))
     × IsFlag (one_of (codes "large") rows) files.large
 
--- what the subcommand that was met asks for: a check by its name with its two paths; a survey by its name; else answers
+-- what the subcommand that was met asks for: a check by its name with its two paths; a survey or a watch by its name; else answers
 abbrev pub AsksBy : Option (Text × List Row) → Request → Type 0
 AsksBy met (Explain options history certificate large slice quiet full) =
     (option_map (λ entered. entered.0) met ≢ Some (codes "check")) × (option_map (λ entered. entered.0) met ≢ Some (codes "survey"))
-    × AsksExplain met (Explain options history certificate large slice quiet full)
+    × (option_map (λ entered. entered.0) met ≢ Some (codes "watch")) × AsksExplain met (Explain options history certificate large slice quiet full)
 AsksBy met (Survey level json large history) =
     (option_map (λ entered. entered.0) met ≡ Some (codes "survey")) × AsksSurvey met (Survey level json large history)
+AsksBy met (Watch level json history) = (option_map (λ entered. entered.0) met ≡ Some (codes "watch")) × AsksWatch met (Watch level json history)
 AsksBy None (Check files) = ⊥
 AsksBy (Some entered) (Check files) = (entered.0 ≡ codes "check") × AsksFiles entered.1 files
 
@@ -214,15 +232,16 @@ GoesTogether (Explain options history certificate large slice quiet full) =
     (large ≡ false → slice ≡ None) × (quiet ≡ true → options.json ≡ false)
     × (full ≡ true → (quiet ≡ false) × (certificate ≡ None) × (slice ≡ None))
 GoesTogether (Survey level json large history) = Unit {0}
+GoesTogether (Watch level json history) = Unit {0}
 GoesTogether (Check files) = Unit {0}
 
--- a text, or the line `memory` in its place, goes out with its status
+-- a text, or the line `memory` in its place, is written with its status
 abbrev pub PrintsHelp : Option (List ℕ) → Option (List ℕ) → ℕ → Type 0
 PrintsHelp before after code =
     ((text : List ℕ) × Prints before after text Success code) ⊎ Prints before after (memory_line false) Memory code
 
--- how a run ends that answers nothing, by what clap says of its words: for help and the version some text, which no clause
--- names, has to go out; or the line `memory`; and for a fault of the words standard output stays empty
+-- how a run ends that answers nothing, by what clap says of its words. For help and the version some text, which no clause
+-- names, has to be written, or the line `memory`. For a fault of the words standard output stays empty
 abbrev pub EndsUnasked : ErrorKind → Option (List ℕ) → Option (List ℕ) → ℕ → Type 0
 EndsUnasked DisplayHelp before after code = PrintsHelp before after code
 EndsUnasked DisplayVersion before after code = PrintsHelp before after code
@@ -235,7 +254,7 @@ IsRefused app words before after code =
     (request : Request) × Asks app words request × (GoesTogether request → ⊥) × EndsUnasked ArgumentConflict before after code
 
 -- a run is asked for only where clap finds no fault in the words, and it is the one that they ask for, all of which goes
--- together; else the run ends as one of their faults has it, or out of memory
+-- together. Else the run ends as one of their faults has it, or out of memory
 abbrev pub IsAskedBy : App → List (List ℕ) → Option (List ℕ) → Option (List ℕ) → Result Request ℕ → Type 0
 IsAskedBy app words before after (Ok request) =
     (fault_of app words ≡ []) × Asks app words request × GoesTogether request × (after ≡ before)

@@ -4,8 +4,8 @@ ghost use Rattle.std.specs.String.{string_bytes};
 ghost use Rattle.clap.specs.Words.{FailsBy, IsUnsignedIn, app_of, fault_of, found_of, kind_of, rows_of, rule_of, subcommand_rows_of, with_rule};
 ghost use Rattle.clap.specs.declared.error.kind.ErrorKind.TheVariants.{OutOfMemory};
 ghost use Rattle.tcc_graph.specs.declared.level.Level.{Level};
-ghost use Rattle.tcc_workers.specs.declared.workers.TheConstants.{MAX_WORKERS};
-ghost use Rattle.tcc_words.specs.CommandLines.{Asks, AsksBy, AsksExplain, AsksFiles, AsksSurvey, EndsUnasked, GoesTogether, IsAsked, IsFlag, IsInput, IsRequired, WasAsked, IsLevel, IsWorkers, PrintsHelp, SaysWorkers, certificate_option, check_command, explain_command, flag, flag_text, level_option, level_text, level_word, option_text, history_path, require_option, required_text, slice_option, survey_command, path, path_option, tcc_command, valued_option, workers_option, workers_text};
+ghost use Rattle.tcc_base.specs.declared.workers.TheConstants.{MAX_WORKERS};
+ghost use Rattle.tcc_words.specs.CommandLines.{Asks, AsksBy, AsksExplain, AsksFiles, AsksSurvey, AsksWatch, EndsUnasked, GoesTogether, IsAsked, IsFlag, IsInput, IsRequired, WasAsked, IsLevel, IsWorkers, PrintsHelp, SaysWorkers, certificate_option, check_command, explain_command, flag, flag_text, level_option, level_text, level_word, option_text, history_path, require_option, required_text, slice_option, survey_command, watch_command, path, path_option, tcc_command, valued_option, workers_option, workers_text};
 
 use crate::help;
 use clap::builder::ValueParser;
@@ -14,10 +14,10 @@ use clap::{Arg, ArgAction, ArgMatches, Command, Error};
 use std::alloc::{AllocError, Global};
 use std::env;
 use std::io::{self, Write};
+use tcc_base::{MAX_WORKERS, Workers};
 use tcc_graph::Level;
 use tcc_print::printing::{print_memory, print_text};
 use tcc_print::{Options, Status};
-use tcc_workers::{MAX_WORKERS, Workers};
 
 /// What the program is asked to do.
 #[derive(Drop)]
@@ -50,6 +50,15 @@ pub enum Request {
         /// The path of the records; without it they are those of the standard input.
         history: Option<String>,
     },
+    /// Answer for records while they come.
+    Watch {
+        /// The level to judge at.
+        level: Level,
+        /// Whether each answer is wanted in one line of JSON.
+        json: bool,
+        /// The path of the records; without it they are those of the standard input.
+        history: Option<String>,
+    },
     /// Judge a certificate for a history.
     Check(Files),
 }
@@ -65,7 +74,7 @@ pub struct Files {
     pub large: bool,
 }
 
-/// An option by its own name, with what help calls its value; without it, the word stands for the value.
+/// An option by its own name, with what help calls its value; without it, the word represents the value.
 fn valued_option<'a>(
     alloc: Global,
     id: &'a str,
@@ -276,12 +285,28 @@ fn survey_command<'a>(alloc: Global, levels: &'a [&'a str]) -> Result<Command<'a
         .arg(history)
 }
 
+/// The subcommand that watches, at one of these levels.
+fn watch_command<'a>(alloc: Global, levels: &'a [&'a str]) -> Result<Command<'a>, AllocError>
+    ensures { IfOk result (λ made. app_of made ≡ watch_command levels.entry) }
+{
+    let level = level_option(alloc, levels);
+    let json = flag(alloc, "json", "Answers in lines of JSON");
+    let history = records_path(alloc);
+    Command::new(alloc, "watch")
+        .about("Reads records while they come and answers at each seal")
+        .after_help(help::WATCH)
+        .arg(level)?
+        .arg(json)?
+        .arg(history)
+}
+
 /// The command by which words are read, with these words for levels.
 fn command<'a>(alloc: Global, levels: &'a [&'a str]) -> Result<Command<'a>, AllocError>
     ensures { IfOk result (λ made. app_of made ≡ tcc_command levels.entry) }
 {
     let explain = explain_command(alloc, levels)?;
     let survey = survey_command(alloc, levels)?;
+    let watch = watch_command(alloc, levels)?;
     let check = check_command(alloc)?;
     let tcc = Command::new(alloc, "tcc")
         .about("Checks and explains causal consistency of transaction histories")
@@ -290,7 +315,8 @@ fn command<'a>(alloc: Global, levels: &'a [&'a str]) -> Result<Command<'a>, Allo
         .subcommand_required(true)
         .subcommand(explain)?;
     let more = tcc.subcommand(survey)?;
-    more.subcommand(check)
+    let most = more.subcommand(watch)?;
+    most.subcommand(check)
 }
 
 /// Whether a flag of the subcommand is set.
@@ -436,6 +462,22 @@ fn survey_of(alloc: Global, matches: &ArgMatches) -> Result<Request, Error>
     })
 }
 
+/// How a watch is wanted, and where its records are.
+fn watch_of(alloc: Global, matches: &ArgMatches) -> Result<Request, Error>
+    ensures asked { IfOk result (AsksWatch (subcommand_rows_of matches.now)) }
+    ensures fails { IfErr result (λ e. kind_of e ≡ OutOfMemory) }
+{
+    let Some(level) = level_of(matches) else {
+        // Another word is a fault by clap, so only memory can be wanting.
+        return Err(Error::from(AllocError));
+    };
+    Ok(Request::Watch {
+        level,
+        json: is_set(matches, "json"),
+        history: history_of(alloc, matches)?,
+    })
+}
+
 /// The two files to check, and within which limits.
 pub(crate) fn files_of(alloc: Global, matches: &ArgMatches) -> Result<Files, Error>
     ensures asked { IfOk result (AsksFiles (rows_of (found_of matches.now))) }
@@ -461,6 +503,7 @@ fn asked_of(alloc: Global, matches: &ArgMatches) -> Result<Request, Error>
     match matches.subcommand() {
         Some((name, check)) if name == "check" => Ok(Request::Check(files_of(alloc, check)?)),
         Some((name, _survey)) if name == "survey" => survey_of(alloc, matches),
+        Some((name, _watch)) if name == "watch" => watch_of(alloc, matches),
         _ => options_of(alloc, matches),
     }
 }

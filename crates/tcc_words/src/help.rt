@@ -5,7 +5,8 @@ pub const VERSION: &str = "0.1.0";
 
 /// Where the help on each command is.
 pub const COMMANDS: &str =
-    "'tcc explain --help', 'tcc survey --help' and 'tcc check --help' show what is read, an example and the statuses.
+    "'tcc explain --help', 'tcc survey --help', 'tcc watch --help' and 'tcc check --help' show what is read, an
+example and the statuses.
 'man tcc' says how to read an answer, README.md of the sources also how to record a history.";
 
 /// Where the help on the checker's command is.
@@ -76,6 +77,33 @@ Statuses:
   4   the records are past a limit
   5   out of memory
   6   reading or writing failed, the input has too many bytes, or a file can't be opened
+  64  the command line is wrong
+
+'man tcc' says how to read an answer, docs/FORMATS.md of the sources has every text and every limit.";
+
+/// The records, an example, and the statuses of a watch.
+pub const WATCH: &str =
+    "The records are those that 'tcc explain --large' reads, while they come: each 'seal' is answered at once, for all
+that was finished so far, and so is the end. As long as the history is consistent an answer is one line, and
+costs what is new since the last one. Any other answer is that of 'tcc explain --large', at its cost.
+
+Example: a session writes x; after an answer, its next transaction reads the initial x.
+  $ printf 'a,begin\\na,w,x,1\\na,commit\\nseal\\na,begin\\na,r,x,0\\na,commit\\n' | tcc watch
+  consistent: 1 transactions, 1 sessions
+  anomaly: 3 steps, stale-initial-read
+  session init -> a/1
+  derived a/1 -> init by x, read by a/2
+    session a/1 -> a/2
+    against init -> a/2 by x
+
+Statuses, of the last answer or of the fault that ended the run:
+  0   consistent: some order explains every read
+  1   an anomaly: no order explains the reads; unless it says so, no shorter cycle shows it
+  2   unresolved: reads that can't be traced to a write, or values written twice
+  3   a record breaks a rule, or the input ends inside a transaction
+  4   the records are past a limit
+  5   out of memory
+  6   reading or writing failed, the input has more than 1073741824 bytes, or a file can't be opened
   64  the command line is wrong
 
 'man tcc' says how to read an answer, docs/FORMATS.md of the sources has every text and every limit.";

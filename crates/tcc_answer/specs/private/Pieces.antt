@@ -3,9 +3,9 @@ use Rattle.std.specs.Prelude.{ℕ, List, ◌∷◌, ◌++◌, codes}
 use Rattle.serde_json.specs.Data.{Data}
 use Rattle.serde_json.specs.Written.{compact_text}
 use Rattle.tcc_answer.specs.Json.{word_text}
-use Rattle.tcc_answer.specs.Labels.{label_at}
+use Rattle.tcc_graph.specs.Labels.{label_at}
 
--- an item of a list, behind a comma
+-- an item of a list, after a comma
 abbrev pub later_item : {X : Type 0} → (X → Data) → X → List ℕ
 later_item form x = 44 ∷ compact_text (form x)
 

@@ -1,34 +1,31 @@
 //! How the text of version 3 is read.
-ghost use Rattle.std.specs.Prelude.{◌≡◌, ℕ, IfSome, List, OnOk, is_ok};
-ghost use Rattle.tcc_cert.specs.{private.Inputs.AsBefore, private.Inputs.Gives, private.Inputs.GivesSuch, InputBytes.IsAt, Outcomes.IsLargeReading, Taken.IsClaimTaken, Taken.IsLargeTaken, declared.ranges.TheConstants.MAX_HEADER_BYTES};
-ghost use Rattle.tcc_cert.specs.Reading.{Position, next, start_of};
+ghost use Rattle.std.specs.Prelude.{◌≡◌, IfSome, OnOk, is_ok};
+ghost use Rattle.tcc_cert.specs.{private.Inputs.AsBefore, private.Slack.KeepsSlack, private.Inputs.Gives, private.Inputs.GivesSuch, InputBytes.IsAt, Outcomes.IsLargeReading, Taken.IsClaimTaken, declared.ranges.TheConstants.MAX_HEADER_BYTES};
+ghost use Rattle.tcc_cert.specs.Reading.{Position, next};
 ghost use Rattle.tcc_reads.specs.History.{History};
 ghost use Rattle.tcc_cert.specs.LargeReading.{large_behind_header, large_certificate_at, large_header_line, least_at, links_claim_at, runs_at};
 
 use super::forms::{CycleSizes, Sizes};
-use super::held::Held;
 use super::input::{Input, at_line};
 use super::large_forms::{LargeOrderSizes, Tail};
+use super::large_reader::LargeReader;
 use super::links::entries;
 use super::mark;
 use super::taking::give_links;
 use super::words::next_line;
 use crate::ranges::{MAX_HEADER_BYTES, Scale};
-use crate::version_3::V3_MAX_TEXT_BYTES;
 use crate::{
-    CertFault, CertFaultKind, LargeCertificate, LargeHead, LinksClaim, LinksHead, LinksSizes, Run,
-    Runs, RunsClaim, TakesLinks,
+    CertFault, CertFaultKind, LargeCertificate, LargeHead, LinksHead, LinksSizes, Run, Runs,
+    RunsClaim, TakesLinks,
 };
 use std::alloc::Global;
 use std::io::Read;
 use tcc_graph::Level;
 
-/// The text is given up where it has more bytes than this: one more than it may have, so that its end is met.
-pub(crate) const MOST_BYTES: usize = V3_MAX_TEXT_BYTES + 1;
-
 /// So many runs, and the last line.
 fn runs<R: Read>(alloc: Global, input: &mut Input<R>, count: u32) -> Result<Runs, CertFault>
     ensures works { OnOk result (AsBefore input.old input.new) }
+    ensures slack { OnOk result (KeepsSlack R.remaining input.old.source input.new.source) }
     ensures gives { (at : Position) → IsAt R.remaining input.old at → Gives R.remaining at (runs_at count at) result input.new }
 {
     let runs = entries::<Run, R>(alloc, input, Scale::Large, count)?;
@@ -43,6 +40,7 @@ fn least<R: Read>(
     tail: Tail,
 ) -> Result<Option<Runs>, CertFault>
     ensures works { OnOk result (AsBefore input.old input.new) }
+    ensures slack { OnOk result (KeepsSlack R.remaining input.old.source input.new.source) }
     ensures gives { (at : Position) → IsAt R.remaining input.old at → Gives R.remaining at (least_at tail at) result input.new }
 {
     match tail {
@@ -59,6 +57,7 @@ fn cycle<S: TakesLinks, R: Read>(
     taker: &mut S,
 ) -> Result<LargeHead, CertFault>
     ensures works { OnOk result (AsBefore input.old input.new) }
+    ensures slack { OnOk result (KeepsSlack R.remaining input.old.source input.new.source) }
     ensures gives { (at : Position) (h : History) → IsAt R.remaining input.old at → S.ready taker.old h
         → GivesSuch R.remaining at (links_claim_at sizes.level sizes.transactions sizes.links sizes.cost at) (IsClaimTaken (S.took taker.new h)) result input.new }
 {
@@ -77,6 +76,7 @@ fn claim<S: TakesLinks, R: Read>(
     taker: &mut S,
 ) -> Result<LargeHead, CertFault>
     ensures works { OnOk result (AsBefore input.old input.new) }
+    ensures slack { OnOk result (KeepsSlack R.remaining input.old.source input.new.source) }
     ensures gives { (at : Position) (h : History) → IsAt R.remaining input.old at → S.ready taker.old h
         → GivesSuch R.remaining at (large_behind_header (level, at)) (IsClaimTaken (S.took taker.new h)) result input.new }
 {
@@ -125,57 +125,26 @@ pub(crate) fn is_header(line: &[u8]) -> bool
 /// The first line.
 fn header<R: Read>(input: &mut Input<R>) -> Result<Level, CertFault>
     ensures works { OnOk result (AsBefore input.old input.new) }
+    ensures slack { OnOk result (KeepsSlack R.remaining input.old.source input.new.source) }
     ensures gives { (at : Position) → IsAt R.remaining input.old at → Gives R.remaining at (next MAX_HEADER_BYTES large_header_line at) result input.new }
 {
     let line = input.next(MAX_HEADER_BYTES)?;
     at_line(line, header_line(input.line()))
 }
 
-/// A certificate, up to its last line.
-fn certificate<S: TakesLinks, R: Read>(
+/// A certificate, up to its last line, whose links are taken.
+pub(crate) fn certificate<S: TakesLinks, R: Read>(
     alloc: Global,
     input: &mut Input<R>,
     taker: &mut S,
 ) -> Result<LargeHead, CertFault>
     ensures works { OnOk result (AsBefore input.old input.new) }
+    ensures slack { OnOk result (KeepsSlack R.remaining input.old.source input.new.source) }
     ensures gives { (at : Position) (h : History) → IsAt R.remaining input.old at → S.ready taker.old h
         → GivesSuch R.remaining at (large_certificate_at at) (IsClaimTaken (S.took taker.new h)) result input.new }
 {
     let level = header(input)?;
     claim(alloc, input, level, taker)
-}
-
-/// The whole text, which starts where the input stands, and whose links are taken.
-pub(crate) fn taken<S: TakesLinks, R: Read>(
-    alloc: Global,
-    input: &mut Input<R>,
-    taker: &mut S,
-) -> Result<LargeHead, CertFault>
-    ensures { (bytes : List ℕ) (h : History) → IsAt R.remaining input.old (start_of bytes) → S.ready taker.old h → IsLargeTaken bytes (S.took taker.new h) result }
-{
-    let claim = certificate(alloc, input, taker)?;
-    input.end()?;
-    Ok(claim)
-}
-
-/// The whole text, which starts where the input stands.
-pub(crate) fn whole<R: Read>(
-    alloc: Global,
-    input: &mut Input<R>,
-) -> Result<LargeCertificate, CertFault>
-    ensures { (bytes : List ℕ) → IsAt R.remaining input.old (start_of bytes) → IsLargeReading bytes result }
-{
-    let mut held = Held::new(alloc);
-    match taken(alloc, input, &mut held)? {
-        LargeHead::Order(claim) => Ok(LargeCertificate::Order(claim)),
-        LargeHead::Cycle(LinksHead { sizes, least }) => Ok(LargeCertificate::Cycle(LinksClaim {
-            level: sizes.level,
-            transactions: sizes.transactions,
-            links: held.into_links(),
-            cost: sizes.cost,
-            least,
-        })),
-    }
 }
 
 /// Reads the certificate of version 3 whose text the reader gives, nothing behind it, or the first line with a fault. The
@@ -185,7 +154,5 @@ pub(crate) fn whole<R: Read>(
 pub fn read_large<R: Read + Drop>(alloc: Global, reader: R) -> Result<LargeCertificate, CertFault>
     ensures { IfSome (R.remaining reader) (λ bytes. IsLargeReading bytes result) }
 {
-    let mut input = Input::new(reader);
-    input.limit(MOST_BYTES);
-    whole(alloc, &mut input)
+    LargeReader::over(Input::new(reader)).read(alloc)
 }

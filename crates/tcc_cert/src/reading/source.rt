@@ -2,6 +2,7 @@
 ghost use Rattle.std.specs.Prelude.{◌≡◌, ◌+◌, IfOk, IsErr, IsTrue, OnErr, OnOk, false};
 ghost use Rattle.std.specs.Io.{ReadsAtMost};
 ghost use Rattle.std.specs.Io.KnownBytes.{ReadConsumes};
+ghost use Rattle.tcc_cert.specs.private.Slack.{KeepsSlack};
 
 use std::io::{self, ErrorKind, Read};
 
@@ -43,6 +44,7 @@ impl<R: Read> Source<R> {
         ensures failed { OnErr result (IsTrue self.new.failed) }
         ensures left { IfOk result (λ count. count + self.new.left ≡ self.old.left) }
         ensures given_up { self.old.left ≡ 0 → IsErr result }
+        ensures slack { OnOk result (KeepsSlack R.remaining self.old self.new) }
     {
         if self.left == 0 {
             self.failed = true;

@@ -8,7 +8,7 @@ use Rattle.tcc_graph.specs.Levels.{Judged}
 use Rattle.tcc_graph.specs.Tables.{row_of}
 use Rattle.tcc_cycle.specs.Returns.{IsFirstReturn}
 use Rattle.tcc_cycle.specs.declared.first_return.FirstReturn.{FirstReturn}
-use Rattle.tcc_answer.specs.Labels.{labels_of}
+use Rattle.tcc_graph.specs.Labels.{labels_of}
 use Rattle.tcc_explain.specs.private.Capping.{AreFarRows}
 use Rattle.tcc_explain.specs.declared.explaining.Searched.{Searched}
 use Rattle.tcc_reads.specs.declared.fault.ResolveFault.{ResolveFault}

@@ -1,5 +1,5 @@
 -- Links that are picked from the last backwards.
-use Rattle.std.specs.Prelude.{ℕ, ◌≤◌, ◌≡◌, ◌≢◌, ◌+◌, ◌⊎◌, List}
+use Rattle.std.specs.Prelude.{ℕ, ◌<◌, ◌≤◌, ◌≡◌, ◌≢◌, ◌+◌, ◌⊎◌, List, slice_index}
 use Rattle.std.specs.declared.cmp.Ordering.TheVariants.{Less, Greater}
 use Rattle.tcc_reads.specs.History.{History}
 use Rattle.tcc_reads.specs.Sources.{name_cmp}
@@ -37,3 +37,16 @@ IsContradicted h b a x c = MayContradict h b a x c × IsCausalPair h b c
 pub record IsFirstContradicted (h : History) (b : ℕ) (a : ℕ) (x : List ℕ) (c : ℕ) : Type 0 where
   pub here : IsContradicted h b a x c
   pub first : (y : List ℕ) (d : ℕ) → IsContradicted h b a y d → (name_cmp x y ≡ Less) ⊎ ((x ≡ y) × (c ≤ d))
+
+-- c reads the key x from a, b is another writer of it, and a table of lengths has n at c
+abbrev pub IsContradictedAt : History → List ℕ → ℕ → ℕ → ℕ → List ℕ → ℕ → Type 0
+IsContradictedAt h lengths n b a x c = MayContradict h b a x c × (slice_index lengths c ≡ n)
+
+-- the first such reading, by key and by reader
+pub record IsFirstContradictedAt (h : History) (lengths : List ℕ) (n : ℕ) (b : ℕ) (a : ℕ) (x : List ℕ) (c : ℕ) : Type 0 where
+  pub here : IsContradictedAt h lengths n b a x c
+  pub first : (y : List ℕ) (d : ℕ) → IsContradictedAt h lengths n b a y d → (name_cmp x y ≡ Less) ⊎ ((x ≡ y) × (c ≤ d))
+
+-- there is none of 1 to n
+abbrev pub NoneContradictedUpTo : History → List ℕ → ℕ → ℕ → ℕ → Type 0
+NoneContradictedUpTo h lengths n b a = (m : ℕ) → 0 < m → m ≤ n → (x : List ℕ) (c : ℕ) → IsContradictedAt h lengths m b a x c → ⊥

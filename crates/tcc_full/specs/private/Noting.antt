@@ -25,7 +25,7 @@ abbrev pub NotesRecord : Record → ℕ → OperationRows → OperationRows → 
 NotesRecord fields row old new =
     (name : List ℕ) → name_fault name ≡ None → rows_in new name ≡ after_record name row fields (rows_in old name)
 
--- the table has the rows of the records of a text before this row
+-- the table has the numbers of a text's records before this row
 pub record IsNoted {R : Type 0} (remaining : R → Option (List ℕ)) (text : List ℕ) (reader : Reader R) (row : ℕ) (table : OperationRows) : Type 0 where
   pub first : List Record
   pub rest : List ℕ

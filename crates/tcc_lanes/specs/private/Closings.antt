@@ -1,9 +1,8 @@
 -- The derived links that lead back, as they are found: of each transaction the least price of one that begins there, and the last
 -- position from which one leads to it.
-use Rattle.std.specs.Prelude.{ℕ, ◌<◌, ◌≤◌, ◌≡◌, ◌+◌, ◌*◌, ◌⊎◌, List, Contains, length, slice_index}
+use Rattle.std.specs.Prelude.{ℕ, ◌<◌, ◌≤◌, ◌≡◌, ◌+◌, ◌⊎◌, List, Contains, length, slice_index}
 use Rattle.tcc_graph.specs.Levels.{Judged}
 use Rattle.tcc_lanes.specs.Nearness.{IsClosing}
-use Rattle.tcc_lanes.specs.declared.words.TheConstants.{LANES}
 use Rattle.tcc_lanes.specs.private.Pricing.{cell}
 
 -- those that are meant were taken in: no price rises and no last position falls, each new one is of one of them, and none of them is missing

@@ -1,5 +1,5 @@
 -- What links among members cost, worked out from 64 of them at a time.
-use Rattle.std.specs.Prelude.{ℕ, ◌<◌, ◌≤◌, ◌+◌, ◌*◌, ◌≡◌, ◌⊎◌, ◌↔◌, min, All, List, [], length, map, reverse, slice_index, slice_index_or, if◌then◌else◌}
+use Rattle.std.specs.Prelude.{ℕ, ◌<◌, ◌≤◌, ◌+◌, ◌*◌, ◌≡◌, ◌≢◌, ◌⊎◌, ◌↔◌, min, All, List, [], length, map, reverse, slice_index, slice_index_or, if◌then◌else◌}
 use Rattle.tcc_reads.specs.History.{History, count}
 use Rattle.tcc_graph.specs.Keys.{key_at, keys}
 use Rattle.tcc_graph.specs.Levels.{Judged}
@@ -124,3 +124,9 @@ abbrev pub IsWayBack : Judged → List ℕ → ℕ → List ℕ → ℕ → List
 IsWayBack j members s costs to circle =
     (links : List Link) × LinksLead j (slice_index members to) (slice_index members s) links × (map link_from links ≡ reverse circle)
     × (slice_index costs to + cost links ≤ slice_index costs s)
+
+-- a link from a member leads to v at just what it costs to come there, none from the start does, and none from a member before
+pub record IsFirstBefore (rows : List (List ℕ)) (s : ℕ) (costs : List ℕ) (v : ℕ) (u : ℕ) : Type 0 where
+  pub sum : slice_index costs u + price_of rows u v ≡ slice_index costs v
+  pub later : price_of rows s v ≢ slice_index costs v
+  pub first : (t : ℕ) → t < u → slice_index costs t + price_of rows t v ≢ slice_index costs v

@@ -17,7 +17,7 @@ use Rattle.tcc_cert.specs.declared.large.LargeCertificate.{LargeCertificate}
 use Rattle.tcc_cert.specs.declared.large.LargeCertificate.TheVariants as claims
 use Rattle.tcc_cert.specs.declared.large.Run.{Run}
 use Rattle.tcc_answer.specs.Claims.{certificate_of}
-use Rattle.tcc_answer.specs.Labels.{labels_of}
+use Rattle.tcc_graph.specs.Labels.{labels_of}
 use Rattle.tcc_answer.specs.declared.answer.Answer.{Answer}
 use Rattle.tcc_answer.specs.declared.answer.Answer.TheVariants as answer
 use Rattle.tcc_answer.specs.declared.fault.WriteFault.{WriteFault}

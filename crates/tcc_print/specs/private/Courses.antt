@@ -4,7 +4,7 @@ use Rattle.std.specs.Io.KnownBytes.{Appends}
 use Rattle.std.specs.List.{last_or}
 use Rattle.tcc_rows.specs.Answers.{answers_within}
 use Rattle.tcc_rows.specs.Items.{finished_in}
-use Rattle.tcc_print.specs.Courses.{IsCourse, IsWhole, Said, texts}
+use Rattle.tcc_print.specs.Courses.{IsCourse, IsWholeCourse, Said, texts}
 use Rattle.tcc_print.specs.Printed.{CutsOff}
 use Rattle.tcc_print.specs.Saying.{Course}
 use Rattle.tcc_print.specs.Statuses.{code_of}
@@ -13,7 +13,7 @@ use Rattle.tcc_print.specs.declared.last.Last.{Last}
 -- all is answered, and this is what was said last, of all that was finished
 abbrev pub AllAnswered : {O : Type 0} → Course O → List ℕ → Option (List ℕ) → Option (List ℕ) → Last O → Type 0
 AllAnswered course bytes before after last =
-    (said : List Said) × IsWhole course.is_said (answers_within course.limits bytes) said × (last_or None said ≡ Some (course.say last.outcome))
+    (said : List Said) × IsWholeCourse course.is_said (answers_within course.limits bytes) said × (last_or None said ≡ Some (course.say last.outcome))
     × course.is_outcome (finished_in (answers_within course.limits bytes).items) last.outcome × Appends before after (texts said)
 
 -- the run ended before it came to a file: all went out, and the last of it has no certificate; or a write failed

@@ -9,10 +9,11 @@ use std::alloc::Global;
 use std::marker::Model;
 use tcc_txn::{MAX_OPERATIONS, Op, Txn};
 
-/// Up to `MAX_OPERATIONS` operations, of which none writes 0.
+/// Up to `MAX_OPERATIONS` operations, of which none writes 0, and the numbers of their keys among the keys so far.
 #[derive(Drop)]
 pub(crate) struct Draft {
     ops: Vec<Op>,
+    numbers: Vec<u32>,
 }
 
 impl Model for Draft {
@@ -32,6 +33,7 @@ impl Draft {
     {
         Draft {
             ops: Vec::new(alloc),
+            numbers: Vec::new(alloc),
         }
     }
 
@@ -52,10 +54,22 @@ impl Draft {
         Ok(())
     }
 
-    /// The transaction of the operations.
-    pub(crate) fn finish(self, committed: bool) -> Txn
+    /// The number of the key of its last operation.
+    fn note(&mut self, number: u32) -> Result<(), RowFaultKind>
+        ensures kept { self.new ≡ self.old }
+        ensures memory { IfErr result (λ kind. kind ≡ RowFaultKind.NoMemory) }
+    {
+        if self.numbers.push(number).is_err() {
+            return Err(RowFaultKind::NoMemory);
+        }
+        Ok(())
+    }
+
+    /// The transaction of the operations, whose keys have these numbers.
+    pub(crate) fn finish(self, committed: bool, numbers: &mut Vec<u32>) -> Txn
         ensures { result ≡ record { ops = self; committed = committed } }
     {
+        *numbers = self.numbers;
         Txn::new(self.ops, committed).unwrap()
     }
 
@@ -85,5 +99,16 @@ pub(crate) fn add_operation(begun: &mut Option<Draft>, op: Op) -> Result<(), Row
     match begun {
         Some(draft) => draft.push(op),
         None => Err(RowFaultKind::NotBegun),
+    }
+}
+
+/// The key of the last operation of the transaction has the number.
+pub(crate) fn note_number(begun: &mut Option<Draft>, number: u32) -> Result<(), RowFaultKind>
+    ensures kept { begun.new ≡ begun.old }
+    ensures memory { IfErr result (λ kind. kind ≡ RowFaultKind.NoMemory) }
+{
+    match begun {
+        Some(draft) => draft.note(number),
+        None => Ok(()),
     }
 }

@@ -14,16 +14,17 @@ ghost use Rattle.tcc_rows.specs.declared.rows.Stage.TheVariants as stage;
 ghost use Rattle.tcc_rows.specs.Line as line;
 
 use super::Item;
-use super::draft::{Draft, add_operation};
+use super::draft::{Draft, add_operation, note_number};
 use super::line::{Turn, field, read_access, read_op, read_session};
 use crate::RowFaultKind;
 use csv::ByteRecord;
 use std::alloc::Global;
 use std::collections::{BTreeMap, BTreeSet};
-use tcc_txn::{Limits, MAX_SEALS, Name, Op, SymbolTable, Txn};
+use tcc_txn::{KeyHints, Limits, MAX_SEALS, Name, Op, SymbolTable, Txn};
 
 /// The limits; each session with the operations of the transaction that it has begun; the sessions that have ended; the
-/// keys so far; how many transactions were begun and how many seals there were.
+/// keys so far; how many transactions were begun and how many seals there were; the numbers of the keys of the transaction
+/// that was finished last.
 #[derive(Drop)]
 pub(crate) struct Progress {
     limits: Limits,
@@ -32,21 +33,22 @@ pub(crate) struct Progress {
     keys: SymbolTable,
     begun: usize,
     seals: usize,
+    numbers: Vec<u32>,
 }
 
-/// The key is one of those so far, of which there are not too many.
-fn note_key(keys: &mut SymbolTable, key: Name, limits: Limits) -> Result<(), RowFaultKind>
+/// The key is one of those so far, of which there are not too many. It has this number.
+fn note_key(keys: &mut SymbolTable, key: Name, limits: Limits) -> Result<u32, RowFaultKind>
     ensures noted { (names : List (List ℕ)) → HoldsNames limits names keys.old → NotesName limits names key result keys.new }
     ensures other { IfErr result (λ kind. kind ≢ RowFaultKind.Read) }
 {
     if keys.len() < limits.keys() {
         return match keys.number(key) {
-            Ok(_) => Ok(()),
+            Ok(number) => Ok(number),
             Err(_) => Err(RowFaultKind::NoMemory),
         };
     }
     match keys.find(&key) {
-        Some(_) => Ok(()),
+        Some(number) => Ok(number),
         None => Err(RowFaultKind::TooManyKeys),
     }
 }
@@ -119,6 +121,7 @@ impl Progress {
             keys: SymbolTable::new(alloc),
             begun: 0,
             seals: 0,
+            numbers: Vec::new(alloc),
         }
     }
 
@@ -170,7 +173,7 @@ impl Progress {
             return Err(RowFaultKind::NotBegun);
         };
         match self.sessions.insert(session, None) {
-            Ok(Some(Some(draft))) => Ok(draft.finish(committed)),
+            Ok(Some(Some(draft))) => Ok(draft.finish(committed, &mut self.numbers)),
             _ => Err(RowFaultKind::NoMemory),
         }
     }
@@ -212,10 +215,13 @@ impl Progress {
                 if let Err(kind) = add_operation(begun, op) {
                     return Err(kind);
                 }
+                match note_key(&mut self.keys, key, self.limits) {
+                    Ok(number) => note_number(begun, number),
+                    Err(kind) => Err(kind),
+                }
             }
-            None => return Err(RowFaultKind::NotBegun),
+            None => Err(RowFaultKind::NotBegun),
         }
-        note_key(&mut self.keys, key, self.limits)
     }
 
     /// Goes past an operation, where four fields are one; `last` is the session of the one before.
@@ -289,6 +295,14 @@ impl Progress {
                 Ok(txn) => Ok(Some(Item::Unknown(session, txn))),
                 Err(kind) => Err(kind),
             },
+        }
+    }
+
+    /// The keys so far, and the numbers of those of the transaction that was finished last.
+    pub(crate) fn key_hints(&self) -> KeyHints<'_> {
+        KeyHints {
+            names: self.keys.names(),
+            numbers: &self.numbers,
         }
     }
 

@@ -17,7 +17,7 @@ place numbers n = position_or_len (λ m. m == n) numbers
 abbrev pub IsRising : List ℕ → Type 0
 IsRising numbers = (i j : ℕ) → i < j → j < length numbers → slice_index numbers i < slice_index numbers j
 
--- what is read from a, what a stands before, and what b writes
+-- what is read from a, what a comes before, and what b writes
 abbrev pub KeepsReads : List ℕ → History → History → ℕ → Type 0
 KeepsReads numbers small large a = (c : ℕ) (x : List ℕ) → IsReadsPair small a c x → IsReadsPair large (carry numbers a) (carry numbers c) x
 

@@ -12,7 +12,7 @@ use Rattle.tcc_reads.specs.History.{History, count}
 use Rattle.tcc_reads.specs.Sites.{Stand, stands}
 use Rattle.tcc_reads.specs.Sources.{visible_write}
 use Rattle.tcc_graph.specs.Numbers.{at}
-use Rattle.tcc_operations.specs.Operations.{source_value}
+use Rattle.tcc_graph.specs.Operations.{source_value}
 use Rattle.tcc_graph.specs.declared.link.Link.{Link}
 use Rattle.tcc_slices.specs.Needs.{IsMet}
 use Rattle.tcc_slices.specs.declared.needs.Need.{Need}
@@ -51,7 +51,7 @@ is_among ops op = list_any (λ one. same_op one op) ops
 abbrev pub is_wanted : List Op → List Op → Op → Bool
 is_wanted wanted before op = (is_among wanted op && is_free before op) && not (is_among before op)
 
--- what is kept of operations behind some others
+-- what is kept of operations after some others
 abbrev pub kept_behind : (List Op → Op → Bool) → List Op → List Op → List Op
 kept_behind keep before [] = []
 kept_behind keep before (op ∷ after) =
@@ -85,12 +85,12 @@ pub record IsPartOf (s : Sessions) (h : History) (own : List (ℕ × Need)) (n :
   pub ended : t.committed ≡ true
   pub kept : t.ops ≡ kept_by s h own n whole.ops
 
--- what is kept of the transaction of a number stands in a session of its session's name
+-- what is kept of the transaction of a number is in a session of its session's name
 pub record IsPartAt (s : Sessions) (h : History) (needs : List (ℕ × Need)) (n : ℕ) (t : Stand) : Type 0 where
   pub named : IsNamed s h n t.name
   pub part : IsPartOf s h (own_needs needs n) n t.txn
 
--- each of the numbers behind the first is met by the links, and one of the history
+-- each of the numbers after the first is met by the links, and one of the history
 abbrev pub AreMetBy : History → List Link → List ℕ → Type 0
 AreMetBy h links numbers = (k : ℕ) → 0 < k → k < length numbers → IsMet links (slice_index numbers k) × (slice_index numbers k < count h)
 

@@ -1,4 +1,4 @@
--- First numbers that transactions reach, by what stands right behind each, along an order turned round.
+-- First numbers that transactions reach, by what comes right after each, along an order turned round.
 use Rattle.std.specs.Prelude.{ℕ, ◌<◌, ◌≤◌, ◌≡◌, ◌+◌, List, length, slice_index, Contains}
 use Rattle.tcc_reads.specs.History.{History, count}
 use Rattle.tcc_graph.specs.Relations.{IsCausalPair, IsReadsPair, IsSessionPair}
@@ -28,7 +28,7 @@ AreFirsts h from table = HasRows h (IsFirstRow h from) (λ a. a < count h) table
 abbrev pub LeadsBackward : History → List ℕ → Type 0
 LeadsBackward h order = (b c : ℕ) → IsCausalPair h b c → Before order c b
 
--- what stands right behind a: the next of its session, and its readers
+-- what comes right after a: the next of its session, and its readers
 pub record AreChildren (h : History) (a : ℕ) (children : List ℕ) : Type 0 where
   pub pairs : (p : ℕ) → Contains children p → IsCausalPair h a p
   pub next : IsSessionPair h a (a + 1) → Contains children (a + 1)

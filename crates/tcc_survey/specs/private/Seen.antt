@@ -38,7 +38,7 @@ HaveRoom owners room reads = (k : ℕ) → k < length reads
     → ((reading_of reads k).reader < length owners) × ((reading_of reads k).source < length owners)
     × (slice_index owners (reading_of reads k).source < room)
 
--- the first n reads are those of c and of what stands before it
+-- the first n reads are those of c and of what comes before it
 pub record AreUpToReader (reads : List Reading) (n : ℕ) (c : ℕ) : Type 0 where
   pub within : n ≤ length reads
   pub early : (k : ℕ) → k < n → (reading_of reads k).reader ≤ c

@@ -40,7 +40,7 @@ abbrev pub IsHitIn : Judged → List ℕ → ℕ → ℕ → ℕ → List ℕ �
 IsHitIn j owners session low high among c b =
     (0 < b) × Contains among b × (slice_index owners b ≡ session) × (low ≤ b) × (b ≤ high) × IsKnown j.level j.history b c
 
--- the transactions of the block's history are numbered by sessions and stand in no circle, and the clocks are those of its sessions
+-- the transactions of the block's history are numbered by sessions and are in no circle, and the clocks are those of its sessions
 pub record IsBlock (s : Sweep) : Type 0 where
   pub numbered : IsBySession s.block.graph.now.entries
   pub room : s.block.from + WIDE < 2 ^ 32

@@ -1,4 +1,4 @@
--- How the usual names of contradicted reads are told from one another.
+-- How the usual names of contradicted reads are kept apart.
 use Rattle.std.specs.Prelude.{ℕ, ◌<◌, ◌≡◌, ◌⊎◌, List, length, slice_index, Contains}
 use Rattle.tcc_reads.specs.History.{History, IsBySession, count}
 use Rattle.tcc_graph.specs.Keys.{keys}

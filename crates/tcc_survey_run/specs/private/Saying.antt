@@ -14,14 +14,14 @@ use Rattle.tcc_survey_run.specs.declared.counting.NameCount.{NameCount}
 use Rattle.tcc_survey_run.specs.declared.options.SurveyOptions.{SurveyOptions}
 use Rattle.tcc_survey_run.specs.declared.told.ToldRead.{ToldRead}
 
--- the lines of what is contradicted go out, or memory was out before
+-- the lines of what is contradicted are written, or memory was out before
 abbrev pub SaysFound : Bool → Sessions → History → List Contradicted → Option (List ℕ) → Option (List ℕ) → ℕ → Type 0
 SaysFound json s h found before after code =
     ((told : List ToldRead) × (names : List NameCount) × AreTold s h found told × AreNames told names
     × GoesOut json before after (survey_text json h told (read_faults s) names) (survey_status told (read_faults s)) code)
     ⊎ Prints before after (memory_line json) Memory code
 
--- what a survey says of a snapshot goes out, or memory was out before
+-- what a survey says of a snapshot is written, or memory was out before
 abbrev pub SaysSurvey : SurveyOptions → Sessions → Option (List ℕ) → Option (List ℕ) → ℕ → Type 0
 SaysSurvey options s before after code =
     ((text : List ℕ) × (status : Status) × IsSaid options s text status × GoesOut options.json before after text status code)

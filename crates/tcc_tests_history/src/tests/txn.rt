@@ -11,8 +11,8 @@ use tcc_rows::{
     LargeRecording, Moment, Recording, RowFault, RowFaultKind, large_snapshot_of, snapshot_of,
 };
 use tcc_txn::{
-    Alike, LARGE_COUNT, LargeSnapshot, Limits, Name, NameFault, Nearby, NoMemory, Op, Recorded,
-    Snapshot, SnapshotFault, SymbolTable, Txn, TxnFault, are_same,
+    Alike, GrowFault, KeyHints, LARGE_COUNT, LargeSnapshot, Limits, Name, NameFault, Nearby,
+    NoMemory, Op, Recorded, Snapshot, SnapshotFault, SymbolTable, Txn, TxnFault, are_same,
 };
 
 fn get(key: Name, value: u64) -> Op {
@@ -336,6 +336,71 @@ fn makes_large_snapshots(rt: HostRuntime) -> Result<(), Fail> {
             }
         }
     }
+    Ok(())
+}
+
+// Two transactions, of which each is told of its keys: nothing, all, too little, too much, wrong numbers, or other names.
+// The snapshot is the same.
+#[test]
+fn adds_with_what_is_told(rt: HostRuntime) -> Result<(), Fail> {
+    let alloc = rt.alloc();
+    let [x, y, z] = [name(&rt, "x"), name(&rt, "y"), name(&rt, "z")];
+    let wanted = added(&rt, alloc, KeyHints::none())?;
+    assert_eq!(rt; wanted.finished(0), 2);
+    let names = [z, y, x];
+    for (names, numbers) in [
+        (&names[..], [2, 1, 2].as_slice()),
+        (&names[..], [2].as_slice()),
+        (&names[..], [2, 1, 2, 0, 0].as_slice()),
+        (&names[..], [0, 2, 7].as_slice()),
+        (&names[..1], [2, 1, 2].as_slice()),
+        (&[], [0, 0, u32::MAX].as_slice()),
+    ] {
+        let told = KeyHints { names, numbers };
+        assert!(rt; added(&rt, alloc, told)?.is_same(&wanted));
+    }
+    Ok(())
+}
+
+// A large snapshot of two transactions of session a, each with a read of x, a write at y and one at x.
+fn added(rt: &impl Abort, alloc: Global, told: KeyHints<'_>) -> Result<LargeSnapshot, Fail> {
+    let [x, y] = [name(rt, "x"), name(rt, "y")];
+    let mut snapshot = LargeSnapshot::empty(alloc);
+    for value in [1, 2] {
+        let ops = vec![in alloc; get(x, value), put(y, value), put(x, value)]?;
+        let Ok(txn) = Txn::new(ops, true) else {
+            panic!(rt; "a write of {value} is refused");
+        };
+        if snapshot.add_told(alloc, name(rt, "a"), txn, told).is_err() {
+            panic!(rt; "transaction {value} is refused");
+        }
+    }
+    Ok(snapshot)
+}
+
+// Whatever allocation is refused, the snapshot is as it was, or has one transaction more.
+#[test]
+fn added_where_memory_is_refused(rt: HostRuntime) -> Result<(), Fail> {
+    let alloc = rt.alloc();
+    let names = [name(&rt, "x"), name(&rt, "y")];
+    let told = KeyHints {
+        names: &names,
+        numbers: &[1, 0],
+    };
+    let mut snapshot = LargeSnapshot::empty(alloc);
+    for count in 0..3usize {
+        let ops = vec![in alloc; get(names[1], 0), put(names[0], 1)]?;
+        let Ok(txn) = Txn::new(ops, true) else {
+            return Ok(());
+        };
+        if let Err(fault) = snapshot.add_told(alloc, names[0], txn, told) {
+            assert!(rt; fault == GrowFault::NoMemory);
+            assert_eq!(rt; snapshot.transactions(), count);
+            assert_eq!(rt; snapshot.finished(0), count);
+            return Ok(());
+        }
+    }
+    assert_eq!(rt; snapshot.finished(0), 3);
     Ok(())
 }
 

@@ -6,7 +6,7 @@ use crate::tests::histories::{
 use std::alloc::Global;
 use std::process::Abort;
 use tcc_graph::{Level, Link, is_cycle};
-use tcc_large::{Decision, decide, explain_large, explain_large_with_order};
+use tcc_large::{Decision, decide, explain_large};
 use tcc_order::order;
 use tcc_reads::ResolveFault;
 use tcc_rows::snapshot_of;
@@ -48,7 +48,7 @@ fn assert_decided(
     wanted: Option<(usize, usize)>,
 ) {
     let graph = graph_of(rt, alloc, records);
-    let decision = decide(alloc, &graph, level).expect(rt, "no memory");
+    let (decision, _order) = decide(alloc, &graph, level).expect(rt, "no memory");
     let first = order(alloc, &graph, level).expect(rt, "no memory");
     match &decision {
         Decision::Order(found) => {
@@ -93,7 +93,7 @@ fn decisions(rt: HostRuntime) {
 fn judged(rt: HostRuntime) {
     let alloc = rt.alloc();
     let graph = graph_of(&rt, alloc, PAIRS);
-    let Ok(Decision::Cycle(links)) = decide(alloc, &graph, Level::Causal) else {
+    let Ok((Decision::Cycle(links), _)) = decide(alloc, &graph, Level::Causal) else {
         panic!(&rt; "no cycle");
     };
     assert!(&rt; is_cycle(&graph, Level::Causal, &links));
@@ -106,7 +106,7 @@ fn judged(rt: HostRuntime) {
 /// The records of the slice of these records by the cycle that is found at `Causal`.
 fn assert_slice(rt: &impl Abort, alloc: Global, whole: &str, wanted: &str) {
     let graph = graph_of(rt, alloc, whole);
-    let Ok(Decision::Least(links)) = decide(alloc, &graph, Level::Causal) else {
+    let Ok((Decision::Least(links), _)) = decide(alloc, &graph, Level::Causal) else {
         panic!(rt; "no cycle of {whole}");
     };
     let snapshot = snapshot_of(alloc, whole.as_bytes())
@@ -155,9 +155,7 @@ fn orders_to_judge(rt: HostRuntime) {
         let snapshot = snapshot_of(alloc, records.as_bytes())
             .expect(&rt, records)
             .large();
-        let (_answer, order) = explain_large_with_order(alloc, &snapshot, Level::Causal).expect(
-            &rt, records,
-        );
+        let (_answer, order) = explain_large(alloc, &snapshot, Level::Causal).expect(&rt, records);
         let found = order.unwrap_or(Vec::new(alloc));
         assert!(&rt; found.as_slice() == wanted, "of {records}");
     }
@@ -170,10 +168,10 @@ fn large_answers(rt: HostRuntime) {
     let chain = snapshot_of(alloc, CHAIN.as_bytes())
         .expect(&rt, CHAIN)
         .large();
-    let causal = explain_large(alloc, &chain, Level::Causal).expect(&rt, CHAIN);
+    let (causal, _) = explain_large(alloc, &chain, Level::Causal).expect(&rt, CHAIN);
     assert!(&rt; causal.graph.count() == 5);
     assert!(&rt; matches!(causal.decision, Decision::Least(_) | Decision::Cycle(_)));
-    let atomic = explain_large(alloc, &chain, Level::Atomic).expect(&rt, CHAIN);
+    let (atomic, _) = explain_large(alloc, &chain, Level::Atomic).expect(&rt, CHAIN);
     assert!(&rt; matches!(atomic.decision, Decision::Order(_)));
     let thin = "a,begin\na,r,x,1\na,commit\n";
     let snapshot = snapshot_of(alloc, thin.as_bytes())

@@ -1,5 +1,5 @@
 -- What is known of a history as far as it has come, and one transaction more.
-use Rattle.std.specs.Prelude.{ℕ, ◌<◌, ◌≡◌, ◌≢◌, Bool, true, false, List, [], ◌∷◌, length, slice_index_or, Contains}
+use Rattle.std.specs.Prelude.{ℕ, ◌<◌, ◌≡◌, ◌≢◌, Bool, true, false, List, [], ◌∷◌, length, slice_index_or}
 use Rattle.tcc_reads.specs.History.{History, count, initial}
 use Rattle.tcc_graph.specs.Relations.{IsReadsPair}
 use Rattle.tcc_graph.specs.Levels.{causally}

@@ -1,7 +1,6 @@
 -- The tables of a history that grows at its end.
 use Rattle.std.specs.Prelude.{ℕ, ◌-◌, ◌≡◌, List, ◌∷◌, length, map, slice_index}
 use Rattle.tcc_reads.specs.History.{Entry, History, count}
-use Rattle.tcc_graph.specs.Relations.{IsReadsPair}
 use Rattle.tcc_graph.specs.Tables.{row_of}
 use Rattle.tcc_graph.specs.Walks.{IsReached}
 use Rattle.tcc_graph.specs.Levels.{causally}

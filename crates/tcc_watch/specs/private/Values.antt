@@ -1,5 +1,5 @@
 -- The values that were written so far, and where reads come from.
-use Rattle.std.specs.Prelude.{ℕ, ◌<◌, ◌≡◌, Bool, true, false, not, ◌||◌, ◌==◌, if◌then◌else◌, List, [], ◌∷◌, ◌++◌, length, slice_index_or, Contains, take, Option, None, Some, is_some, unwrap_or}
+use Rattle.std.specs.Prelude.{ℕ, ◌<◌, ◌≡◌, Bool, true, not, ◌||◌, ◌==◌, if◌then◌else◌, List, [], ◌∷◌, ◌++◌, length, slice_index_or, Contains, take, Option, None, Some, is_some, unwrap_or}
 use Rattle.std.specs.BTreeMap.{BTreeMap, get}
 use Rattle.std.specs.List.{list_any}
 use Rattle.std.specs.Option.{option_eq}
@@ -9,7 +9,7 @@ use Rattle.tcc_txn.specs.Transactions.{Transaction}
 use Rattle.tcc_reads.specs.Faults.{puts}
 use Rattle.tcc_reads.specs.History.{History, count}
 use Rattle.tcc_reads.specs.Sources.{pair_cmp, visible_write}
-use Rattle.tcc_watch.specs.Ledger.{IsNumbered, IsPlaced, IsRead, KeepsOwn, Lists, ReadsExternally}
+use Rattle.tcc_watch.specs.Ledger.{IsNumbered, IsPlaced, IsRead, Lists, ReadsExternally}
 
 abbrev pub ValueMap : Type 0
 ValueMap = BTreeMap (List ℕ × ℕ) (Option ℕ)

@@ -1,7 +1,7 @@
 -- the pieces, four of them texts in quotation marks
 use Rattle.std.proofs.Common.{◌≡◌, ◌∙◌, ap, sym, string_bytes, rules}
 use Rattle.tcc_answer.specs.Json.{word_text}
-use Rattle.tcc_answer.specs.Labels.{label_at}
+use Rattle.tcc_graph.specs.Labels.{label_at}
 use Rattle.tcc_answer.proofs.links_json.push_head.Goals as goal
 
 pub returns : goal.returns

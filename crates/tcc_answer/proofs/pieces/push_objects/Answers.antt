@@ -1,4 +1,4 @@
--- the first object, those behind it, and the bracket
+-- the first object, those after it, and the bracket
 use Rattle.std.proofs.Common.{rules, append_assoc}
 use Rattle.std.proofs.lemmas.Result.{IfOk-equal}
 use Rattle.tcc_answer.proofs.JsonPieces.{all_items}

@@ -1,6 +1,6 @@
 -- The lines before the rows go out, then the rows, and the end.
 use Rattle.std.proofs.Common.{rules, ◌≡◌, [], refl, length}
-use Rattle.tcc_sending.proofs.Failing.{on_err}
+use Rattle.tcc_base.proofs.Failing.{on_err}
 use Rattle.tcc_cert.specs.declared.cycle_writer.CycleTable.TheVariants as table
 use Rattle.tcc_cert.proofs.GivenTexts.{part_begun, part_given, part_more}
 use Rattle.tcc_cert.proofs.cycle_writer.write_cycle.Goals as goal

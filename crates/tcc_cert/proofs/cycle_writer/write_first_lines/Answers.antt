@@ -2,7 +2,7 @@
 use Rattle.std.proofs.Common.{[], ◌∷◌, codes, flat_map}
 use Rattle.std.proofs.lemmas.Grind.{flat_map-append}
 use Rattle.tcc_cert.specs.Texts.{line_text, link_lines}
-use Rattle.tcc_sending.proofs.Failing.{on_err}
+use Rattle.tcc_base.proofs.Failing.{on_err}
 use Rattle.tcc_cert.proofs.SentFacts.{Appends-part, Sends-then, Stops-early, Stops-then}
 use Rattle.tcc_cert.proofs.cycle_writer.write_first_lines.Goals as goal
 

@@ -5,7 +5,7 @@ use Rattle.tcc_first.proofs.returns.is_overwritten.Goals as goal
 
 pub returns-then-is_overwritten_between : goal.returns-then-is_overwritten_between
 returns-then-is_overwritten_between c = (
-  (λ _. let (b, writer, p, q) = c.is_overwritten_between.ensures.0 c.if-is_overwritten_between.true in (b, writer, p, inl q)),
+  (λ _. let (b, writer, p, q) = c.is_overwritten_between.ensures.0 c.if-is_overwritten_between.true in (b, writer, inl (p, q))),
   (λ _. c.if-is_overwritten_between.true),
 )
 

@@ -1,43 +1,29 @@
-use Rattle.std.proofs.Common.{below_more, rules, ℕ, inl, sym, ◌∙◌, arith}
-use Rattle.std.specs.Prelude.{slice_index_or}
+use Rattle.std.proofs.Common.{rules, sym, ◌∙◌}
 use Rattle.std.proofs.lemmas.Bool.{false≢true, ne_eqb}
-use Rattle.tcc_graph.specs.Keys.{key_at}
-use Rattle.tcc_least.proofs.ReadLemmas.{AreReadsAt}
-use Rattle.tcc_least.proofs.ReturnLemmas.{read_at}
-use Rattle.tcc_first.proofs.Around.{around_or, none_around_or, none_over}
+use Rattle.tcc_first.proofs.Around.{by_pairs, by_stale, around_or, none_around_by}
 use Rattle.tcc_first.proofs.starts.is_around.Goals as goal
 
-pub returns-then-is_way : goal.returns-then-is_way
-returns-then-is_way c =
-    let h = c.args.graph.now in
-    let reads = c.reads_at-read-items.result.now in
-    let are : AreReadsAt h c.args.start reads = record { value = c.reads_at-read-items.ensures.value; within = c.reads_at-read-items.ensures.within } in
-    let k : ℕ = c.loop-read.read-index in (
-      (λ _. inl (
-        (slice_index_or reads k (0, 0)).1,
-        (key_at h (slice_index_or reads k (0, 0)).0, read_at h c.args.start reads are c.requires.start k c.loop-read-test.true),
-        (_, omega (arith, c.requires.some), c.is_way.ensures.0 c.if-is_way.true),
-      )),
-      (λ _. search rules),
-    )
+pub returns-then-is_around_by_pairs : goal.returns-then-is_around_by_pairs
+returns-then-is_around_by_pairs c = (
+  (λ _. by_pairs c.args.graph.now c.args.steps c.args.start (c.is_around_by_pairs.ensures.0 c.if-is_around_by_pairs.true)),
+  (λ _. search rules),
+)
 
-pub loop-read-preserved : goal.loop-read-preserved
-loop-read-preserved c = below_more _ _ c.loop-read.invariant (λ is. false≢true (sym c.if-is_way.false ∙ c.is_way.ensures.1 is))
+pub returns-then-has_stale_source : goal.returns-then-has_stale_source
+returns-then-has_stale_source c = (
+  (λ _. by_stale c.args.graph.now c.args.steps c.args.start c.if-steps-eq3.true (c.has_stale_source.ensures.0 c.if-has_stale_source.true)),
+  (λ _. search rules),
+)
 
-pub returns-then-steps-eq3 : goal.returns-then-steps-eq3
-returns-then-steps-eq3 c =
-    let h = c.args.graph.now in
-    let reads = c.reads_at-read-items.result.now in
-    let are : AreReadsAt h c.args.start reads = record { value = c.reads_at-read-items.ensures.value; within = c.reads_at-read-items.ensures.within } in
-    around_or h c.args.steps c.args.start c.has_return.result c.if-steps-eq3.true
-    (none_over h c.args.steps c.args.start reads are c.requires.start c.loop-read.read-index (omega (arith, c.loop-read-test.false)) c.loop-read.invariant)
-    c.has_return.ensures
+pub returns-else-has_stale_source : goal.returns-else-has_stale_source
+returns-else-has_stale_source c =
+    around_or c.args.graph.now c.args.steps c.args.start c.has_return.result c.if-steps-eq3.true
+    (λ found. false≢true (sym c.if-is_around_by_pairs.false ∙ c.is_around_by_pairs.ensures.1 found))
+    (λ found. false≢true (sym c.if-has_stale_source.false ∙ c.has_stale_source.ensures.1 found)) c.has_return.ensures
 
 pub returns-else-steps-eq3 : goal.returns-else-steps-eq3
-returns-else-steps-eq3 c =
-    let h = c.args.graph.now in
-    let reads = c.reads_at-read-items.result.now in
-    let are : AreReadsAt h c.args.start reads = record { value = c.reads_at-read-items.ensures.value; within = c.reads_at-read-items.ensures.within } in
-    rw (ne_eqb c.args.steps 3 c.if-steps-eq3.false)
-    (none_around_or h c.args.steps c.args.start c.if-steps-eq3.false
-    (none_over h c.args.steps c.args.start reads are c.requires.start c.loop-read.read-index (omega (arith, c.loop-read-test.false)) c.loop-read.invariant))
+returns-else-steps-eq3 c = (
+  (λ e. absurd (false≢true (sym (ne_eqb c.args.steps 3 c.if-steps-eq3.false) ∙ e))),
+  (λ around. absurd (none_around_by c.args.graph.now c.args.steps c.args.start
+      (λ found. false≢true (sym c.if-is_around_by_pairs.false ∙ c.is_around_by_pairs.ensures.1 found)) c.if-steps-eq3.false around)),
+)

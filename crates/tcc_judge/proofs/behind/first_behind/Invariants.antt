@@ -5,7 +5,7 @@ use Rattle.tcc_judge.proofs.BehindLemmas.{IsBrokenPast}
 use Rattle.tcc_judge.proofs.behind.first_behind.Given as goal
 
 abbrev pub invariant-loop-number : goal.invariant-loop-number
-invariant-loop-number l = record {
+invariant-loop-number g l = record {
   ready : IsReady l.graph l.order l.block;
   past : IsBrokenPast l.graph l.order (l.number * WIDE);
 }

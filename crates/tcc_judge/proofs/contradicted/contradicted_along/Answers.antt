@@ -1,5 +1,5 @@
-use Rattle.std.proofs.Common.{rules, ◌≡◌, ◌≤◌, ◌+◌, ◌*◌, ◌∙◌, false, length, replicate, refl, ap, sym, arith}
-use Rattle.std.proofs.lemmas.List.{length-replicate}
+use Rattle.std.proofs.Common.{rules, ◌≡◌, ◌<◌, ◌≤◌, ◌+◌, ◌*◌, ◌∙◌, false, length, get_or, replicate, refl, ap, sym, arith}
+use Rattle.std.proofs.lemmas.List.{get_or_default, length-replicate}
 use Rattle.tcc_reads.specs.History.{count}
 use Rattle.tcc_judge.specs.declared.least.TheConstants.{NONE}
 use Rattle.tcc_graph.specs.Keys.{keys}
@@ -10,16 +10,17 @@ use Rattle.tcc_judge.proofs.BehindLemmas.{blocks_cover}
 use Rattle.tcc_txn.proofs.Lists.{whole}
 use Rattle.tcc_judge.proofs.ContradictedLemmas.{contradicted_all, nothing_contradicted}
 use Rattle.tcc_judge.proofs.SourceLemmas.{no_sources, sources_all}
+use Rattle.tcc_judge.proofs.NeededLemmas.{contradicted_passed, sources_passed}
 use Rattle.tcc_judge.proofs.contradicted.contradicted_along.Goals as goal
 
 pub begin-requires-clause-inside : goal.begin-requires-clause-inside
-begin-requires-clause-inside c = omega (arith, c.loop-number-test.true, c.div_ceil-number-end.ensures, ap length c.sessions.ensures.value)
+begin-requires-clause-inside g c = omega (arith, c.loop-number-test.true, c.div_ceil-blocks.ensures, ap length c.sessions.ensures.value)
 
 pub note_block-requires-clause-so_far : goal.note_block-requires-clause-so_far
-note_block-requires-clause-so_far c = let so_far = c.loop-number.invariant.so_far in rw c.in_ok-begin.ensures.from (search rules)
+note_block-requires-clause-so_far g c = let so_far = c.loop-number.invariant.so_far in rw c.in_ok-begin.ensures.from (search rules)
 
 pub loop-number-init : goal.loop-number-init
-loop-number-init c =
+loop-number-init g c =
     let h = c.args.graph.now in
     let order = c.args.order.now in
     let lasts : c.in_ok-lasts.lasts.items ≡ replicate (length order) 0 = search rules in
@@ -33,18 +34,42 @@ loop-number-init c =
     }
 
 pub mark_sources-requires-clause-ready : goal.mark_sources-requires-clause-ready
-mark_sources-requires-clause-ready c = c.in_ok-note_block.ensures.at.ready
+mark_sources-requires-clause-ready g c = c.in_ok-note_block.ensures.at.ready
 
 pub mark_sources-requires-clause-clocks : goal.mark_sources-requires-clause-clocks
-mark_sources-requires-clause-clocks c = c.in_ok-note_block.ensures.at.clocks
+mark_sources-requires-clause-clocks g c = c.in_ok-note_block.ensures.at.clocks
 
 pub mark_sources-requires-clause-so_far : goal.mark_sources-requires-clause-so_far
-mark_sources-requires-clause-so_far c =
+mark_sources-requires-clause-so_far g c =
     let from : c.note_block.new.block.from ≡ c.loop-number.number * WIDE = c.in_ok-note_block.ensures.from ∙ c.in_ok-begin.ensures.from in
     rw (from, c.deref_mut-in-loop-number-2.ensures.value) c.loop-number.invariant.sources
 
+pub loop-number-preserved-then-not-index : goal.loop-number-preserved-then-not-index
+loop-number-preserved-then-not-index g c =
+    let h = c.args.graph.now in
+    let order = c.args.order.now in
+    let number = c.loop-number.number in
+    let needed = c.in_ok-needed.needed.items in
+    let inv = c.loop-number.invariant in
+    let inside : number < length needed = omega (
+      arith,
+      c.loop-number-test.true,
+      c.div_ceil-blocks.ensures,
+      c.in_ok-needed.ensures.long,
+      ap length c.sessions.ensures.value,
+    ) in
+    let unmarked : get_or needed number false ≡ false
+    = get_or_default needed number false c.index.result.now inside ∙ (sym c.index.ensures ∙ c.if-not-index.true) in
+    let passed = c.in_ok-needed.ensures.needed in
+    record {
+      ready = inv.ready;
+      so_far = contradicted_passed h needed passed number unmarked order c.args.positions.now c.loop-number.lasts.items c.loop-number.stale.items inv.so_far;
+      keys = inv.keys;
+      sources = sources_passed h needed passed number unmarked c.requires.ordered.numbered order c.requires.kept.onward c.loop-number.sources.items inv.sources;
+    }
+
 pub loop-number-preserved : goal.loop-number-preserved
-loop-number-preserved c =
+loop-number-preserved g c =
     let h = c.args.graph.now in
     let order = c.args.order.now in
     let before = c.loop-number.invariant.so_far in
@@ -74,21 +99,21 @@ loop-number-preserved c =
     }
 
 pub returns-clause-found : goal.returns-clause-found
-returns-clause-found c =
+returns-clause-found g c =
     let h = c.args.graph.now in
     let ordered = c.requires.ordered in
     let sessions = length c.sessions.result.now in
     let all : sessions ≤ c.loop-number.number * WIDE
-    = blocks_cover sessions c.loop-number.number (omega (arith, c.loop-number-test.false, c.div_ceil-number-end.ensures)) in
+    = blocks_cover sessions c.loop-number.number (omega (arith, c.loop-number-test.false, c.div_ceil-blocks.ensures)) in
     contradicted_all h ordered.numbered c.args.order.now c.requires.kept.onward (c.loop-number.number * WIDE)
     (λ n some l. omega (arith, all, c.sessions.ensures.owners n some l)) ordered.numbering ordered.some ordered.init c.args.positions.now
     c.loop-number.lasts.items c.loop-number.stale.items c.loop-number.invariant.so_far
 
 pub returns-clause-sources : goal.returns-clause-sources
-returns-clause-sources c =
+returns-clause-sources g c =
     let ordered = c.requires.ordered in
     let sessions = length c.sessions.result.now in
     let all : sessions ≤ c.loop-number.number * WIDE
-    = blocks_cover sessions c.loop-number.number (omega (arith, c.loop-number-test.false, c.div_ceil-number-end.ensures)) in
+    = blocks_cover sessions c.loop-number.number (omega (arith, c.loop-number-test.false, c.div_ceil-blocks.ensures)) in
     sources_all c.args.graph.now ordered.numbered c.args.order.now c.requires.kept.onward (c.loop-number.number * WIDE)
     (λ n some l. omega (arith, all, c.sessions.ensures.owners n some l)) c.loop-number.sources.items c.loop-number.invariant.sources

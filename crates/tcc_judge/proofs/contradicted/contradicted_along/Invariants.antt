@@ -7,7 +7,7 @@ use Rattle.tcc_judge.specs.private.Sources.{AreSourcesTo}
 use Rattle.tcc_judge.proofs.contradicted.contradicted_along.Given as goal
 
 abbrev pub invariant-loop-number : goal.invariant-loop-number
-invariant-loop-number l = record {
+invariant-loop-number g l = record {
   ready : IsReady l.graph l.order l.block;
   so_far : AreContradictedTo l.graph l.order l.positions (l.number * WIDE) l.lasts.items l.stale.items;
   keys : length l.gaps ≡ length (keys l.graph);

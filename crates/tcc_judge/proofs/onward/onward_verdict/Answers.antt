@@ -4,23 +4,23 @@ use Rattle.tcc_judge.proofs.Leastness.{are_narrowed, none_cheaper, some_cheaper}
 use Rattle.tcc_judge.proofs.onward.onward_verdict.Goals as goal
 
 pub returns-in-Err : goal.returns-in-Err
-returns-in-Err c = rw c.rejected_at.ensures (inl (refl, rw c.in-Err.is at c.in_ok-positions.ensures))
+returns-in-Err g c = rw c.rejected_at.ensures (inl (refl, rw c.in-Err.is at c.in_ok-positions.ensures))
 
 pub narrow_down-requires-clause-kept : goal.narrow_down-requires-clause-kept
-narrow_down-requires-clause-kept c = rw c.deref.ensures.value (rw c.in-Ok.is at c.in_ok-positions.ensures)
+narrow_down-requires-clause-kept g c = rw c.deref.ensures.value (rw c.in-Ok.is at c.in_ok-positions.ensures)
 
 pub returns-in_default : goal.returns-in_default
-returns-in_default c =
+returns-in_default g c =
     rw c.rejected.ensures (inr ((rw c.in-Ok.is at c.in_ok-positions.ensures).reads, inl (refl, (refl, rw c.in_default.is at c.in_ok-narrowed.ensures))))
 
 pub has_cheaper-requires-clause-narrowed : goal.has_cheaper-requires-clause-narrowed
-has_cheaper-requires-clause-narrowed c =
+has_cheaper-requires-clause-narrowed g c =
     let are_those = rw (c.in-Some.is, c.deref.ensures.value) at c.in_ok-narrowed.ensures in
     are_narrowed c.args.graph.now c.args.level c.args.order.now c.in-Ok.positions.items c.requires.ordered c.args.most c.in-Some.narrowed.members.items
     c.in-Some.narrowed.key_indices.items are_those.1.0 are_those.1.1
 
 pub returns-then-branch : goal.returns-then-branch
-returns-then-branch c =
+returns-then-branch g c =
     let kept = rw c.in-Ok.is at c.in_ok-positions.ensures in
     let are_those = rw (c.in-Some.is, c.deref.ensures.value) at c.in_ok-narrowed.ensures in
     let cheaper =
@@ -29,7 +29,7 @@ returns-then-branch c =
     rw c.rejected-then-branch.ensures (inr (kept.reads, inr (are_those.0, inl (refl, (refl, cheaper)))))
 
 pub returns : goal.returns
-returns c =
+returns g c =
     let kept = rw c.in-Ok.is at c.in_ok-positions.ensures in
     let are_those = rw (c.in-Some.is, c.deref.ensures.value) at c.in_ok-narrowed.ensures in
     let none =

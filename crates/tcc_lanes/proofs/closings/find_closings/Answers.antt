@@ -1,12 +1,10 @@
-use Rattle.std.proofs.Common.{◌≤◌, ◌+◌, ◌*◌, ◌∙◌, ℕ, length, replicate, arith}
-use Rattle.std.proofs.lemmas.List.{length-replicate}
+use Rattle.std.proofs.Common.{◌≤◌, ◌+◌, ◌*◌, ℕ, length, replicate, arith}
 use Rattle.tcc_reads.specs.History.{count}
 use Rattle.tcc_graph.specs.Levels.{judged}
 use Rattle.tcc_lanes.specs.declared.pricing.TheConstants.{NONE}
 use Rattle.tcc_lanes.specs.declared.words.TheConstants.{LANES}
-use Rattle.tcc_lanes.specs.private.Closings.{AreOffered, IsInColumns}
 use Rattle.tcc_lanes.specs.private.Pricing.{ArePrices}
-use Rattle.tcc_lanes.proofs.ClosingLemmas.{from_all, from_more, from_none}
+use Rattle.tcc_lanes.proofs.ClosingLemmas.{from_all, from_more}
 use Rattle.tcc_lanes.proofs.closings.find_closings.Goals as goal
 
 pub loop-block-preserved : goal.loop-block-preserved

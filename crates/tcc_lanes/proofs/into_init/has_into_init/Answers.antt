@@ -15,9 +15,9 @@ returns c =
     let begun = c.in_ok-begun.begun.items in
     let reached = c.in_ok-reached.reached.items in
     let marks : AreMarksOf (length (keys h)) tile (length tile) key_lanes = rw c.keys.ensures at c.in_ok-key_lanes.ensures in
-    let begins : AreBegun h key_lanes begun = rw c.deref.ensures.value at c.in_ok-begun.ensures in
+    let begins : AreBegun h key_lanes c.args.end begun = rw c.deref.ensures.value at c.in_ok-begun.ensures in
     let walked : AreWalked (judged h c.args.level) begun c.args.most reached = rw c.deref-2.ensures.value at c.in_ok-reached.ensures.each in
     let is = rw (c.deref-3.ensures.value, c.deref-4.ensures.value) at c.is_met.ensures in (
-      (λ yes. met h c.args.level c.args.most tile key_lanes begun reached c.requires.inside c.requires.lanes marks begins walked (is.0 yes)),
-      (λ has. is.1 (is_met h c.args.level c.args.most tile key_lanes begun reached c.requires.inside c.requires.lanes marks begins walked has)),
+      (λ yes. met h c.args.level c.args.most c.args.end tile key_lanes begun reached c.requires.inside c.requires.lanes marks begins walked (is.0 yes)),
+      (λ has. is.1 (is_met h c.args.level c.args.most c.args.end tile key_lanes begun reached c.requires.inside c.requires.lanes marks begins walked has)),
     )

@@ -1,7 +1,7 @@
-use Rattle.std.proofs.Common.{◌≡◌, ◌<◌, ◌↔◌, ℕ, length, get_or, true, arith}
+use Rattle.std.proofs.Common.{◌<◌, ◌↔◌, ℕ, length, get_or, arith}
 use Rattle.tcc_reads.specs.History.{count}
 use Rattle.tcc_lanes.specs.private.Marks.{IsAt}
-use Rattle.tcc_lanes.specs.private.Passes.{AreBeyond, AreReachedOn, IsLedFromEnd, IsNearAt}
+use Rattle.tcc_lanes.specs.private.Passes.{AreBeyond, AreReachedOn, IsLedFromEnd}
 use Rattle.tcc_lanes.proofs.NearnessLemmas.{near_more}
 use Rattle.tcc_lanes.proofs.nearness.mark_near.Goals as goal
 

@@ -2,7 +2,6 @@ use Rattle.std.proofs.Common.{get_or, arith}
 use Rattle.tcc_reads.specs.History.{count}
 use Rattle.tcc_graph.specs.Levels.{judged}
 use Rattle.tcc_lanes.proofs.ClosingLemmas.{offered_lasts, offered_prices}
-use Rattle.tcc_lanes.specs.private.Closings.{IsFromFirst}
 use Rattle.tcc_lanes.proofs.NearnessLemmas.{closings_are, near_all}
 use Rattle.tcc_lanes.proofs.nearness.near.Goals as goal
 

@@ -8,4 +8,4 @@ pub returns-then-branch-gt-SHORT-clause-is : goal.returns-then-branch-gt-SHORT-c
 returns-then-branch-gt-SHORT-clause-is c = λ j is.
     let long : 4 < cost c.in-Least.links.items
     = omega (arith, c.if-branch-gt-SHORT.true, c.in_ok-steps_of-in-Least.ensures.steps, ap cost c.deref.ensures.value) in
-    long_cycle c.least.ensures j c.in-Least.links long (subst (IsDecision j) c.in-Least.is is)
+    long_cycle c.least.ensures j c.in-Least.links long (subst (IsDecision j) c.in-Least.is is).0

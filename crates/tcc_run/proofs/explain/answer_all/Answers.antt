@@ -48,7 +48,7 @@ pub returns : goal.returns
 returns g c text recording within fresh =
     wants_memory g.R.Read.remaining (course c.args.run.now.options.now) text
     c.moments.recording c.moments.recording _ _ c.moments.last (c.moments.invariant.way text recording) _
-    c.print_memory.result c.print_memory.ensures
+    c.print_endless.result c.print_endless.ensures
 
 pub say-requires-clause-earlier : goal.say-requires-clause-earlier
 say-requires-clause-earlier g c κs within =

@@ -1,5 +1,5 @@
 use Rattle.std.proofs.Common.{arith, sym, ◌∙◌}
-use Rattle.tcc_slices.proofs.Carried.{carried, has_more}
+use Rattle.tcc_slices.proofs.CarriedOver.{carried, has_more}
 use Rattle.tcc_slices.proofs.carrying.is_carried.Goals as goal
 
 pub loop-number-preserved : goal.loop-number-preserved

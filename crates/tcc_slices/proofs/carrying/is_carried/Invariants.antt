@@ -1,4 +1,4 @@
-use Rattle.tcc_slices.proofs.Carried.{HasKept}
+use Rattle.tcc_slices.proofs.CarriedOver.{HasKept}
 use Rattle.tcc_slices.proofs.carrying.is_carried.Given as goal
 
 abbrev pub invariant-loop-number : goal.invariant-loop-number

@@ -5,7 +5,7 @@ use Rattle.std.proofs.lemmas.List.{get_or_read}
 use Rattle.tcc_reads.specs.History.{History}
 use Rattle.tcc_graph.specs.Relations.{IsReadsPair}
 use Rattle.tcc_slices.specs.private.Carrying.{carry}
-use Rattle.tcc_slices.proofs.Carried.{kept_all, kept_more, zip_in}
+use Rattle.tcc_slices.proofs.CarriedOver.{kept_all, kept_more, zip_in}
 use Rattle.tcc_slices.proofs.carrying.keeps_reads.Goals as goal
 
 -- the pair that is looked for is that of the reading at an index

@@ -1,4 +1,4 @@
-use Rattle.tcc_slices.proofs.Carried.{AreKept}
+use Rattle.tcc_slices.proofs.CarriedOver.{AreKept}
 use Rattle.tcc_slices.proofs.carrying.keeps_reads.Given as goal
 
 abbrev pub invariant-loop-index : goal.invariant-loop-index

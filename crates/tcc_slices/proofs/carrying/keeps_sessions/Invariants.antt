@@ -1,4 +1,4 @@
-use Rattle.tcc_slices.proofs.Carried.{AreLater}
+use Rattle.tcc_slices.proofs.CarriedOver.{AreLater}
 use Rattle.tcc_slices.proofs.carrying.keeps_sessions.Given as goal
 
 abbrev pub invariant-loop-later : goal.invariant-loop-later

@@ -4,7 +4,7 @@ use Rattle.std.proofs.lemmas.Bool.{false≢true, iff_false}
 use Rattle.tcc_reads.specs.History.{entry_at}
 use Rattle.tcc_graph.specs.Keys.{has_name}
 use Rattle.tcc_graph.proofs.NameLemmas.{contains-has_name}
-use Rattle.tcc_slices.proofs.Carried.{written_all}
+use Rattle.tcc_slices.proofs.CarriedOver.{written_all}
 use Rattle.tcc_slices.proofs.carrying.keeps_writes.Goals as goal
 
 pub returns : goal.returns

@@ -1,5 +1,5 @@
 use Rattle.tcc_reads.specs.History.{entry_at}
-use Rattle.tcc_slices.proofs.Carried.{AreWritten}
+use Rattle.tcc_slices.proofs.CarriedOver.{AreWritten}
 use Rattle.tcc_slices.proofs.carrying.keeps_writes.Given as goal
 
 abbrev pub invariant-loop-key : goal.invariant-loop-key

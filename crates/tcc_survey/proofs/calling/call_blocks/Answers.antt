@@ -10,16 +10,16 @@ use Rattle.tcc_survey.proofs.ScanLemmas.{against_some}
 use Rattle.tcc_survey.proofs.calling.call_blocks.Goals as goal
 
 pub find_firsts-requires-clause-numbering : goal.find_firsts-requires-clause-numbering
-find_firsts-requires-clause-numbering c =
+find_firsts-requires-clause-numbering g c =
     rw (c.deref-in-loop-number-2.ensures.value, c.in_ok-backward.ensures) (reversed_numbering c.args.graph.now c.args.order.now c.requires.numbering)
 
 pub find_firsts-requires-clause-backward : goal.find_firsts-requires-clause-backward
-find_firsts-requires-clause-backward c =
+find_firsts-requires-clause-backward g c =
     rw (c.deref-in-loop-number-2.ensures.value, c.in_ok-backward.ensures)
     (λ a b pair. reversed_before c.args.graph.now c.args.order.now c.requires.numbering a b (c.requires.onward a b pair))
 
 pub call_block-requires-clause-block : goal.call_block-requires-clause-block
-call_block-requires-clause-block c = record {
+call_block-requires-clause-block g c = record {
   numbered = search rules;
   room = search rules;
   acyclic = acyclic c.args.graph.now c.args.order.now c.requires.numbering c.requires.onward;
@@ -29,7 +29,7 @@ call_block-requires-clause-block c = record {
 }
 
 pub loop-number-preserved-then-not-index : goal.loop-number-preserved-then-not-index
-loop-number-preserved-then-not-index c =
+loop-number-preserved-then-not-index g c =
     let h : History = c.args.graph.now in
     let j : Judged = judged h c.args.level in
     let reads = c.args.reads.now in
@@ -39,7 +39,7 @@ loop-number-preserved-then-not-index c =
     let inside : c.loop-number.number < length c.in_ok-needed.needed.items = omega (
       arith,
       c.loop-number-test.true,
-      c.div_ceil-number-end.ensures,
+      c.div_ceil-blocks.ensures,
       c.in_ok-needed.ensures.long,
       ap length c.sessions-sessions.ensures.value,
     ) in
@@ -53,12 +53,12 @@ loop-number-preserved-then-not-index c =
     )
 
 pub returns : goal.returns
-returns c =
+returns g c =
     let h : History = c.args.graph.now in
     let j : Judged = judged h c.args.level in
     let reads = c.args.reads.now in
     let cover : length c.sessions-sessions.result.now ≤ c.loop-number.number * WIDE
-    = blocks_cover (length c.sessions-sessions.result.now) c.loop-number.number (omega (arith, c.loop-number-test.false, c.div_ceil-number-end.ensures)) in
+    = blocks_cover (length c.sessions-sessions.result.now) c.loop-number.number (omega (arith, c.loop-number-test.false, c.div_ceil-blocks.ensures)) in
     all_called j c.sessions-sessions.ensures.numbered reads (c.loop-number.number * WIDE) (length c.sessions-sessions.result.now) c.loop-number.called c.loop-number.invariant.1 cover
     c.sessions-sessions.ensures.owners
     (λ k l b w. against_some j (acyclic h c.args.order.now c.requires.numbering c.requires.onward) (reading_of reads k) (c.requires.reads.each k l).reading b w)

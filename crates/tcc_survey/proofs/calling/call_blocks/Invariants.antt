@@ -6,5 +6,5 @@ use Rattle.tcc_survey.specs.private.Called.{AreCalledBefore}
 use Rattle.tcc_survey.proofs.calling.call_blocks.Given as goal
 
 abbrev pub invariant-loop-number : goal.invariant-loop-number
-invariant-loop-number l =
+invariant-loop-number g l =
     (length l.firsts ≡ count l.graph) × AreCalledBefore (judged l.graph l.level) l.reads (l.number * WIDE) l.called

@@ -9,16 +9,16 @@ use Rattle.tcc_survey.proofs.ScanLemmas.{against_some}
 use Rattle.tcc_survey.proofs.clock_sweep.find_least.Goals as goal
 
 pub find_firsts-requires-clause-numbering : goal.find_firsts-requires-clause-numbering
-find_firsts-requires-clause-numbering c =
+find_firsts-requires-clause-numbering g c =
     rw (c.deref-in-loop-number-3.ensures.value, c.in_ok-backward.ensures) (reversed_numbering c.args.graph.now c.args.order.now c.requires.numbering)
 
 pub find_firsts-requires-clause-backward : goal.find_firsts-requires-clause-backward
-find_firsts-requires-clause-backward c =
+find_firsts-requires-clause-backward g c =
     rw (c.deref-in-loop-number-3.ensures.value, c.in_ok-backward.ensures)
     (λ a b pair. reversed_before c.args.graph.now c.args.order.now c.requires.numbering a b (c.requires.onward a b pair))
 
 pub settle-requires-clause-block : goal.settle-requires-clause-block
-settle-requires-clause-block c = record {
+settle-requires-clause-block g c = record {
   numbered = search rules;
   room = search rules;
   acyclic = acyclic c.args.graph.now c.args.order.now c.requires.numbering c.requires.onward;
@@ -28,7 +28,7 @@ settle-requires-clause-block c = record {
 }
 
 pub loop-number-preserved-then-not-index : goal.loop-number-preserved-then-not-index
-loop-number-preserved-then-not-index c =
+loop-number-preserved-then-not-index g c =
     let h = c.args.graph.now in
     let j : Judged = judged h c.args.level in
     let all = c.args.reads.now in
@@ -38,7 +38,7 @@ loop-number-preserved-then-not-index c =
     let inside : c.loop-number.number < length c.in_ok-needed.needed.items = omega (
       arith,
       c.loop-number-test.true,
-      c.div_ceil-number-end.ensures,
+      c.div_ceil-blocks.ensures,
       c.in_ok-needed.ensures.long,
       ap length c.sessions-sessions.ensures.value,
     ) in
@@ -52,7 +52,7 @@ loop-number-preserved-then-not-index c =
     )
 
 pub loop-number-preserved : goal.loop-number-preserved
-loop-number-preserved c =
+loop-number-preserved g c =
     let j : Judged = judged c.args.graph.now c.args.level in
     let all = c.args.reads.now in
     let new = c.settle.new.found in
@@ -65,13 +65,13 @@ loop-number-preserved c =
     rw (take_at new _ c.loop-number.found.len (same ∙ sym long)) (c.in_ok-find_clocks.ensures.long, c.in_ok-find_firsts.ensures.long, settled)
 
 pub returns : goal.returns
-returns c =
+returns g c =
     let h = c.args.graph.now in
     let j : Judged = judged h c.args.level in
     let all = c.args.reads.now in
     let sessions : ℕ = length c.sessions-sessions.result.now in
     let cover : length c.sessions-sessions.result.now ≤ c.loop-number.number * WIDE
-    = blocks_cover (length c.sessions-sessions.result.now) c.loop-number.number (omega (arith, c.loop-number-test.false, c.div_ceil-number-end.ensures)) in
+    = blocks_cover (length c.sessions-sessions.result.now) c.loop-number.number (omega (arith, c.loop-number-test.false, c.div_ceil-blocks.ensures)) in
     settled_found j all (c.loop-number.number * WIDE) (length c.sessions-sessions.result.now) c.loop-number.found.items c.loop-number.invariant.2 cover
     c.sessions-sessions.ensures.owners
     (λ k l b w. against_some j (acyclic h c.args.order.now c.requires.numbering c.requires.onward) (reading_of all k) (c.requires.reads k l) b w)

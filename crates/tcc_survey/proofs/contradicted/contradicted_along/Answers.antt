@@ -13,12 +13,12 @@ use Rattle.tcc_survey.proofs.contradicted.contradicted_along.Goals as goal
 use Rattle.tcc_survey.proofs.contradicted.contradicted_along.Goals.{then-writer-gt0+in_ok-push, else-writer-gt0}
 
 pub loop-index-init : goal.loop-index-init
-loop-index-init c =
+loop-index-init g c =
     let j : Judged = judged c.args.graph.now c.args.level in
     rw c.new-list.ensures.items (chosen_none j c.deref-read-items.result.now)
 
 pub loop-index-preserved : goal.loop-index-preserved
-loop-index-preserved c =
+loop-index-preserved g c =
     let h = c.args.graph.now in
     let j : Judged = judged h c.args.level in
     let reads : List Reading = c.deref-read-items.result.now in
@@ -47,7 +47,7 @@ loop-index-preserved c =
     ]
 
 pub returns : goal.returns
-returns c =
+returns g c =
     let h = c.args.graph.now in
     let j : Judged = judged h c.args.level in
     let reads : List Reading = c.deref-read-items.result.now in

@@ -12,4 +12,4 @@ returns-in_err-recording g c = IfSome_then (g.R.Read.remaining c.args.reader) c.
 pub returns : goal.returns
 returns g c = IfSome_then (g.R.Read.remaining c.args.reader) c.in_ok-recording.ensures
     (λ records is. of_snapshot g.C.Limits.Bounds.limits g.C.Checker.is_made records c.snapshot.result.now c.graph_of.result is.0 (c.snapshot.ensures.value ∙ is.1)
-    c.graph_of.ensures)
+    c.graph_of.ensures.made)

@@ -1,4 +1,4 @@
-use Rattle.std.proofs.Common.{ℕ, Bool, true, List, ◌<◌, length, refl, sym, subst, arith}
+use Rattle.std.proofs.Common.{ℕ, Bool, true, List, refl, sym, subst, arith}
 use Rattle.tcc_reads.specs.History.{count}
 use Rattle.tcc_graph.specs.Relations.{IsReadsPair}
 use Rattle.tcc_watch.specs.private.Links.{IsLinked}

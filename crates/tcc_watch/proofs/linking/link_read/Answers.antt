@@ -1,4 +1,4 @@
-use Rattle.std.proofs.Common.{ℕ, List, Bool, true, ◌≡◌, ◌<◌, ◌≤◌, length, sym, subst, arith}
+use Rattle.std.proofs.Common.{Bool, true, sym, subst, arith}
 use Rattle.tcc_watch.specs.declared.linking.SessionWriters.{SessionWriters}
 use Rattle.tcc_watch.specs.private.Links.{AreWritersIn, IsLinkedIn}
 use Rattle.tcc_watch.proofs.Settled.{lists_more, reasons_done}

@@ -1,4 +1,4 @@
-use Rattle.std.proofs.Common.{ℕ, ◌<◌, slice_index}
+use Rattle.std.proofs.Common.{ℕ, ◌<◌}
 use Rattle.std.specs.Prelude.{slice_index_or}
 use Rattle.tcc_watch.specs.declared.linking.SessionWriters.{SessionWriters}
 use Rattle.tcc_watch.specs.private.Links.{IsClosure, Keeps, OrdersWriters}

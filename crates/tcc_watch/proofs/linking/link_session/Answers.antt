@@ -1,4 +1,4 @@
-use Rattle.std.proofs.Common.{ℕ, List, ◌≡◌, inl, slice_index, subst}
+use Rattle.std.proofs.Common.{ℕ, List, inl, slice_index, subst}
 use Rattle.tcc_watch.specs.private.Links.{IsLastWithin, NoneWithin, IsSettled, IsLinkedIn}
 use Rattle.tcc_watch.proofs.Settled.{places_rise, none_reaches, all_before, can_settle, settled_all, if_ok}
 use Rattle.tcc_watch.proofs.linking.link_session.Goals as goal

@@ -1,4 +1,4 @@
-use Rattle.std.proofs.Common.{◌≡◌, ◌<◌, ◌∙◌, length, sym, arith}
+use Rattle.std.proofs.Common.{◌<◌, ◌∙◌, length, sym, arith}
 use Rattle.tcc_watch.proofs.Settled.{settled_cycle, settled_now, upto_true, upto_false}
 use Rattle.tcc_watch.proofs.linking.settle.Goals as goal
 

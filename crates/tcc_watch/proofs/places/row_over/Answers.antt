@@ -1,4 +1,4 @@
-use Rattle.std.proofs.Common.{ℕ, List, [], ◌≡◌, ◌<◌, length, get_or, slice_index, ap, arith}
+use Rattle.std.proofs.Common.{ℕ, List, [], ◌<◌, length, get_or, slice_index, ap, arith}
 use Rattle.std.proofs.lemmas.List.{get_or_read}
 use Rattle.tcc_watch.proofs.RowLemmas.{over_more}
 use Rattle.tcc_watch.proofs.places.row_over.Goals as goal

@@ -1,4 +1,3 @@
-use Rattle.std.proofs.Common.{ℕ, ◌<◌, ◌≤◌, ◌≡◌, length}
 use Rattle.tcc_watch.specs.private.Rows.{AreRaisedBelow}
 use Rattle.tcc_watch.proofs.raising.raise.Given as goal
 

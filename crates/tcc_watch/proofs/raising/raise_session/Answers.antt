@@ -1,4 +1,4 @@
-use Rattle.std.proofs.Common.{ℕ, List, [], ◌≡◌, ◌<◌, ◌≤◌, length, get_or, slice_index, ap, arith}
+use Rattle.std.proofs.Common.{ℕ, List, [], ◌≡◌, ◌<◌, length, get_or, slice_index, ap, arith}
 use Rattle.std.proofs.lemmas.List.{get_or_default}
 use Rattle.tcc_watch.specs.private.Rows.{last_in}
 use Rattle.tcc_watch.proofs.RowLemmas.{between_none, between_more, between_end, are_raised}

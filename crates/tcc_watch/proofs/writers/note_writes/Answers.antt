@@ -1,4 +1,4 @@
-use Rattle.std.proofs.Common.{◌≡◌, List, ℕ, length, take, subst}
+use Rattle.std.proofs.Common.{◌≡◌, List, ℕ, take, subst}
 use Rattle.std.proofs.lemmas.List.{take_all}
 use Rattle.tcc_watch.specs.private.Writers.{AreNoted}
 use Rattle.tcc_watch.proofs.Noted.{noted_more, all_noted}

@@ -5,7 +5,7 @@ use Rattle.clap.specs.Words.{App, app_of, new_app, with_rule}
 use Rattle.tcc_words.specs.CommandLines.{certificate_option, flag, level_option, path, require_option, slice_option, workers_option}
 use Rattle.tcc_words.proofs.command_line.explain_command.Goals as goal
 
--- what is added behind the flag
+-- what is added after the flag
 abbrev with_sizes : App → App
 with_sizes a = with_rule (with_rule a (flag (codes "large"))) slice_option
 

@@ -1,4 +1,4 @@
--- The lines before the rows go out, then the rows, and the end.
+-- The lines before the rows are written, then the rows, and the end.
 use Rattle.std.proofs.Common.{rules, ◌≡◌, [], refl, length, ℕ, List}
 use Rattle.tcc_graph.specs.Links.{cost}
 use Rattle.tcc_graph.specs.declared.level.Level.{Level}
@@ -6,7 +6,7 @@ use Rattle.tcc_graph.specs.declared.link.Link.{Link}
 use Rattle.tcc_cert.specs.declared.certificate.CycleClaim.{CycleClaim}
 use Rattle.tcc_cert.specs.declared.version.Version.TheVariants.{Two}
 use Rattle.tcc_cert.specs.declared.cycle_writer.CycleTable.TheVariants as table
-use Rattle.tcc_sending.proofs.Failing.{on_err}
+use Rattle.tcc_base.proofs.Failing.{on_err}
 use Rattle.tcc_cert.proofs.GivenTexts.{part_begun, part_given, part_more}
 use Rattle.tcc_answer.proofs.answer.Anomaly.write_certificate.Goals as goal
 

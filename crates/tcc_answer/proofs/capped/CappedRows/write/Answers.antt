@@ -5,7 +5,7 @@ use Rattle.tcc_txn.specs.declared.limits.TheConstants.{MAX_COUNT}
 use Rattle.tcc_bits.specs.Packed.{at_most}
 use Rattle.tcc_cert.specs.Begun.{with_rows}
 use Rattle.tcc_cert.specs.Given.{HasTaken}
-use Rattle.tcc_sending.proofs.Failing.{on_err}
+use Rattle.tcc_base.proofs.Failing.{on_err}
 use Rattle.tcc_cert.proofs.GivenTexts.{may_take, part_row}
 use Rattle.tcc_cert.proofs.GivenFacts.{none_given, rows_given}
 use Rattle.tcc_answer.proofs.CappedFacts.{capped_next}

@@ -3,7 +3,7 @@ use Rattle.std.proofs.Common.{◌∙◌, refl, subst, take}
 use Rattle.std.proofs.lemmas.List.{take_all}
 use Rattle.tcc_cert.specs.Begun.{with_rows}
 use Rattle.tcc_cert.specs.Given.{HasTaken}
-use Rattle.tcc_sending.proofs.Failing.{on_err}
+use Rattle.tcc_base.proofs.Failing.{on_err}
 use Rattle.tcc_cert.proofs.GivenTexts.{IsGivenPart, may_take, part_row, rows_next}
 use Rattle.tcc_cert.proofs.GivenFacts.{none_given, rows_given}
 use Rattle.tcc_cert.proofs.cycle_writer.CycleWriter.table.Goals as goal

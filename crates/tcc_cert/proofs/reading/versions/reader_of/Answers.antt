@@ -10,7 +10,7 @@ returns-then-is_header-clause-version g c =
     IfSome_then (g.R.Read.remaining c.args.reader) c.new-input.ensures.start
     (λ bytes before. (
       named bytes _ _ true (c.in-Ok.ensures.found (start_of bytes) before) c.ahead.ensures (sym c.is_header.ensures ∙ c.if-is_header.true),
-      c.limit.ensures.same (start_of bytes) (c.in-Ok.ensures.stays (start_of bytes) before),
+      c.over.ensures.same (start_of bytes) (c.in-Ok.ensures.stays (start_of bytes) before),
     ))
 
 pub returns-else-is_header-clause-version : goal.returns-else-is_header-clause-version
@@ -18,7 +18,7 @@ returns-else-is_header-clause-version g c =
     IfSome_then (g.R.Read.remaining c.args.reader) c.new-input.ensures.start
     (λ bytes before. (
       named bytes _ _ false (c.in-Ok.ensures.found (start_of bytes) before) c.ahead.ensures (sym c.is_header.ensures ∙ c.if-is_header.false),
-      rw (c.over.ensures.input, c.over.ensures.stage) (start_of bytes, c.in-Ok.ensures.stays (start_of bytes) before, refl),
+      rw (c.over-else-is_header.ensures.input, c.over-else-is_header.ensures.stage) (start_of bytes, c.in-Ok.ensures.stays (start_of bytes) before, refl),
     ))
 
 pub returns-in-Err-clause-version : goal.returns-in-Err-clause-version

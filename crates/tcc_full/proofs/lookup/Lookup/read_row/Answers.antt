@@ -1,6 +1,6 @@
 use Rattle.std.proofs.Common.{◌≡◌, ap, sym, ◌∙◌}
 use Rattle.std.specs.Prelude.{option_and_then}
-use Rattle.tcc_operations.specs.Operations.{first_reading, ops_of}
+use Rattle.tcc_graph.specs.Operations.{first_reading, ops_of}
 use Rattle.tcc_full.specs.Records.{records_of, row_at, value_from}
 use Rattle.tcc_full.proofs.lookup.Lookup.read_row.Goals as goal
 

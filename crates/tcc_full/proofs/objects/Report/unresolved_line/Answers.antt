@@ -1,8 +1,19 @@
-use Rattle.std.proofs.Common.{◌∙◌, ap}
-use Rattle.serde_json.specs.Written.{has_float}
+-- the members before the list, the list, and those after it
+use Rattle.std.proofs.Common.{◌≡◌, map, refl, sym, subst, codes}
+use Rattle.std.specs.Prelude.{IfOk}
+use Rattle.serde_json.specs.Data.{Data, array}
+use Rattle.serde_json.specs.View.{items_of}
+use Rattle.tcc_answer.specs.Json.{json_line}
+use Rattle.tcc_full.specs.Objects.{fault_json}
 use Rattle.tcc_full.specs.Records.{records_of}
-use Rattle.tcc_full.proofs.NoFloats.{in_unresolved}
+use Rattle.tcc_full.specs.private.Framing.{IsPlain, framed_by}
 use Rattle.tcc_full.proofs.objects.Report.unresolved_line.Goals as goal
 
-pub object_line-requires : goal.object_line-requires
-object_line-requires g c = ap has_float c.in_ok-unresolved_json.ensures ∙ in_unresolved c.args.self.now.asked.now (records_of c.args.self.now.lookup.now) c.args.faults.now
+pub line-requires : goal.line-requires
+line-requires g c = (subst IsPlain (sym c.in_ok-list_before.ensures) (refl, refl), subst IsPlain (sym c.in_ok-faults_after.ensures) (refl, refl))
+
+pub returns : goal.returns
+returns g c =
+    let list = array (items_of (map (fault_json (records_of c.args.self.now.lookup.now)) c.args.faults.now)) in
+    subst (λ (object : Data). IfOk c.line.result (λ line. line.items ≡ json_line object))
+    (λ i. framed_by (c.in_ok-list_before.ensures i) (codes "faults") list (c.in_ok-faults_after.ensures i)) c.line.ensures

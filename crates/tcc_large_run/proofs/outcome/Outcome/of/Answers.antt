@@ -1,9 +1,11 @@
 use Rattle.std.proofs.Common.{◌∙◌, subst, rules}
 use Rattle.std.proofs.lemmas.Result.{IfOk-weaker}
 use Rattle.tcc_txn.specs.Finished.{KeepsLimits}
+use Rattle.tcc_reads.specs.History.{History}
 use Rattle.tcc_reads.specs.Refusals.{IsRefusal}
 use Rattle.tcc_reads.specs.Sources.{history}
 use Rattle.tcc_graph.specs.Levels.{judged}
+use Rattle.tcc_large.specs.Decisions.{IsDecision}
 use Rattle.tcc_large.specs.Explained.{IsLargeAnswer}
 use Rattle.tcc_large.specs.declared.answer.LargeAnswer.{LargeAnswer}
 use Rattle.tcc_large_run.specs.declared.outcome.Outcome.TheVariants as outcome
@@ -15,17 +17,21 @@ pub returns-in-Some : goal.returns-in-Some
 returns-in-Some g c =
     IfOk-weaker c.of_small.result _ _ (λ outcome is. told c.args.run.now.options.now c.args.snapshot.now outcome is) (search rules)
 
-pub returns-in_ok-short-in-Ok : goal.returns-in_ok-short-in-Ok
-returns-in_ok-short-in-Ok g c =
+pub settled-requires : goal.settled-requires
+settled-requires g c = decided_of c.args.run.now.options.now.level c.args.snapshot.now c.in-Ok.answer c.in-Ok.ensures
+
+pub returns-in_ok-answer-in-Ok : goal.returns-in_ok-answer-in-Ok
+returns-in_ok-answer-in-Ok g c =
     let s = c.args.snapshot.now in
     let level = c.args.run.now.options.now.level in
     let past : KeepsLimits s → ⊥ = search rules in
-    let short : LargeAnswer = record { graph = c.in-Ok.answer.graph; decision = c.in_ok-short-in-Ok.field-0 } in
-    let is : IsLargeAnswer s level short
-    = (c.in-Ok.ensures.0, c.in-Ok.ensures.1, c.in_ok-short-in-Ok.ensures.is (judged (history s) level) c.in-Ok.ensures.2) in
+    let found : LargeAnswer = c.in_ok-answer-in-Ok.answer in
+    let decided : IsDecision (judged (history s) level) found.decision
+    = subst (λ (h : History). IsDecision (judged h level) found.decision) c.in-Ok.ensures.1 c.in_ok-answer-in-Ok.ensures.1 in
+    let is : IsLargeAnswer s level found = (c.in-Ok.ensures.0, c.in_ok-answer-in-Ok.ensures.0 ∙ c.in-Ok.ensures.1, decided) in
     IfOk-weaker c.of_decision.result _ _
-    (λ outcome found. told c.args.run.now.options.now s outcome (large_outcome level s short outcome past is found))
-    (c.of_decision.ensures (decided_of level s short is) c.in_ok-short-in-Ok.ensures.short)
+    (λ outcome told_is. told c.args.run.now.options.now s outcome (large_outcome level s found outcome past is told_is))
+    (c.of_decision.ensures (decided_of level s found is) c.in_ok-answer-in-Ok.ensures.2)
 
 pub returns-in-Err-Reads : goal.returns-in-Err-Reads
 returns-in-Err-Reads g c =

@@ -1,9 +1,9 @@
-use Rattle.std.proofs.Common.{ℕ, List, ◌+◌, ◌≡◌, ◌<◌, ◌≤◌, ◌==◌, true, [], length, get_or, refl, rules, sym, ap, subst, ◌∙◌, arith}
+use Rattle.std.proofs.Common.{ℕ, List, ◌+◌, ◌≡◌, ◌<◌, [], length, get_or, refl, rules, sym, ap, subst, ◌∙◌, arith}
 use Rattle.std.specs.List.{Contains}
 use Rattle.std.proofs.lemmas.List.{get_or_read, with_items_is}
 use Rattle.std.proofs.lemmas.List.Elements.{Contains-get_or}
-use Rattle.tcc_reads.specs.History.{Entry, count, owner}
-use Rattle.tcc_graph.specs.Keys.{has_name, IsWriter}
+use Rattle.tcc_reads.specs.History.{Entry, count}
+use Rattle.tcc_graph.specs.Keys.{IsWriter}
 use Rattle.tcc_graph.specs.Tables.{row_of}
 use Rattle.tcc_graph.proofs.NameLemmas.{has_name-contains}
 use Rattle.tcc_watch.specs.declared.at.At.{At}

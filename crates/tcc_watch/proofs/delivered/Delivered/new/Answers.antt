@@ -1,4 +1,4 @@
-use Rattle.std.proofs.Common.{ℕ, List, [], ◌∷◌, ◌++◌, ◌≡◌, ap, refl, ◌∙◌}
+use Rattle.std.proofs.Common.{List, [], ◌∷◌, ◌++◌, ◌≡◌, ap, refl, ◌∙◌}
 use Rattle.tcc_watch.specs.declared.at.At.{At}
 use Rattle.tcc_watch.proofs.Beginning.{first_state}
 use Rattle.tcc_watch.proofs.delivered.Delivered.new.Goals as goal

@@ -3,7 +3,7 @@ use Rattle.std.specs.Prelude.{if◌then◌else◌}
 use Rattle.tcc_graph.specs.Tables.{row_of}
 use Rattle.tcc_graph.specs.Links.{link_from, link_to}
 use Rattle.tcc_watch.specs.declared.at.At.{At}
-use Rattle.tcc_watch.specs.private.Rows.{AreStands, AreMembers, IsRowOver, IsUpTo}
+use Rattle.tcc_watch.specs.private.Rows.{AreStands, IsRowOver, IsUpTo}
 use Rattle.tcc_watch.specs.private.Links.{IsClosure}
 use Rattle.tcc_watch.specs.private.Tables.{AreClocks, after}
 use Rattle.tcc_watch.proofs.Arrived.{delivered_more}

@@ -1,0 +1,10 @@
+//! What programs need beside histories: how a text is written, how many workers search, and who is told how far a call is.
+#![tactic(auto)]
+
+mod progress;
+mod sending;
+mod workers;
+
+pub use progress::{Progress, Unwatched};
+pub use sending::{send, write_out};
+pub use workers::{MAX_WORKERS, Workers};

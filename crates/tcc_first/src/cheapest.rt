@@ -1,0 +1,139 @@
+//! The cheapest link from one transaction to another, and of those the first by the rule of ties: one of a pair, or else the derived one
+//! by the shortest walk, found from the lengths of all walks (`first_walks`). For N transactions, R reads and walks of L steps at most
+//! that takes L (N + R) steps.
+ghost use Rattle.std.specs.Prelude.{◌≡◌, ◌<◌, ◌≤◌, ◌+◌, ◌-◌, ◌↔◌, ℕ, List, length, IsTrue, IfOk, MatchOption};
+ghost use Rattle.tcc_reads.specs.History.{count};
+ghost use Rattle.tcc_graph.specs.{Relations.IsReadsPair, Keys.keys, Keys.key_at, Levels.judged, Links.MayContradict, Links.link_cost, declared.link.Link.Link};
+ghost use Rattle.tcc_lanes.specs.declared.limits.TheConstants.{MOST_STEPS};
+ghost use Rattle.tcc_first.specs.{Cheapest.IsFirstCheapest, Cheapest.IsLinkFrom};
+ghost use Rattle.tcc_first.specs.private.Picks.{IsContradictedAt, IsFirstContradictedAt, NoneContradictedUpTo};
+
+use crate::cheapest_links::{lesser, pair_link};
+use crate::first_walks::first_walk;
+use crate::ranges::has_number;
+use std::alloc::Global;
+use tcc_graph::{LargeGraph, Level, Link};
+use tcc_lanes::walk_lengths;
+use tcc_txn::{Name, NoMemory};
+
+/// Whether another transaction than the source writes the key at an index, which the reader reads from the source.
+fn may_contradict(graph: &LargeGraph, from: u32, source: u32, reader: u32, key_index: u32) -> bool
+    requires reader { reader < count graph.now }
+    requires key { key_index < length (keys graph.now) }
+    requires read { IsReadsPair graph.now source reader (key_at graph.now key_index) }
+    ensures { IsTrue result ↔ MayContradict graph.now from source (key_at graph.now key_index) reader }
+{
+    from != source && has_number(graph.writers_at(key_index), from)
+}
+
+/// Whether one transaction contradicts a reading from another by a shortest walk of so many steps.
+fn is_contradicted(
+    graph: &LargeGraph,
+    lengths: &[u8],
+    from: u32,
+    source: u32,
+    steps: u8,
+    reader: u32,
+    key_index: u32,
+) -> bool
+    requires long { length lengths.now ≡ count graph.now }
+    requires reader { reader < count graph.now }
+    requires key { key_index < length (keys graph.now) }
+    requires read { IsReadsPair graph.now source reader (key_at graph.now key_index) }
+    ensures { IsTrue result ↔ IsContradictedAt graph.now lengths.now steps from source (key_at graph.now key_index) reader }
+{
+    lengths[reader as usize] == steps && may_contradict(graph, from, source, reader, key_index)
+}
+
+/// Of the readings from one transaction that the other contradicts by a shortest walk of so many steps the first, by key and by reader;
+/// none where there is none.
+fn first_contradicted(
+    graph: &LargeGraph,
+    lengths: &[u8],
+    from: u32,
+    source: u32,
+    steps: u8,
+) -> Option<(Name, u32)>
+    requires long { length lengths.now ≡ count graph.now }
+    requires source { source < count graph.now }
+    ensures { MatchOption result ((x : List ℕ) (c : ℕ) → IsContradictedAt graph.now lengths.now steps from source x c → ⊥)
+        (λ first. (first.1 < count graph.now) × IsFirstContradictedAt graph.now lengths.now steps from source first.0 first.1) }
+{
+    let (readers, key_indices) = graph.readings_at(source);
+    let mut first = None;
+    for index in 0..readers.len() {
+        if is_contradicted(
+            graph,
+            lengths,
+            from,
+            source,
+            steps,
+            readers[index],
+            key_indices[index],
+        ) {
+            first = lesser(first, key_indices[index], readers[index]);
+        }
+    }
+    let Some((key_index, reader)) = first else {
+        return None;
+    };
+    Some((graph.keys()[key_index as usize], reader))
+}
+
+/// Of the readings from one transaction that the other contradicts by the shortest walk the first, by key and by reader; none where no
+/// walk of so many steps at most contradicts one.
+fn nearest_contradicted(
+    graph: &LargeGraph,
+    lengths: &[u8],
+    most: u8,
+    from: u32,
+    source: u32,
+) -> Option<(Name, u32)>
+    requires few { most < MOST_STEPS }
+    requires long { length lengths.now ≡ count graph.now }
+    requires source { source < count graph.now }
+    ensures { MatchOption result (NoneContradictedUpTo graph.now lengths.now most from source)
+        (λ first. (first.1 < count graph.now) × ((n : ℕ) × (0 < n) × (n ≤ most) × IsFirstContradictedAt graph.now lengths.now n from source first.0 first.1
+        × NoneContradictedUpTo graph.now lengths.now (n - 1) from source)) }
+{
+    for steps in 1..most + 1 {
+        if let Some(first) = first_contradicted(graph, lengths, from, source, steps) {
+            return Some(first);
+        }
+    }
+    None
+}
+
+/// The cheapest link from one transaction to another, and of those the first by the rule of ties; none where each has more than
+/// `most + 1` steps.
+pub fn cheapest_link(
+    alloc: Global,
+    graph: &LargeGraph,
+    level: Level,
+    from: u32,
+    to: u32,
+    most: u8,
+) -> Result<Option<Link>, NoMemory>
+    requires few { most < MOST_STEPS }
+    requires from { from < count graph.now }
+    requires to { to < count graph.now }
+    ensures { IfOk result (λ found. MatchOption found
+        ((l : Link) → IsLinkFrom (judged graph.now level) from to l → most + 1 < link_cost l)
+        (IsFirstCheapest (judged graph.now level) from to)) }
+{
+    if graph.causal(from, to) {
+        return Ok(Some(pair_link(graph, from, to)));
+    }
+    let lengths = walk_lengths(alloc, graph, level, from, most)?;
+    let Some((key, reader)) = nearest_contradicted(graph, &lengths, most, from, to) else {
+        return Ok(None);
+    };
+    let walk = first_walk(alloc, graph, &lengths, from, reader)?;
+    Ok(Some(Link::Derived {
+        from,
+        to,
+        key,
+        reader,
+        walk,
+    }))
+}

@@ -1,0 +1,113 @@
+-- What a run does with its bytes, from what its stages tell.
+use Rattle.std.proofs.Common.{◌≡◌, ℕ, ◌+◌, ◌≤◌, false, nat_le, List, [], ◌∷◌, ◌++◌, length, take, Option, None, Some, option_map, cond, Ok, Err, inl, inr, sym, ap, subst, ◌∙◌, arith, length-take-le}
+use Rattle.std.specs.Prelude.{◌⊎◌, IfSome}
+use Rattle.std.specs.Io.{appended_bytes}
+use Rattle.std.specs.Io.KnownBytes.{Consumes}
+use Rattle.std.proofs.lemmas.Bool.{cases_lt}
+use Rattle.std.proofs.lemmas.List.{take-take, take_all}
+use Rattle.std.proofs.lemmas.Bool.Decides.{nat_tests}
+use Rattle.csv.specs.Reading.{default_config, records, strip_bom}
+use Rattle.tcc_txn.specs.Limits.{most_bytes}
+use Rattle.tcc_txn.specs.Snapshots.{Sessions}
+use Rattle.tcc_rows.specs.Answers.{Answers, answers_to, answers_within, records_within}
+use Rattle.tcc_rows.specs.ByteLimit.{marked, past_limit}
+use Rattle.tcc_rows.specs.Failing.{FailsAtWithin}
+use Rattle.tcc_rows.specs.Items.{finished_in}
+use Rattle.tcc_rows.specs.Lines.{Record}
+use Rattle.tcc_rows.specs.Recordings.{IsRecorded}
+use Rattle.tcc_rows.specs.declared.fault.RowFault.{RowFault}
+use Rattle.tcc_full.specs.declared.objects.Asked.{Asked}
+use Rattle.tcc_full.specs.FullAnswer.{IsFullAnswer}
+use Rattle.tcc_full.specs.Runs.{IsFullRun, TellsFault, TellsFound, TellsMemory, finished, within}
+use Rattle.tcc_full.specs.declared.finding.FullAnswer.{FullAnswer}
+
+-- the records are told to have a fault
+pub stopped : (asked : Asked) (required : ℕ) (bytes : List ℕ) (fault : RowFault) (before after : Option (List ℕ)) (code : ℕ)
+    → IsRecorded asked.limits bytes (Err fault)
+    → TellsFault asked fault before after code ⊎ TellsMemory asked before after code → IsFullRun asked required bytes before after code
+stopped asked required bytes fault before after code is (inl tells) = inr (inl (fault, is, tells))
+stopped asked required bytes fault before after code is (inr memory) = inr (inr memory)
+
+-- what is found for all that they finish is reported
+pub told : (asked : Asked) (required : ℕ) (bytes : List ℕ) (s : Sessions) (found : FullAnswer) (before after : Option (List ℕ)) (code : ℕ)
+    → IsRecorded asked.limits bytes (Ok s) → IsFullAnswer asked.level s found
+    → TellsFound asked required (within asked.limits bytes) s found before after code ⊎ TellsMemory asked before after code
+    → IsFullRun asked required bytes before after code
+told asked required bytes s found before after code whole is (inl tells) =
+    inl (
+      whole.0,
+      (
+        found,
+        subst (λ (s : Sessions). IsFullAnswer asked.level s found) whole.1 is,
+        subst (λ (s : Sessions). TellsFound asked required (within asked.limits bytes) s found before after code) whole.1 tells,
+      ),
+    )
+told asked required bytes s found before after code whole is (inr memory) = inr (inr memory)
+
+-- ---- the bytes past the limit
+
+-- of bytes that are cut after the one after the limit the same goes through as of all
+marked_cut : (limit : ℕ) (bytes : List ℕ) → marked limit (take (limit + 1) bytes) ≡ marked limit bytes
+unfolding marked
+marked_cut limit bytes = elim (cases_lt limit (length bytes)) [
+  | inl past ↦
+      let cut : length (take (limit + 1) bytes) ≡ limit + 1 = length-take-le (limit + 1) bytes (omega (arith, past)) in
+      let over : nat_le (length (take (limit + 1) bytes)) limit ≡ false = grind (arith, nat_tests, cut) in
+      let long : nat_le (length bytes) limit ≡ false = grind (arith, nat_tests, past) in
+      rw (over, long) (ap (λ front. front ++ past_limit ∷ []) (take-take limit (limit + 1) bytes (omega arith)))
+  | inr short ↦ ap (λ text. cond (nat_le (length text) limit) text (take limit text ++ past_limit ∷ [])) (take_all (limit + 1) bytes (omega (arith, short)))
+]
+
+-- ---- runs of bytes of which the same goes through
+
+module _ (asked : Asked) (some others : List ℕ) (same : marked (most_bytes asked.limits) some ≡ marked (most_bytes asked.limits) others) where
+  records_alike : records_within asked.limits some ≡ records_within asked.limits others
+  records_alike = ap (λ text. records default_config (strip_bom text)) same
+
+  answers_alike : answers_within asked.limits some ≡ answers_within asked.limits others
+  answers_alike = ap (answers_to asked.limits) records_alike
+
+  pub recorded_alike : (fault : RowFault) → IsRecorded asked.limits some (Err fault) → IsRecorded asked.limits others (Err fault)
+  recorded_alike fault (inl faulty) = inl (subst (λ (all : Answers). all.fault ≡ Some fault) answers_alike faulty)
+  recorded_alike fault (inr (inl failed)) = inr (inl (failed.0, subst (FailsAtWithin asked.limits fault.row) records_alike failed.1))
+  recorded_alike fault (inr (inr memory)) = inr (inr (memory.0, subst (λ (all : List Record). fault.row ≤ length all + 1) records_alike memory.1))
+
+  pub run_alike : (required : ℕ) (before after : Option (List ℕ)) (code : ℕ) → within asked.limits some ≡ within asked.limits others
+      → IsFullRun asked required some before after code → IsFullRun asked required others before after code
+  run_alike required before after code cut (inl tells) =
+      inl (subst (λ (all : Answers). (all.fault ≡ None) × ((found : FullAnswer) × IsFullAnswer asked.level (finished_in all.items) found
+      × TellsFound asked required (within asked.limits others) (finished_in all.items) found before after code)) answers_alike
+      (subst (λ (text : List ℕ). ((answers_within asked.limits some).fault ≡ None) × ((found : FullAnswer) × IsFullAnswer asked.level (finished asked.limits some) found
+      × TellsFound asked required text (finished asked.limits some) found before after code)) cut tells))
+  run_alike required before after code cut (inr (inl stops)) = inr (inl (stops.0, recorded_alike stops.0 stops.1, stops.2))
+  run_alike required before after code cut (inr (inr memory)) = inr (inr memory)
+
+-- bytes that were read up to the one after the limit
+pub run_cut : (asked : Asked) (required : ℕ) (bytes : List ℕ) (before after : Option (List ℕ)) (code : ℕ)
+    → IsFullRun asked required (take (most_bytes asked.limits + 1) bytes) before after code → IsFullRun asked required bytes before after code
+run_cut asked required bytes before after code is =
+    let limit = most_bytes asked.limits in
+    run_alike asked (take (limit + 1) bytes) bytes (marked_cut limit bytes) required before after code (take-take limit (limit + 1) bytes (omega arith)) is
+
+-- the bytes were read whole, up to the one after the limit
+pub read_run : (asked : Asked) (required : ℕ) (known : Option (List ℕ)) (limit : ℕ) (old text shown : List ℕ) (before after : Option (List ℕ)) (code : ℕ)
+    → limit ≡ most_bytes asked.limits + 1 → old ≡ [] → shown ≡ text → IfSome (option_map (take limit) known) (λ bytes. text ≡ old ++ bytes)
+    → IsFullRun asked required shown before after code → IfSome known (λ bytes. IsFullRun asked required bytes before after code)
+read_run asked required None limit old text shown before after code up empty is whole run = tt
+read_run asked required (Some bytes) limit old text shown before after code up empty is whole run =
+    run_cut asked required bytes before after code
+    (subst (λ (text : List ℕ). IsFullRun asked required text before after code)
+    (is ∙ whole ∙ ap (λ front. front ++ take limit bytes) empty ∙ ap (λ n. take n bytes) up) run)
+
+-- they were read up to where the reader failed
+pub failed_run : (asked : Asked) (required : ℕ) (known left : Option (List ℕ)) (limit : ℕ) (old text shown : List ℕ) (before after : Option (List ℕ)) (code : ℕ)
+    → limit ≡ most_bytes asked.limits + 1 → old ≡ [] → shown ≡ text → Consumes (option_map (take limit) known) left (appended_bytes old text)
+    → IfSome left (λ rest. (required : ℕ) → IsFullRun asked required (shown ++ rest) before after code)
+    → IfSome known (λ bytes. IsFullRun asked required bytes before after code)
+failed_run asked required None left limit old text shown before after code up empty is consumed run = tt
+failed_run asked required (Some bytes) None limit old text shown before after code up empty is consumed run = absurd consumed
+failed_run asked required (Some bytes) (Some rest) limit old text shown before after code up empty is consumed run =
+    let whole : take limit bytes ≡ text ++ rest = consumed ∙ ap (λ front. appended_bytes front text ++ rest) empty in
+    run_cut asked required bytes before after code
+    (subst (λ (text : List ℕ). IsFullRun asked required text before after code)
+    (ap (λ front. front ++ rest) is ∙ sym whole ∙ ap (λ n. take n bytes) up) (run required))

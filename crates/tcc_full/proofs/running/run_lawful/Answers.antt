@@ -1,0 +1,24 @@
+-- The recording was made at the limits that are asked for.
+use Rattle.std.proofs.Common.{ℕ, List, ◌≡◌, Ok, subst, sym}
+use Rattle.tcc_txn.specs.Snapshots.{Sessions}
+use Rattle.tcc_txn.specs.declared.limits.Limits.{Limits}
+use Rattle.tcc_rows.specs.Recordings.{IsRecorded}
+use Rattle.tcc_full.proofs.running.run_lawful.Goals as goal
+
+recorded : (limits asked : Limits) (text : List ℕ) (known s : Sessions) → asked ≡ limits → s ≡ known → IsRecorded limits text (Ok known)
+    → IsRecorded asked text (Ok s)
+recorded limits asked text known s within same is =
+    subst (λ (t : Sessions). IsRecorded asked text (Ok t)) (sym same) (subst (λ (l : Limits). IsRecorded l text (Ok known)) (sym within) is)
+
+pub returns-in_ok-recording-in-Small : goal.returns-in_ok-recording-in-Small
+returns-in_ok-recording-in-Small g c =
+    c.say.ensures
+    (recorded _ _ _ c.in_ok-recording-in-Small.recording.snapshot _ c.in-Small.is c.snapshot-snapshot.ensures.value c.in_ok-recording-in-Small.ensures)
+    (c.found_small-found.ensures _ _ c.first_answer.ensures.limits c.first_answer.ensures.answer)
+
+pub returns-in_ok-recording-in-Large : goal.returns-in_ok-recording-in-Large
+returns-in_ok-recording-in-Large g c =
+    c.say-in-Large.ensures
+    (recorded _ _ _ c.in_ok-recording-in-Large.recording.snapshot _ c.in-Large.is c.snapshot-snapshot-in-Large.ensures.value
+    c.in_ok-recording-in-Large.ensures)
+    c.find_large-found.ensures

@@ -1,0 +1,163 @@
+//! From the bytes of records to all that is reported of their answer.
+ghost use Rattle.std.specs.Prelude.{◌≡◌, ◌++◌, ℕ, Err, IfOk, IfSome, MatchResult, Ok};
+ghost use Rattle.tcc_rows.specs.Recordings.{IsRecorded};
+ghost use Rattle.tcc_full.specs.{FullAnswer.IsFullAnswer, Runs.IsFullRun, private.Notes.AreNotesOf};
+
+use crate::finding::{FullAnswer, find_large, found_small};
+use crate::objects::Asked;
+use crate::reading::{Failed, within};
+use crate::telling::{tell_fault, tell_found, tell_memory};
+use std::alloc::Global;
+use std::io::{ErrorKind, Read, Write};
+use std::thread::Threads;
+use tcc_answer::Answer;
+use tcc_explain::Gate;
+use tcc_large::Decision;
+use tcc_print::RunContext;
+use tcc_print::notes::{note_order, note_reads};
+use tcc_rows::{LargeRecording, Recording, RowFault, RowFaultKind};
+use tcc_run::first_answer;
+use tcc_txn::{Bounds, LargeLimits, Limits, NoMemory, SmallLimits, SnapshotWithin};
+use tcc_verdict::recorded;
+
+/// Notes of an order that it has too few transactions, and of the first read faults which write each of them is about.
+fn note<B: Bounds, N: Write>(
+    alloc: Global,
+    snapshot: &SnapshotWithin<B>,
+    found: &FullAnswer,
+    required: u32,
+    notes: &mut N,
+)
+    ensures { AreNotesOf required found.now (N.contents notes.old) (N.contents notes.new) }
+{
+    match found {
+        FullAnswer::Answered(Answer::Commit(commit)) => {
+            note_order(alloc, commit.order(), required, notes)
+        }
+        FullAnswer::Decided(Decision::Order(order)) => note_order(alloc, order, required, notes),
+        FullAnswer::Answered(Answer::Anomaly(_))
+        | FullAnswer::Decided(Decision::Least(_) | Decision::Cycle(_)) => {}
+        FullAnswer::Unresolved(faults) => note_reads(alloc, snapshot, faults, notes),
+    }
+}
+
+/// Tells what was found for all that the records of a text finish, with the rows of its operations.
+fn say<T: Threads + Sync, G: Gate, B: Bounds, W: Write, N: Write>(
+    run: &RunContext<T, G>,
+    asked: &Asked,
+    text: &[u8],
+    snapshot: &SnapshotWithin<B>,
+    found: Result<FullAnswer, NoMemory>,
+    out: &mut W,
+    notes: &mut N,
+) -> u8
+    ensures { IsRecorded asked.now.limits text.now (Ok snapshot.now) → IfOk found (IsFullAnswer asked.now.level snapshot.now)
+        → IsFullRun asked.now run.now.options.now.required text.now (W.contents out.old) (W.contents out.new) result }
+{
+    let text = within(text, asked.limits);
+    match found {
+        Ok(found) => {
+            let code = tell_found(run, asked, text, snapshot, &found, out);
+            note(run.alloc, snapshot, &found, run.options.required, notes);
+            code
+        }
+        Err(NoMemory) => tell_memory(run.alloc, asked, out),
+    }
+}
+
+/// The run of a text whose records have no fault; else that fault.
+fn run_lawful<T: Threads + Sync, G: Gate, W: Write, N: Write>(
+    run: &RunContext<T, G>,
+    asked: &Asked,
+    text: &[u8],
+    out: &mut W,
+    notes: &mut N,
+) -> Result<u8, RowFault>
+    ensures { MatchResult result
+        (λ code. IsFullRun asked.now run.now.options.now.required text.now (W.contents out.old) (W.contents out.new) code)
+        (λ fault. IsRecorded asked.now.limits text.now (Err fault) × (W.contents out.new ≡ W.contents out.old)) }
+{
+    match asked.limits {
+        Limits::Small => {
+            let recording: Recording<&[u8]> = recorded(run.alloc, text, notes)?;
+            let snapshot = recording.snapshot();
+            let found = found_small(first_answer(run, snapshot, asked.level));
+            Ok(say(run, asked, text, snapshot, found, out, notes))
+        }
+        Limits::Large => {
+            let recording: LargeRecording<&[u8]> = recorded(run.alloc, text, notes)?;
+            let snapshot = recording.snapshot();
+            let found = find_large(run, snapshot, asked.level);
+            Ok(say(run, asked, text, snapshot, found, out, notes))
+        }
+    }
+}
+
+/// The fault of records whose reader failed: one of a record before, or that of the reader.
+fn fault_of<R: Read + Drop, B: Bounds, N: Write>(
+    alloc: Global,
+    reader: R,
+    notes: &mut N,
+) -> RowFault
+    ensures { IfSome (R.remaining reader) (λ bytes. IsRecorded B.limits bytes (Err result)) }
+{
+    match recorded::<R, B, N>(alloc, reader, notes) {
+        Ok(recording) => {
+            // It read on in spite of its failure.
+            drop(recording);
+            RowFault {
+                row: 1,
+                kind: RowFaultKind::Read,
+            }
+        }
+        Err(fault) => fault,
+    }
+}
+
+/// The run of a text after which the reader failed.
+fn run_failed<R: Read + Drop, W: Write, N: Write>(
+    alloc: Global,
+    asked: &Asked,
+    text: &[u8],
+    reader: R,
+    out: &mut W,
+    notes: &mut N,
+) -> u8
+    ensures { IfSome (R.remaining reader) (λ rest. (required : ℕ)
+        → IsFullRun asked.now required (text.now ++ rest) (W.contents out.old) (W.contents out.new) result) }
+{
+    let whole = text.chain(Failed::new(reader));
+    let fault = match asked.limits {
+        Limits::Small => fault_of::<_, SmallLimits, N>(alloc, whole, notes),
+        Limits::Large => fault_of::<_, LargeLimits, N>(alloc, whole, notes),
+    };
+    tell_fault(alloc, asked, &fault, out)
+}
+
+/// Writes in one line of JSON all about the answer, at the level, to what the records of the reader finish, whatever they seal, or
+/// why nothing was judged. Gives the number that the run ends with. The bytes of the records are held. What to mend, where
+/// records or reads have faults, goes to the notes.
+pub fn run_full<T: Threads + Sync, G: Gate, R: Read + Drop, W: Write, N: Write>(
+    run: &RunContext<T, G>,
+    asked: &Asked,
+    reader: R,
+    out: &mut W,
+    notes: &mut N,
+) -> u8
+    ensures { IfSome (R.remaining reader) (λ bytes.
+        IsFullRun asked.now run.now.options.now.required bytes (W.contents out.old) (W.contents out.new) result) }
+{
+    // One byte more shows that there are too many.
+    let mut taken = reader.take(asked.limits.bytes() + 1);
+    let mut text = Vec::new(run.alloc);
+    match taken.read_to_end(&mut text) {
+        Ok(_) => match run_lawful(run, asked, &text, out, notes) {
+            Ok(code) => code,
+            Err(fault) => tell_fault(run.alloc, asked, &fault, out),
+        },
+        Err(error) if error.kind() == ErrorKind::OutOfMemory => {
+            tell_memory(run.alloc, asked, out)
+        }
+        Err(_) => run_failed(run.alloc, asked, &text, taken, out, notes),
+    }
+}

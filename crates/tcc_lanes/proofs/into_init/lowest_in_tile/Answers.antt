@@ -1,0 +1,25 @@
+use Rattle.std.proofs.Common.{◌+◌, ◌-◌, ◌/◌, ◌<◌, sym, ◌∙◌, arith}
+use Rattle.std.proofs.lemmas.Bool.{false≢true}
+use Rattle.tcc_graph.specs.Levels.{judged}
+use Rattle.tcc_lanes.proofs.IntoInit.{halved, halved_down, halved_up}
+use Rattle.tcc_lanes.proofs.into_init.lowest_in_tile.Goals.{then-branch, else-branch}
+use Rattle.tcc_lanes.proofs.into_init.lowest_in_tile.Goals as goal
+
+pub returns-then-high-low-le1 : goal.returns-then-high-low-le1
+returns-then-high-low-le1 c =
+    halved (judged c.args.graph.now c.args.level) c.args.most c.args.end c.args.key_indices.now c.loop-turn._turn c.loop-turn.low c.loop-turn.high
+    c.loop-turn.invariant (omega (arith, c.if-high-low-le1.true))
+
+pub loop-turn-preserved : goal.loop-turn-preserved
+loop-turn-preserved c =
+    let low = c.loop-turn.low in
+    let high = c.loop-turn.high in
+    let above : low < low + (high - low) / 2 = omega (arith, c.if-high-low-le1.false) in
+    let below : low + (high - low) / 2 < high = omega (arith, c.if-high-low-le1.false) in
+    elim c.if-branch.branch [
+      then-branch w ↦ rw (w.low-is, w.high-is) (halved_down (judged c.args.graph.now c.args.level) c.args.most c.args.end c.args.key_indices.now
+          c.loop-turn._turn low high (low + (high - low) / 2) c.loop-turn.invariant above below (c.in_ok-has_into_init-2.ensures.0 w.if-branch.true))
+      | else-branch w ↦ rw (w.low-is, w.high-is) (halved_up (judged c.args.graph.now c.args.level) c.args.most c.args.end c.args.key_indices.now
+          c.loop-turn._turn low high (low + (high - low) / 2) c.loop-turn.invariant above below
+          (λ has. false≢true (sym w.if-branch.false ∙ c.in_ok-has_into_init-2.ensures.1 has)))
+    ]

@@ -1,0 +1,15 @@
+-- How many steps the shortest walks from one transaction have.
+use Rattle.std.specs.Prelude.{ℕ, ◌<◌, ◌≤◌, ◌≡◌, List, length, slice_index}
+use Rattle.tcc_reads.specs.History.{count}
+use Rattle.tcc_graph.specs.Levels.{Judged, IsAllowedWalk}
+use Rattle.tcc_graph.specs.declared.step.Step.{Step}
+use Rattle.tcc_lanes.specs.declared.limits.TheConstants.{MOST_STEPS}
+
+-- of each transaction the least number of steps of a walk that the level allows from b to it, where it is a limit at most; else the number
+-- that stands for none
+pub record AreWalkLengths (j : Judged) (b : ℕ) (most : ℕ) (lengths : List ℕ) : Type 0 where
+  pub long : length lengths ≡ count j.history
+  pub high : (v : ℕ) → v < count j.history → slice_index lengths v ≤ MOST_STEPS
+  pub sound : (v : ℕ) → v < count j.history → slice_index lengths v < MOST_STEPS
+      → (walk : List Step) × IsAllowedWalk j b v walk × (length walk ≤ slice_index lengths v) × (slice_index lengths v ≤ most)
+  pub all : (v : ℕ) (walk : List Step) → v < count j.history → IsAllowedWalk j b v walk → length walk ≤ most → slice_index lengths v ≤ length walk

@@ -1,0 +1,12 @@
+-- The first cycle in place of another.
+use Rattle.std.specs.Global.{Vec}
+use Rattle.std.specs.Prelude.{ℕ, ◌≡◌, ◌⊎◌}
+use Rattle.tcc_graph.specs.Levels.{Judged}
+use Rattle.tcc_graph.specs.Ties.{IsFirstCycle}
+use Rattle.tcc_graph.specs.declared.link.Link.{Link}
+use Rattle.tcc_large.specs.declared.decision.Decision.{Decision}
+use Rattle.tcc_large.specs.declared.decision.Decision.TheVariants as decision
+
+-- what was decided stays, or the first of the least cycles stands in its place
+abbrev pub IsFirstOr : Judged → Decision → Decision → Type 0
+IsFirstOr j was is = (is ≡ was) ⊎ ((s : ℕ) × (links : Vec Link) × (is ≡ decision.Least links) × IsFirstCycle j s links.items)

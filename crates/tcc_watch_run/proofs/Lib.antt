@@ -1,0 +1,4 @@
+pub mod Committed
+pub mod FollowingLemmas
+pub mod Watched
+pub mod Runs

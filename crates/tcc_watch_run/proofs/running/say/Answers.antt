@@ -1,0 +1,30 @@
+-- What was said last is said again; where something was finished since, the watch takes it and what is said is said anew.
+use Rattle.std.proofs.Common.{◌≢◌, ◌∙◌, subst}
+use Rattle.std.specs.Prelude.{IfSome}
+use Rattle.tcc_print.proofs.Saying.{says_at, says_still}
+use Rattle.tcc_txn.proofs.Growing.{ok-then}
+use Rattle.tcc_watch_run.specs.private.Following.{HasCaughtUp}
+use Rattle.tcc_watch_run.specs.private.Stages.{course}
+use Rattle.tcc_watch_run.proofs.Runs.{follows, nests, on_kept}
+use Rattle.tcc_watch_run.proofs.running.say.Goals as goal
+
+pub returns-in-Ok-clause-said : goal.returns-in-Ok-clause-said
+returns-in-Ok-clause-said g c =
+    says_still (course c.args.run.now.options.now) c.args.moment c.args.snapshot.now c.args.last c.in-Ok.last _ _ c.say_again.result c.in-Ok.ensures.0
+    (c.say_again.ensures.said (c.in-Ok.ensures.1 ∙ c.transactions.ensures.value))
+
+pub returns-in-Err-clause-said : goal.returns-in-Err-clause-said
+returns-in-Err-clause-said g c =
+    says_at (course c.args.run.now.options.now) c.args.moment c.args.snapshot.now c.args.last _ _ c.say_anew.result
+    (subst (λ n. IfSome c.args.last (λ last. last.transactions ≢ n)) c.transactions.ensures.value c.in-Err.ensures.1)
+    (c.say_anew.ensures.said c.follow.ensures.told)
+
+pub returns-in-Err-clause-follows : goal.returns-in-Err-clause-follows
+returns-in-Err-clause-follows g c =
+    ok-then c.say_anew.result (follows c.follow.new.follower c.args.snapshot.now)
+    (on_kept (HasCaughtUp c.follow.new.follower c.args.snapshot.now) c.say_anew.result c.follow.result c.say_anew.ensures.kept c.follow.ensures.followed)
+
+pub returns-in-Err-clause-nests : goal.returns-in-Err-clause-nests
+returns-in-Err-clause-nests g c =
+    ok-then c.say_anew.result (nests c.follow.new.follower c.args.snapshot.now)
+    (on_kept (HasCaughtUp c.follow.new.follower c.args.snapshot.now) c.say_anew.result c.follow.result c.say_anew.ensures.kept c.follow.ensures.followed)
