@@ -73,7 +73,7 @@ module _ (j : Judged) (n : ℕ) (none : NoneBelow j n) (never : NoneIntoInit j.h
       → All (λ v. v < count j.history) (0 ∷ b ∷ []) × IsPickedAround j n (0 ∷ b ∷ [])
   picked_into b ((k, c, walk, listed, reason, few), lowest) = (
     All-cons (λ (v : ℕ). v < count j.history) 0 (b ∷ []) there
-      (All-cons (λ (v : ℕ). v < count j.history) b [] reason.0.2.0 (All-nil (λ (v : ℕ). v < count j.history))),
+        (All-cons (λ (v : ℕ). v < count j.history) b [] reason.0.2.0 (All-nil (λ (v : ℕ). v < count j.history))),
     (
       0,
       (λ t links cycle costs. omega arith),

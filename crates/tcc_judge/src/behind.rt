@@ -9,9 +9,9 @@ ghost use Rattle.tcc_judge.specs.private.Behind.{IsBehindOf, IsBrokenIn, IsWithi
 use crate::blocks::Block;
 use crate::least::NONE;
 use std::alloc::Global;
+use tcc_base::Progress;
 use tcc_clocks::WIDE;
 use tcc_graph::LargeGraph;
-use tcc_base::Progress;
 use tcc_txn::NoMemory;
 
 /// The least of the numbers of sessions that the clock has come to.

@@ -19,9 +19,9 @@ use crate::least::NONE;
 use crate::next_writers::NextWriters;
 use crate::sources::mark_sources;
 use std::alloc::Global;
+use tcc_base::Progress;
 use tcc_clocks::WIDE;
 use tcc_graph::LargeGraph;
-use tcc_base::Progress;
 use tcc_txn::NoMemory;
 
 /// What an order contradicts.

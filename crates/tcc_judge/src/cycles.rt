@@ -11,11 +11,11 @@ use crate::onward::onward_verdict;
 use crate::verdict::{rejected, rejected_at};
 use crate::{Judging, Rule, Verdict};
 use std::alloc::Global;
+use tcc_base::{Progress, Unwatched};
 use tcc_cert::{LinksClaim, Run};
 use tcc_check::are_links_below;
 use tcc_graph::{LargeGraph, Level};
 use tcc_least::{ShortCycle, short_cycle};
-use tcc_base::{Progress, Unwatched};
 use tcc_txn::NoMemory;
 
 /// Up to this cost no runs are needed.

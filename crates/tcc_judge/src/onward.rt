@@ -15,11 +15,11 @@ use crate::turned::kept_positions;
 use crate::verdict::{rejected, rejected_at};
 use crate::{Judging, Rule, Verdict};
 use std::alloc::Global;
+use tcc_base::Progress;
 use tcc_graph::{LargeGraph, Level};
 use tcc_lanes::{
     MOST_MEMBERS, MOST_STEPS, MOST_SWEPT, has_cheaper_among, has_cheaper_into_init, near,
 };
-use tcc_base::Progress;
 use tcc_txn::NoMemory;
 
 /// Where a cycle that costs less can be.

@@ -12,9 +12,9 @@ use crate::turned::kept_positions;
 use crate::verdict::{rejected, rejected_at};
 use crate::{Judging, Rule, Verdict};
 use std::alloc::Global;
+use tcc_base::{Progress, Unwatched};
 use tcc_cert::RunsClaim;
 use tcc_graph::{LargeGraph, Level};
-use tcc_base::{Progress, Unwatched};
 use tcc_txn::NoMemory;
 
 /// The first pair of a transaction and one that it has to stand before and doesn't.

@@ -12,10 +12,10 @@ use crate::decoding::told;
 use crate::onward::narrow;
 use crate::turned::kept_positions;
 use std::alloc::Global;
+use tcc_base::Unwatched;
 use tcc_cert::Run;
 use tcc_graph::{LargeGraph, Level};
 use tcc_lanes::{MOST_STEPS, cheaper_among, lowest_into_init};
-use tcc_base::Unwatched;
 use tcc_txn::NoMemory;
 
 /// The first of the least cycles by the rule of ties.

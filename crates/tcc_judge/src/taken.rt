@@ -14,10 +14,10 @@ use crate::ordering::judge_order_watched;
 use crate::verdict::{rejected, rejected_at};
 use crate::{Judging, Rule, Verdict};
 use std::alloc::Global;
+use tcc_base::{Progress, Unwatched};
 use tcc_cert::{LargeHead, LinksHead, LinksSizes, TakesLinks, with_walk};
 use tcc_check::LinksJudge;
 use tcc_graph::{LargeGraph, Level, Link, Step, Walk};
-use tcc_base::{Progress, Unwatched};
 use tcc_txn::NoMemory;
 
 /// The steps of a walk that came so far.

@@ -115,7 +115,15 @@ pub fn has_cheaper_into_init(
     let longest = most.saturating_sub(3);
     for block in 0..key_indices.len().div_ceil(LANES) {
         let tile = tile_at(key_indices, block);
-        if has_into_init(alloc, graph, level, &parent_of, tile, longest, graph.count())? {
+        if has_into_init(
+            alloc,
+            graph,
+            level,
+            &parent_of,
+            tile,
+            longest,
+            graph.count(),
+        )? {
             return Ok(true);
         }
     }

@@ -7,8 +7,8 @@ ghost use Rattle.tcc_verdict.specs.private.Stages.{IsMadeOf};
 use crate::stopping::note_stop;
 use std::alloc::Global;
 use std::io::{Read, Write};
-use tcc_print::Halt;
 use tcc_base::Progress;
+use tcc_print::Halt;
 use tcc_rows::{RecordingWithin, RowFault, RowFaultKind};
 use tcc_txn::{Bounds, SnapshotWithin};
 

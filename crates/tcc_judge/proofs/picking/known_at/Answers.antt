@@ -32,8 +32,8 @@ returns-in-Some-2 c =
     let are_those = rw c.in-Some.is at c.in_ok-there.ensures in
     let lowest = rw (c.in-Some-2.is, c.deref.ensures.value) at c.in_ok-writer.ensures in
     rw c.in_ok-around_init.ensures (into_picked c.args.graph.now c.args.level c.args.order.now c.args.positions.now c.requires.ordered (c.args.steps + 1)
-      c.in-Some.there.members.items c.in-Some.there.key_indices.items are_those.1.0 are_those.1.1 c.args.steps refl c.requires.kept c.requires.none
-      c.in-Some-2.writer lowest)
+    c.in-Some.there.members.items c.in-Some.there.key_indices.items are_those.1.0 are_those.1.1 c.args.steps refl c.requires.kept c.requires.none
+    c.in-Some-2.writer lowest)
 
 pub returns-in-Some-3 : goal.returns-in-Some-3
 returns-in-Some-3 c =
@@ -45,7 +45,7 @@ returns-in-Some-3 c =
     c.in-Some.there.key_indices.items are_those.1.0 are_those.1.1 c.args.steps refl c.requires.kept c.requires.none into in
     let (v, links, cycle, along, few) = (rw c.in-Some-3.is at c.in_ok-circle.ensures.found).1 in (
       subst (λ (circle : List ℕ). All (λ v. v < count c.args.graph.now) circle) along
-        (begin_inside (judged c.args.graph.now c.args.level) v v links cycle.1),
+          (begin_inside (judged c.args.graph.now c.args.level) v v links cycle.1),
       (rw c.in-Some-3.is at (c.in_ok-circle.ensures.picked c.args.steps refl (rw c.deref-2.ensures.value every))),
     )
 

@@ -17,7 +17,7 @@ loop-turn-preserved c =
     let above : low < low + (high - low) / 2 = omega (arith, c.if-high-low-le1.false) in
     let below : low + (high - low) / 2 < high = omega (arith, c.if-high-low-le1.false) in
     elim c.if-branch.branch [
-      then-branch w ↦ rw (w.low-is, w.high-is) (halved_down (judged c.args.graph.now c.args.level) c.args.most c.args.end c.args.key_indices.now
+      | then-branch w ↦ rw (w.low-is, w.high-is) (halved_down (judged c.args.graph.now c.args.level) c.args.most c.args.end c.args.key_indices.now
           c.loop-turn._turn low high (low + (high - low) / 2) c.loop-turn.invariant above below (c.in_ok-has_into_init-2.ensures.0 w.if-branch.true))
       | else-branch w ↦ rw (w.low-is, w.high-is) (halved_up (judged c.args.graph.now c.args.level) c.args.most c.args.end c.args.key_indices.now
           c.loop-turn._turn low high (low + (high - low) / 2) c.loop-turn.invariant above below
