@@ -9,6 +9,7 @@
 # make demo-postgres   the same with a real PostgreSQL, at two levels of isolation and at a replica
 # make demo-galera     the same with three nodes of MariaDB with Galera: reads at another node, with and without wsrep_sync_wait
 # make demo-etcd       the same with three nodes of etcd: reads that are stale by its own revisions are those that are found
+# make format   formats the sources of each crate, which the gate asks for
 # make test     the merge gate and all tests, which CONTRIBUTING.md lists; the last line is `N passed, M failed`
 #
 # The toolchain's `rt` has to be on the path, and Python 3; for `make test` a C compiler too, for `make demo` redis-server and
@@ -26,7 +27,7 @@ CHECKED = ../../examples/stale-read.csv ../../examples/stale-read.certificate
 UNPROVED = the program is not built from these sources yet: this is a trial run of them (a minute and a half), of which \
 nothing is proved; make build proves and builds the program
 
-.PHONY: run build checker install dist pack demo demo-postgres demo-galera demo-etcd test
+.PHONY: run build checker install dist pack demo demo-postgres demo-galera demo-etcd format test
 
 # Whether the program is built, and no older than a source.
 IS_BUILT = { test -x out/tcc && test -z "$$(find ../../crates.txt ../*/src ../*/specs ../*/proofs -newer out/tcc -print -quit)"; }
@@ -78,6 +79,9 @@ demo-galera:
 
 demo-etcd:
 	@python3 recipes/etcd/demo.py
+
+format:
+	@for crate in crates/*/; do (cd $$crate && rt fmt > /dev/null) || exit 1; done
 
 test:
 	@python3 tests/run.py
