@@ -6,6 +6,7 @@ pub mod Reached
 pub mod Linked
 pub mod OrderOrCycle
 pub mod QueuedLemmas
+pub mod ChainLemmas
 pub mod Fronts
 pub mod Links
 pub mod EmptyRows

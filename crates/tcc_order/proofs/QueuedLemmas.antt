@@ -116,26 +116,34 @@ queued_placed precedes ps placed ready waiting x is done = record {
   all = λ y any low left way. is.all y (λ same. false≢true (sym left ∙ subst (λ (z : ℕ). is_marked placed z ≡ true) (sym same) done)) low left way;
 }
 
+-- one in front of others
+front_still : (x : ℕ) (xs : List ℕ) (y : ℕ) → Contains xs y → Contains (x ∷ xs) y
+front_still x xs y (k, l, e) = (suc k, omega (arith, l), e)
+
+front_cases : (x : ℕ) (xs : List ℕ) (y : ℕ) → Contains (x ∷ xs) y → Contains xs y ⊎ (x ≡ y)
+front_cases x xs y (zero, l, e) = inr e
+front_cases x xs y (suc k, l, e) = inl (k, omega (arith, l), e)
+
 -- or waits from now on
 module _ (precedes : ℕ → ℕ → Bool) (ps placed ready : List ℕ) (waiting : List (List ℕ)) (x b : ℕ) (is : AreQueued precedes ps placed (IsNot x) ready waiting)
     (low : x < length ps) (to : b < length ps) (left : is_marked placed b ≡ false) (held : precedes b x ≡ true) where
   abbrev row : List ℕ
-  row = row_of waiting b ++ x ∷ []
+  row = x ∷ row_of waiting b
 
-  here : row_of (set waiting b (row_of waiting b ++ x ∷ [])) b ≡ row_of waiting b ++ x ∷ []
+  here : row_of (set waiting b (x ∷ row_of waiting b)) b ≡ x ∷ row_of waiting b
   here = get_or-set_same waiting b row [] (omega (arith, to, is.long))
 
-  there : (d : ℕ) → d ≢ b → row_of (set waiting b (row_of waiting b ++ x ∷ [])) d ≡ row_of waiting d
+  there : (d : ℕ) → d ≢ b → row_of (set waiting b (x ∷ row_of waiting b)) d ≡ row_of waiting d
   there d other = get_or-set_other waiting b d row [] other
 
-  wider : (d y : ℕ) → Contains (row_of waiting d) y → Contains (row_of (set waiting b (row_of waiting b ++ x ∷ [])) d) y
+  wider : (d y : ℕ) → Contains (row_of waiting d) y → Contains (row_of (set waiting b (x ∷ row_of waiting b)) d) y
   wider d y was = go (cases_eq d b)
     where
-      go : (d ≡ b) ⊎ (d ≢ b) → Contains (row_of (set waiting b (row_of waiting b ++ x ∷ [])) d) y
-      go (inl same) = rw (same, here) (Contains-append_left (row_of waiting b) (x ∷ []) y (rw same at was))
+      go : (d ≡ b) ⊎ (d ≢ b) → Contains (row_of (set waiting b (x ∷ row_of waiting b)) d) y
+      go (inl same) = rw (same, here) (front_still x (row_of waiting b) y (rw same at was))
       go (inr other) = rw (there d other) was
 
-  pub queued_parked : AreQueued precedes ps placed IsAny ready (set waiting b (row_of waiting b ++ x ∷ []))
+  pub queued_parked : AreQueued precedes ps placed IsAny ready (set waiting b (x ∷ row_of waiting b))
   queued_parked = record {
     long = length-set waiting b row ∙ is.long;
     inside = is.inside;
@@ -143,21 +151,21 @@ module _ (precedes : ℕ → ℕ → Bool) (ps placed ready : List ℕ) (waiting
     all = λ y any small new way. found y small new way (cases_eq y x);
   }
     where
-      kept : (d y : ℕ) → Contains (row_of (set waiting b (row_of waiting b ++ x ∷ [])) d) y → (d ≡ b) ⊎ (d ≢ b) → y < length ps
+      kept : (d y : ℕ) → Contains (row_of (set waiting b (x ∷ row_of waiting b)) d) y → (d ≡ b) ⊎ (d ≢ b) → y < length ps
       kept d y w (inr other) = is.waits d y (rw (there d other) at w)
-      kept d y w (inl same) = go (Contains-push_cases (row_of waiting b) x y (rw (same, here) at w))
+      kept d y w (inl same) = go (front_cases x (row_of waiting b) y (rw (same, here) at w))
         where
           go : Contains (row_of waiting b) y ⊎ (x ≡ y) → y < length ps
           go (inl was) = is.waits b y was
           go (inr at) = rw (← at) low
 
       found : (y : ℕ) → y < length ps → is_marked placed y ≡ false → (slice_index ps y ≡ 0) ⊎ (is_marked placed (slice_index ps y) ≡ true)
-          → (y ≡ x) ⊎ (y ≢ x) → IsQueued precedes placed ready (set waiting b (row_of waiting b ++ x ∷ [])) y
+          → (y ≡ x) ⊎ (y ≢ x) → IsQueued precedes placed ready (set waiting b (x ∷ row_of waiting b)) y
       found y small new way (inl same) =
-          inr (b, left, rw same held, rw (here, same) (Contains-push (row_of waiting b) x))
+          inr (b, left, rw same held, rw (here, same) (0, omega arith, refl))
       found y small new way (inr other) = go (is.all y other small new way)
         where
-          go : IsQueued precedes placed ready waiting y → IsQueued precedes placed ready (set waiting b (row_of waiting b ++ x ∷ [])) y
+          go : IsQueued precedes placed ready waiting y → IsQueued precedes placed ready (set waiting b (x ∷ row_of waiting b)) y
           go (inl w) = inl w
           go (inr (d, unplaced, holds, w)) = inr (d, unplaced, holds, wider d y w)
 
@@ -372,17 +380,17 @@ queued_ready precedes ps placed rest ready new waiting x is put =
     from y (inr is_new) = by y ((put y).0 is_new)
 
 -- what waited, and one more
-pub woken_all : (old row : List ℕ) (x y : ℕ) → Contains ((old ++ row) ++ x ∷ []) y ↔ ((Contains old y ⊎ Contains row y) ⊎ (y ≡ x))
-woken_all old row x y = (λ there. to (Contains-push_cases (old ++ row) x y there), back)
+pub woken_more : (old mid row : List ℕ) (x y : ℕ) → (Contains mid y ↔ (Contains old y ⊎ Contains row y))
+    → Contains (mid ++ x ∷ []) y ↔ ((Contains old y ⊎ Contains row y) ⊎ (y ≡ x))
+woken_more old mid row x y both = (λ there. to (Contains-push_cases mid x y there), back)
   where
-    to : Contains (old ++ row) y ⊎ (x ≡ y) → (Contains old y ⊎ Contains row y) ⊎ (y ≡ x)
-    to (inl was) = inl (Contains-append_cases old row y was)
+    to : Contains mid y ⊎ (x ≡ y) → (Contains old y ⊎ Contains row y) ⊎ (y ≡ x)
+    to (inl was) = inl (both.0 was)
     to (inr at) = inr (sym at)
 
-    back : (Contains old y ⊎ Contains row y) ⊎ (y ≡ x) → Contains ((old ++ row) ++ x ∷ []) y
-    back (inl (inl was)) = Contains-append_left (old ++ row) (x ∷ []) y (Contains-append_left old row y was)
-    back (inl (inr was)) = Contains-append_left (old ++ row) (x ∷ []) y (Contains-append_right old row y was)
-    back (inr at) = rw at (Contains-push (old ++ row) x)
+    back : (Contains old y ⊎ Contains row y) ⊎ (y ≡ x) → Contains (mid ++ x ∷ []) y
+    back (inl was) = Contains-append_left mid (x ∷ []) y (both.1 was)
+    back (inr at) = rw at (Contains-push mid x)
 
 -- ---- by what is kept
 -- who may come next is ready

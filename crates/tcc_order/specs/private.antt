@@ -5,6 +5,7 @@ pub mod Held
 pub mod Precedences
 pub mod Placed
 pub mod Queued
+pub mod Chains
 pub mod CausalLinks
 pub mod ByKey
 pub mod News

@@ -14,7 +14,7 @@ ghost use Rattle.tcc_order.specs.private.Queued.{AreQueued, AreSure, IsAny};
 ghost use Rattle.tcc_clocks.specs.Parents.{ArePrevious, sources};
 
 use crate::ready::Ready;
-use crate::rows::empty_rows;
+use crate::waiting::Waiting;
 use std::alloc::{AllocError, Global};
 use tcc_bits::{Row, is_marked, mark, words_for};
 use tcc_graph::LargeGraph;
@@ -33,7 +33,7 @@ pub(crate) enum Placed {
 struct Queue {
     woken: Vec<u32>,
     ready: Ready,
-    waiting: Vec<Row<u32>>,
+    waiting: Waiting,
     seen: Vec<usize>,
 }
 
@@ -133,11 +133,11 @@ impl Precedence<'_> {
     fn look_at_woken(&self, placed: &[u64], queue: &mut Queue) -> Result<(), NoMemory>
         requires known { IsKnown self.now }
         requires seen { length queue.old.seen.items ≡ count self.now.graph.now }
-        requires queued { AreQueued (precedes self.now) self.now.parents.now placed.now IsAny (queue.old.woken.items ++ queue.old.ready) queue.old.waiting.items }
+        requires queued { AreQueued (precedes self.now) self.now.parents.now placed.now IsAny (queue.old.woken.items ++ queue.old.ready) queue.old.waiting }
         requires sure { AreSure (precedes self.now) placed.now queue.old.ready }
         ensures seen { length queue.new.seen.items ≡ count self.now.graph.now }
         ensures none { OnOk result (queue.new.woken.items ≡ []) }
-        ensures queued { OnOk result (AreQueued (precedes self.now) self.now.parents.now placed.now IsAny queue.new.ready queue.new.waiting.items) }
+        ensures queued { OnOk result (AreQueued (precedes self.now) self.now.parents.now placed.now IsAny queue.new.ready queue.new.waiting) }
         ensures sure { OnOk result (AreSure (precedes self.now) placed.now queue.new.ready) }
     {
         while let Some(number) = queue.woken.pop() {
@@ -145,7 +145,7 @@ impl Precedence<'_> {
             match self.missing(placed, number, seen) {
                 Some((other, place)) => {
                     queue.seen[number as usize] = place;
-                    queue.waiting[other as usize].push(number)?;
+                    queue.waiting.push(other, number)?;
                 }
                 None => queue.ready.push(number)?,
             }
@@ -199,19 +199,14 @@ fn roots(alloc: Global, parents: &[u32]) -> Result<Vec<u32>, AllocError>
 }
 
 /// Wakes what waits for a transaction, and the one after it.
-fn wake(
-    woken: &mut Vec<u32>,
-    waiting: &[Row<u32>],
-    parents: &[u32],
-    x: u32,
-) -> Result<(), AllocError>
+fn wake(woken: &mut Vec<u32>, waiting: &Waiting, parents: &[u32], x: u32) -> Result<(), AllocError>
     requires few { length parents.now ≤ LARGE_COUNT }
     requires inside { x < length parents.now }
     requires long { length waiting.now ≡ length parents.now }
     ensures { OnOk result ((y : ℕ) → Contains woken.new.items y
         ↔ ((Contains woken.old.items y ⊎ Contains (row_of waiting.now x) y) ⊎ (y ≡ onward parents.now x))) }
 {
-    woken.extend_from_slice(waiting[x as usize].as_slice())?;
+    waiting.wake(woken, x)?;
     woken.push(onward(parents, x))?;
     Ok(())
 }
@@ -221,12 +216,12 @@ fn first_queue(alloc: Global, parents: &[u32], count: u32) -> Result<Queue, NoMe
     requires { length parents.now ≤ LARGE_COUNT }
     ensures woken { IfOk result (λ queue. AreRoots parents.now (length parents.now) queue.woken.items) }
     ensures ready { IfOk result (λ queue. (x : ℕ) → Contains queue.ready x → ⊥) }
-    ensures long { IfOk result (λ queue. length queue.waiting.items ≡ count) }
-    ensures waiting { IfOk result (λ queue. HasNone queue.waiting.items) }
+    ensures long { IfOk result (λ queue. length queue.waiting ≡ count) }
+    ensures waiting { IfOk result (λ queue. HasNone queue.waiting) }
     ensures seen { IfOk result (λ queue. length queue.seen.items ≡ count) }
 {
     let woken = roots(alloc, parents)?;
-    let waiting = empty_rows(alloc, count)?;
+    let waiting = Waiting::new(alloc, count)?;
     let seen = vec![in alloc; 0usize; count as usize]?;
     Ok(Queue {
         woken,

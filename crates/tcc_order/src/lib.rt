@@ -13,6 +13,7 @@ mod placement;
 mod reading_rows;
 mod ready;
 mod rows;
+mod waiting;
 
 pub use clocks_along::clocks;
 pub use commit_order::{order, order_of_pairs, place, place_pairs};

@@ -18,7 +18,7 @@ use Rattle.tcc_order.proofs.kahn.first_placing.Goals as goal
 
 -- the queue once those that were woken are looked at
 queued : (c : After-first_ready) → AreQueued (holds c.args.graph.now c.args.kept.now) c.args.parents.now c.loop.placed.items IsAny
-    c.look_at_woken.new.queue.ready c.look_at_woken.new.queue.waiting.items
+    c.look_at_woken.new.queue.ready c.look_at_woken.new.queue.waiting
 queued c = rw c.deref.ensures.value at c.in_ok-look_at_woken.ensures.queued
 
 pub loop-init : goal.loop-init
@@ -29,7 +29,7 @@ loop-init c =
     let queue = c.in_ok-queue.queue in
     let marks : c.in_ok-placed.placed.items ≡ replicate n 0 = search rules in
     let empty : c.new-order.result.items ≡ [] = search rules in
-    let long : length queue.waiting.items ≡ length ps = omega (arith, c.in_ok-queue.ensures.long, c.count-count.ensures.value, c.requires.parents.long) in
+    let long : length queue.waiting ≡ length ps = omega (arith, c.in_ok-queue.ensures.long, c.count-count.ensures.value, c.requires.parents.long) in
     let all : length queue.seen.items ≡ count h = omega (arith, c.in_ok-queue.ensures.seen, c.count-count.ensures.value) in
     rw (marks, empty) (
       length-replicate n 0,
@@ -37,7 +37,7 @@ loop-init c =
       λ x. none_marked n x,
       tt,
       all,
-      queued_begin (holds h c.args.kept.now) ps (replicate n 0) queue.woken.items queue.ready queue.waiting.items long (nothing_kept queue.waiting.items c.in_ok-queue.ensures.waiting)
+      queued_begin (holds h c.args.kept.now) ps (replicate n 0) queue.woken.items queue.ready queue.waiting long (nothing_kept queue.waiting c.in_ok-queue.ensures.waiting)
           c.in_ok-queue.ensures.ready (none_marked n) (λ x there. ((c.in_ok-queue.ensures.woken x).0 there).0)
           (λ x l root. (c.in_ok-queue.ensures.woken x).1 (l, root)),
       λ x there. absurd (c.in_ok-queue.ensures.ready x there),
@@ -74,7 +74,7 @@ loop-preserved c =
     let marks = c.mark.new.words in
     let old = c.look_at_woken.new.queue.ready in
     let ready = c.first_ready.new.ready in
-    let waiting = c.look_at_woken.new.queue.waiting.items in
+    let waiting = c.look_at_woken.new.queue.waiting in
     let woken = c.wake.new.woken.items in
     let fronts = session_fronts h kept ps c.requires.parents in
     let before : AreQueued held ps placed IsAny old waiting = queued (goal.at.loop-preserved c).After-first_ready in
@@ -96,7 +96,7 @@ loop-preserved c =
     let same : length marks ≡ length placed = rw c.deref_mut.ensures.value at c.mark.ensures.same in
     let long : c.loop.placed.len ≡ length placed = search rules in
     let wake : (y : ℕ) → Contains woken y ↔ ((Contains [] y ⊎ Contains (row_of waiting next) y) ⊎ (y ≡ onward ps next))
-    = rw (c.in_ok-look_at_woken.ensures.none, c.deref-in-loop-2.ensures.value) at c.in_ok-wake.ensures in
+    = rw c.in_ok-look_at_woken.ensures.none at c.in_ok-wake.ensures in
     let is_next : IsNext held (count h) order next = record {
       free = free_placed held (count h) placed order inv.2 next free;
       least = λ y l f. least y l (placed_free held (count h) placed order inv.2 y f);

@@ -14,5 +14,5 @@ invariant-loop l =
     × Says l.placed.items l.order.items
     × Picks (holds l.graph l.kept) (count l.graph) [] l.order.items
     × (length l.queue.seen.items ≡ count l.graph)
-    × AreQueued (holds l.graph l.kept) l.parents l.placed.items IsAny (l.queue.woken.items ++ l.queue.ready) l.queue.waiting.items
+    × AreQueued (holds l.graph l.kept) l.parents l.placed.items IsAny (l.queue.woken.items ++ l.queue.ready) l.queue.waiting
     × AreSure (holds l.graph l.kept) l.placed.items l.queue.ready

@@ -1,17 +1,12 @@
-use Rattle.std.proofs.Common.{rules, ◌≡◌, ◌∷◌, ◌++◌, ◌∙◌, [], arith}
-use Rattle.std.proofs.lemmas.List.{get_or_read}
+use Rattle.std.proofs.Common.{rules, ◌≡◌, ◌∷◌, ◌++◌, []}
+use Rattle.std.specs.Prelude.{Contains}
 use Rattle.tcc_graph.specs.Tables.{row_of}
 use Rattle.tcc_order.specs.private.Held.{onward}
-use Rattle.tcc_order.proofs.QueuedLemmas.{woken_all}
+use Rattle.tcc_order.proofs.QueuedLemmas.{woken_more}
 use Rattle.tcc_order.proofs.kahn.wake.Goals as goal
 
 pub returns : goal.returns
 returns c = λ y.
-    let waiting = c.args.waiting.now in
-    let x = c.args.x in
-    let row : c.as_slice.result.now ≡ row_of waiting x
-    = c.as_slice.ensures ∙ get_or_read waiting x c.index-waiting-x.result (omega (arith, c.requires.inside, c.requires.long)) c.index-waiting-x.is [] in
-    let first : c.extend_from_slice.new.self.items ≡ c.args.woken.now.items ++ row_of waiting x = rw (← row) (search rules) in
-    let all : c.push.new.self.items ≡ (c.args.woken.now.items ++ row_of waiting x) ++ onward c.args.parents.now x ∷ []
-    = rw (← first, ← c.onward.ensures) c.in_ok-push.ensures.items in
-    rw all (woken_all c.args.woken.now.items (row_of waiting x) (onward c.args.parents.now x) y)
+    let woken = c.wake.new.woken.items in
+    let all : c.push.new.self.items ≡ woken ++ onward c.args.parents.now c.args.x ∷ [] = rw (← c.onward.ensures) c.in_ok-push.ensures.items in
+    rw all (woken_more c.args.woken.now.items woken (row_of c.args.waiting.now c.args.x) (onward c.args.parents.now c.args.x) y (c.in_ok-wake.ensures y))

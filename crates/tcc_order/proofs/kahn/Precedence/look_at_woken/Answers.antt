@@ -1,4 +1,4 @@
-use Rattle.std.proofs.Common.{rules, ◌≡◌, ◌<◌, ◌∷◌, ◌++◌, ◌∙◌, [], length, arith}
+use Rattle.std.proofs.Common.{rules, ◌≡◌, ◌<◌, ◌∷◌, ◌++◌, ◌∙◌, [], length, set, arith}
 use Rattle.std.proofs.lemmas.List.{get_or_read, length-set}
 use Rattle.std.proofs.lemmas.List.Elements.{Contains-append_left, Contains-push}
 use Rattle.tcc_graph.specs.Tables.{row_of}
@@ -11,7 +11,7 @@ use Rattle.tcc_order.proofs.kahn.Precedence.look_at_woken.Goals as goal
 
 -- the queue, and the number that is looked at now
 queued : (c : In-Some) → AreQueued (holds c.args.self.now.graph.now c.args.self.now.kept.now) c.args.self.now.parents.now c.args.placed.now IsAny
-    ((c.pop.new.self.items ++ c.in-Some.number ∷ []) ++ c.loop-number.queue.ready) c.loop-number.queue.waiting.items
+    ((c.pop.new.self.items ++ c.in-Some.number ∷ []) ++ c.loop-number.queue.ready) c.loop-number.queue.waiting
 queued c = rw c.in-Some.ensures.items at c.loop-number.invariant.1
 
 low : (c : In-Some) → c.in-Some.number < length c.args.self.now.parents.now
@@ -33,11 +33,10 @@ index_mut-requires c =
     let long : c.loop-number.queue.seen.len ≡ length c.loop-number.queue.seen.items = search rules in
     omega (arith, low (goal.at.index_mut-requires c).In-Some, long, c.loop-number.invariant.0, c.requires.known.parents.long)
 
-pub index_mut-requires-in-Some-missing : goal.index_mut-requires-in-Some-missing
-index_mut-requires-in-Some-missing c =
-    let long : c.loop-number.queue.waiting.len ≡ length c.loop-number.queue.waiting.items = search rules in
+pub push-requires : goal.push-requires
+push-requires c =
     let below = (holds_parts c.args.self.now.graph.now c.args.self.now.kept.now c.in-Some-missing.other c.in-Some.number c.in-Some-missing.ensures.0).0 in
-    omega (arith, below, long, c.loop-number.invariant.1.long, c.requires.known.parents.long)
+    omega (arith, below, c.loop-number.invariant.1.long, c.requires.known.parents.long)
 
 pub loop-number-preserved-in-Continue-1 : goal.loop-number-preserved-in-Continue-1
 loop-number-preserved-in-Continue-1 c =
@@ -48,17 +47,14 @@ loop-number-preserved-in-Continue-1 c =
     let some = (goal.at.loop-number-preserved-in-Continue-1 c).In-Some in
     let rest = c.pop.new.self.items in
     let ready = c.loop-number.queue.ready in
-    let waiting = c.loop-number.queue.waiting.items in
+    let waiting = c.loop-number.queue.waiting in
     let number = c.in-Some.number in
     let other = c.in-Some-missing.other in
     let ends = holds_parts h kept other number c.in-Some-missing.ensures.0 in
     let after : AreQueued (holds h kept) ps placed (IsNot number) (rest ++ ready) waiting
     = queued_popped (holds h kept) ps placed ((rest ++ number ∷ []) ++ ready) (rest ++ ready) waiting number (queued some)
     (λ y there left. last_woken rest ready number y there) (λ y there. other_woken rest ready number y there) in
-    let was : c.index_mut-in-Some-missing.result.now ≡ row_of waiting other
-    = get_or_read waiting other c.index_mut-in-Some-missing.result.now (omega (arith, ends.0, c.loop-number.invariant.1.long, c.requires.known.parents.long))
-    c.index_mut-in-Some-missing.ensures.value [] in
-    let put : c.push.new.self ≡ row_of waiting other ++ number ∷ [] = rw was at c.in_ok-push-in-Some-missing.ensures.ok in
+    let put : c.push.new.self ≡ set waiting other (number ∷ row_of waiting other) = c.in_ok-push-in-Some-missing.ensures in
     rw put (
       length-set c.loop-number.queue.seen.items number c.in-Some-missing.place ∙ c.loop-number.invariant.0,
       queued_parked (holds h kept) ps placed (rest ++ ready) waiting number other after
@@ -76,6 +72,6 @@ loop-number-preserved c =
     let number = c.in-Some.number in
     let put = c.in_ok-push-in-None.ensures in (
       c.loop-number.invariant.0,
-      queued_ready held c.args.self.now.parents.now c.args.placed.now c.pop.new.self.items ready new c.loop-number.queue.waiting.items number (queued some) put,
+      queued_ready held c.args.self.now.parents.now c.args.placed.now c.pop.new.self.items ready new c.loop-number.queue.waiting number (queued some) put,
       sure_more held c.args.placed.now ready new number c.loop-number.invariant.2 c.in-None.ensures put,
     )
