@@ -68,7 +68,7 @@ length-marked limit text = ⊎_elim long short (cases_lt limit (length text))
     short : length text ≤ limit → length (marked limit text) ≤ limit + 1
     short h = rw (marked-within limit text h) (omega arith)
 
-few-bytes : (limits : Limits) → most_bytes limits ≤ 2 ^ 30
+few-bytes : (limits : Limits) → most_bytes limits ≤ 2 ^ 34
 few-bytes Small = omega arith
 few-bytes Large = omega arith
 
