@@ -148,7 +148,7 @@ def look(sources: Sequence[Source], *, level: str = "causal", large: bool = True
 @dataclass(frozen=True)
 class Asking:
     """Who hears of answers, and how they are asked for while clients work: each time that the records have grown by so much, first
-    once they have this many bytes."""
+    once they have this many bytes. With `stops` a recorder that is watched begins no transaction after the store broke its promise."""
 
     tell: Callable[[Told], None]
     level: str = "causal"
@@ -156,6 +156,7 @@ class Asking:
     growth: float = 0.25
     least: int = LEAST_BYTES
     tcc: Optional[Path] = None
+    stops: bool = False
 
 
 class Looking:

@@ -6,6 +6,9 @@
             one.read("x", store.get("x"))
         assert_causal(tcc_recorder)
 
+`watched_recorder` records as `tcc_recorder` does, and `tcc watch` answers meanwhile: the first transaction that begins after the store
+broke its promise raises `BrokenPromise`, and the test fails.
+
 A test that judged nothing fails too: one with no records, with records that break a rule, or without the program. `--tcc PATH`,
 or the variable TCC, names the program.
 """
@@ -16,6 +19,7 @@ import pytest
 
 from tcc.recording import Recorder
 from tcc.runner import Anomaly, Consistent, NoAnswer, Path, Unresolved, contradicted, explain
+from tcc.watching import stopping
 
 
 def pytest_addoption(parser: Any) -> None:
@@ -27,6 +31,15 @@ def tcc_recorder(tmp_path: pathlib.Path) -> Iterator[Recorder]:
     """A recorder whose file is `records.csv` in the test's own folder."""
     with Recorder(tmp_path / "records.csv") as one:
         yield one
+
+
+@pytest.fixture
+def watched_recorder(request: Any, tmp_path: pathlib.Path) -> Iterator[Recorder]:
+    """A recorder whose file is `watched.csv` in the test's own folder; the test ends where the store is seen to break its promise."""
+    with Recorder(tmp_path / "watched.csv", watch=stopping(request.config.getoption("--tcc"))) as one:
+        yield one
+    if one.broken is not None:
+        pytest.fail("the store broke its promise (records: %s)\n%s" % (one.path, one.broken.text()), pytrace=False)
 
 
 class AssertCausal:

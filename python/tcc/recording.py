@@ -47,6 +47,7 @@ from tcc.known import NAME, NOTES, PENDING, SEAL, Known, Operation, Pair, UnderW
 from tcc.looking import Asking, Looking, Moment, Told
 from tcc.notes import cell
 from tcc.runner import Answer
+from tcc.watching import Watching, watching_of
 from tcc.written import GREATEST_VALUE, RECORDERS, Written
 
 __all__ = ["Busy", "Call", "NoRecord", "Read", "Recorder", "Session", "Transaction", "Write"]
@@ -85,12 +86,14 @@ class Recorder:
     `number`, 0 to 4095, tells the values of several recorders of one store apart. `notes` is a file for annotations: node, time and
     note of each transaction. With `syncs` what is appended reaches the disk before the call returns, so that it survives the end of
     the machine, and not only of the process. `ask` is called with an answer for what was recorded so far, the first one and each of
-    another kind. A thread asks again each time that the records have grown by a quarter. `versions` is a file for the versions that
-    the store gave to what was written, for `explain(.., versions=..)`.
+    another kind. A thread asks again each time that the records have grown by a quarter. `watch` is the same by `tcc watch`, at the cost
+    of what is new. With True the first transaction that begins after the store broke its promise raises `BrokenPromise`. `versions` is a file for the versions that the store gave to what was written, for
+    `explain(.., versions=..)`.
     """
 
     def __init__(self, path: Path, number: int = 0, notes: Optional[Path] = None, syncs: bool = False,
-                 ask: Union[Asking, Callable[[Told], None], None] = None, versions: Optional[Path] = None):
+                 ask: Union[Asking, Callable[[Told], None], None] = None, versions: Optional[Path] = None,
+                 watch: Union[Asking, Callable[[Told], None], bool] = False):
         if not 0 <= number < RECORDERS:
             raise NoRecord("the number of a recorder is %d, and not 0 to %d" % (number, RECORDERS - 1))
         self.path, self.number = os.fspath(path), number
@@ -108,6 +111,10 @@ class Recorder:
         OPEN.add(self)
         asking = ask if isinstance(ask, Asking) or ask is None else Asking(ask)
         self._looking = Looking([self], asking).start() if asking else None
+        self._watching = watching_of(self, watch)
+        self._is_stopped_by = self._watching if self._watching and self._watching.asking.stops else None
+        if self._watching:
+            self._watching.start()
 
     def _open(self, notes: Optional[Path], versions: Optional[Path], syncs: bool) -> None:
         self._records = self._opened(Appended(self.path, syncs))
@@ -165,6 +172,8 @@ class Recorder:
         found open. Where it can't be written it raises why, and can be called again. Closed twice it does nothing."""
         if self._looking:
             self._looking.stop()
+        if self._watching:
+            self._watching.stop()
         with self._lock:
             if self._is_open:
                 self._end_all(lambda one: UNKNOWN)
@@ -214,6 +223,11 @@ class Recorder:
         none begins; where that takes longer than so many seconds there is no seal. Whether there is one."""
         return looking.seal([self], seconds)
 
+    @property
+    def broken(self) -> Optional[Answer]:
+        """What `watch` has found so far that the store must not do."""
+        return self._watching.broken if self._watching else None
+
     def _moment(self) -> Moment:
         """What there is now; the lock is held."""
         self._check_process()
@@ -221,6 +235,8 @@ class Recorder:
 
     def _begin(self) -> None:
         """A transaction begins, once nobody seals."""
+        if self._is_stopped_by:
+            self._is_stopped_by.check()
         with self._idle:
             while self._is_held:
                 self._idle.wait()
@@ -327,7 +343,8 @@ class Recorder:
         """In a process that is a fork, leaves the files to the one that opened them."""
         self._lock = threading.Lock()
         self._idle = threading.Condition(self._lock)
-        self._is_open, self._is_forked, self._is_held, self._looking = False, True, False, None
+        self._is_open, self._is_forked, self._is_held = False, True, False
+        self._looking = self._watching = self._is_stopped_by = None
         self._close_files()
 
 

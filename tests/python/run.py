@@ -29,6 +29,7 @@ import nodes  # noqa: E402
 import several  # noqa: E402
 import stores  # noqa: E402
 import versioned  # noqa: E402
+import watches  # noqa: E402
 import working  # noqa: E402
 from arguments import status_on_tcc  # noqa: E402
 from counted import Outcome, guarded  # noqa: E402
@@ -76,6 +77,19 @@ def test_no_records(tmp_path, assert_causal):
     path.write_text("a,begin\\n")
     assert_causal(path)
 
+def test_watched(watched_recorder):
+    import time
+    record(watched_recorder, None)
+    session = watched_recorder.session("b")
+    for _ in range(100000):
+        with session.transaction() as one:
+            one.write("y", watched_recorder.new_value())
+        time.sleep(0.001)
+
+def test_watched_kept(watched_recorder, assert_causal):
+    record(watched_recorder, 5000)
+    assert assert_causal(watched_recorder).transactions == 2
+
 def record(recorder, value):
     session = recorder.session("a")
     with session.transaction() as one:
@@ -85,7 +99,8 @@ def record(recorder, value):
 """
 # What pytest's report says of each test, and what is in its message.
 REPORTED = {"test_kept": None, "test_broken": "anomaly: 3 steps, stale-initial-read", "test_untraced": "ThinAir a/2 op 1 x 7",
-            "test_nothing": "only 0 transactions", "test_no_records": "Unfinished"}
+            "test_nothing": "only 0 transactions", "test_no_records": "Unfinished", "test_watched": "anomaly: 3 steps, stale-initial-read",
+            "test_watched_kept": None}
 
 
 # The rounds of recipes/ci/test_causal.py, by their folders: the records of each, and what its failure says.
@@ -361,6 +376,7 @@ def outcomes(tcc: List[str]) -> Iterator[Outcome]:
         parts = {"ends": ends(folder), "refusals": refusals(folder), "crash": crash(folder, library), "threads": threads(folder, tcc),
                  "losses": losses.outcomes(folder, library, tcc), "working": working.outcomes(folder, library, tcc),
                  "calls": calls.outcomes(folder, tcc), "looks": looks.outcomes(folder, library, tcc),
+                 "watches": watches.outcomes(folder, tcc),
                  "several": several.outcomes(folder, library, tcc), "nodes": nodes.outcomes(folder, library, tcc),
                  "versions": versioned.outcomes(folder, library, tcc), "stores": stores.outcomes(folder, tcc), "answers": answers(folder, tcc), "commands": commands(folder, library, tcc),
                  "fixtures": fixtures(folder, library, tcc), "rounds": rounds(folder, library, tcc)}
