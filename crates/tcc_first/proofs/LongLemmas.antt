@@ -21,7 +21,7 @@ use Rattle.tcc_near.specs.WalkLengths.{IsShortest}
 use Rattle.tcc_derive.specs.Backwards.{IsFirstWalk}
 use Rattle.tcc_derive.proofs.BackLemmas.{HasLengths}
 use Rattle.tcc_lanes.specs.Lengths.{AreWalkLengths}
-use Rattle.tcc_lanes.specs.declared.limits.TheConstants.{MOST_STEPS}
+use Rattle.tcc_lanes.specs.declared.lengths.TheConstants.{NO_WALK}
 use Rattle.tcc_least.specs.private.Places.{IsFoundUpTo}
 use Rattle.tcc_first.specs.Cheapest.{IsFirstCheapest, IsLinkFrom}
 use Rattle.tcc_first.specs.private.Picks.{IsContradictedAt, IsFirstContradictedAt, IsFirstOfCost, NoneContradictedUpTo}
@@ -30,8 +30,8 @@ use Rattle.tcc_first.proofs.CheapestLemmas.{key_before}
 use Rattle.tcc_first.proofs.ReturnLemmas.{place_of_reading, reading_at}
 
 -- ---- lengths
-module _ (j : Judged) (b most : ℕ) (lengths : List ℕ) (few : most < MOST_STEPS) (are : AreWalkLengths j b most lengths) where
-  pub shortest_at : (v n : ℕ) → v < count j.history → get_or lengths v 0 ≡ n → n < MOST_STEPS → IsShortest j b v n
+module _ (j : Judged) (b most : ℕ) (lengths : List ℕ) (few : most < NO_WALK) (are : AreWalkLengths j b most lengths) where
+  pub shortest_at : (v n : ℕ) → v < count j.history → get_or lengths v 0 ≡ n → n < NO_WALK → IsShortest j b v n
   shortest_at v n below at low = record {
     attained = (found.0, found.1, omega (arith, found.2, least found.0 found.1, at));
     least = λ walk allowed. omega (arith, least walk allowed, at);
@@ -54,7 +54,7 @@ module _ (j : Judged) (b most : ℕ) (lengths : List ℕ) (few : most < MOST_STE
       let (other, others, short, up) = are.sound v below (omega (arith, low, within, few)) in
       omega (arith, low, short, shortest.least other others)
 
-  pub at_most : (v : ℕ) → v < count j.history → get_or lengths v 0 < MOST_STEPS → get_or lengths v 0 ≤ most
+  pub at_most : (v : ℕ) → v < count j.history → get_or lengths v 0 < NO_WALK → get_or lengths v 0 ≤ most
   at_most v below low = let (walk, allowed, short, up) = are.sound v below low in up
 
   pub has_lengths : HasLengths j b (most + 1) lengths
@@ -63,7 +63,7 @@ module _ (j : Judged) (b most : ℕ) (lengths : List ℕ) (few : most < MOST_STE
     (λ shortest. at_shortest v n below (omega (arith, low)) shortest),
   )
 
-  some_length : (v : ℕ) → v < count j.history → get_or lengths v 0 < MOST_STEPS → 0 < get_or lengths v 0
+  some_length : (v : ℕ) → v < count j.history → get_or lengths v 0 < NO_WALK → 0 < get_or lengths v 0
   some_length v below low =
       let (walk, allowed, short, up) = are.sound v below low in omega (
         arith,
@@ -84,7 +84,7 @@ module _ (j : Judged) (b most : ℕ) (lengths : List ℕ) (few : most < MOST_STE
         go (inr more) = more
         go (inl less) =
             let low : get_or lengths d 0 ≤ length walk = are.all d walk below allowed (omega (arith, less, within)) in
-            let few_d : get_or lengths d 0 < MOST_STEPS = omega (arith, low, less, within, few) in
+            let few_d : get_or lengths d 0 < NO_WALK = omega (arith, low, less, within, few) in
             absurd (none (get_or lengths d 0) (some_length d below few_d) (omega (arith, low, less)) y d (against, refl))
 
     -- one of just so many does by its shortest one
@@ -175,7 +175,7 @@ module _ (j : Judged) (b most : ℕ) (lengths : List ℕ) (few : most < MOST_STE
       go (inl more) = omega (arith, derived_cost d e y f walked, more)
       go (inr short) =
           let low : get_or lengths f 0 ≤ length walked = are.all f walked against.1.1 allowed short in
-          let few_f : get_or lengths f 0 < MOST_STEPS = omega (arith, low, short, few) in
+          let few_f : get_or lengths f 0 < NO_WALK = omega (arith, low, short, few) in
           absurd (none (get_or lengths f 0) (some_length f against.1.1 few_f) (omega (arith, low, short)) y f (against, refl))
 
 -- a pair

@@ -4,7 +4,7 @@ ghost use Rattle.std.specs.Prelude.{◌≡◌, ◌<◌, ℕ, length, slice_index
 ghost use Rattle.tcc_reads.specs.History.{count};
 ghost use Rattle.tcc_graph.specs.{Levels.judged, Links.cost, Ties.IsFirstCycle};
 ghost use Rattle.tcc_least.specs.Shapes.{NoneBelow};
-ghost use Rattle.tcc_lanes.specs.{Picked.IsPickedAround, declared.limits.TheConstants.MOST_STEPS};
+ghost use Rattle.tcc_lanes.specs.Picked.{IsPickedAround};
 
 use crate::cheapest::cheapest_link;
 use std::alloc::Global;
@@ -17,10 +17,9 @@ pub fn first_along(
     graph: &LargeGraph,
     level: Level,
     circle: &[u32],
-    steps: u8,
+    steps: u32,
 ) -> Result<Vec<Link>, NoMemory>
     requires some { 0 < steps }
-    requires few { steps < MOST_STEPS }
     requires inside { All (λ v. v < count graph.now) circle.now }
     requires none { NoneBelow (judged graph.now level) steps }
     requires picked { IsPickedAround (judged graph.now level) steps circle.now }
@@ -30,7 +29,7 @@ pub fn first_along(
     let mut picked = Vec::new(alloc);
     for left in (0..circle.len()).rev() {
         let from = circle[left];
-        let Some(link) = cheapest_link(alloc, graph, level, from, end, steps)? else {
+        let Some(link) = cheapest_link(alloc, graph, level, from, end, steps - 1)? else {
             unreachable!()
         };
         picked.push(link)?;

@@ -4,7 +4,7 @@
 ghost use Rattle.std.specs.Prelude.{◌≡◌, ◌<◌, ◌≤◌, ◌+◌, ◌-◌, ◌↔◌, ℕ, List, length, IsTrue, IfOk, MatchOption};
 ghost use Rattle.tcc_reads.specs.History.{count};
 ghost use Rattle.tcc_graph.specs.{Relations.IsReadsPair, Keys.keys, Keys.key_at, Levels.judged, Links.MayContradict, Links.link_cost, declared.link.Link.Link};
-ghost use Rattle.tcc_lanes.specs.declared.limits.TheConstants.{MOST_STEPS};
+ghost use Rattle.tcc_lanes.specs.declared.lengths.TheConstants.{NO_WALK};
 ghost use Rattle.tcc_first.specs.{Cheapest.IsFirstCheapest, Cheapest.IsLinkFrom};
 ghost use Rattle.tcc_first.specs.private.Picks.{IsContradictedAt, IsFirstContradictedAt, NoneContradictedUpTo};
 
@@ -29,10 +29,10 @@ fn may_contradict(graph: &LargeGraph, from: u32, source: u32, reader: u32, key_i
 /// Whether one transaction contradicts a reading from another by a shortest walk of so many steps.
 fn is_contradicted(
     graph: &LargeGraph,
-    lengths: &[u8],
+    lengths: &[u32],
     from: u32,
     source: u32,
-    steps: u8,
+    steps: u32,
     reader: u32,
     key_index: u32,
 ) -> bool
@@ -49,10 +49,10 @@ fn is_contradicted(
 /// none where there is none.
 fn first_contradicted(
     graph: &LargeGraph,
-    lengths: &[u8],
+    lengths: &[u32],
     from: u32,
     source: u32,
-    steps: u8,
+    steps: u32,
 ) -> Option<(Name, u32)>
     requires long { length lengths.now ≡ count graph.now }
     requires source { source < count graph.now }
@@ -84,12 +84,12 @@ fn first_contradicted(
 /// walk of so many steps at most contradicts one.
 fn nearest_contradicted(
     graph: &LargeGraph,
-    lengths: &[u8],
-    most: u8,
+    lengths: &[u32],
+    most: u32,
     from: u32,
     source: u32,
 ) -> Option<(Name, u32)>
-    requires few { most < MOST_STEPS }
+    requires few { most < NO_WALK }
     requires long { length lengths.now ≡ count graph.now }
     requires source { source < count graph.now }
     ensures { MatchOption result (NoneContradictedUpTo graph.now lengths.now most from source)
@@ -112,9 +112,9 @@ pub fn cheapest_link(
     level: Level,
     from: u32,
     to: u32,
-    most: u8,
+    most: u32,
 ) -> Result<Option<Link>, NoMemory>
-    requires few { most < MOST_STEPS }
+    requires few { most < NO_WALK }
     requires from { from < count graph.now }
     requires to { to < count graph.now }
     ensures { IfOk result (λ found. MatchOption found

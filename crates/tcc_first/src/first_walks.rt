@@ -4,7 +4,7 @@ ghost use Rattle.std.specs.Prelude.{◌≡◌, ◌<◌, ℕ, true, length, slice
 ghost use Rattle.tcc_reads.specs.History.{count};
 ghost use Rattle.tcc_graph.specs.{declared.level.Level.Level, declared.step.Step.Step, Levels.judged, Walks.step_from, Walks.step_to, Walks.IsStep};
 ghost use Rattle.tcc_derive.specs.{Backwards.IsFirstWalk, private.LeadingBack.IsLastStep, private.LeadingBack.stands_at};
-ghost use Rattle.tcc_lanes.specs.{Lengths.AreWalkLengths, declared.limits.TheConstants.MOST_STEPS};
+ghost use Rattle.tcc_lanes.specs.{Lengths.AreWalkLengths, declared.lengths.TheConstants.NO_WALK};
 
 use crate::cheapest_links::first_step;
 use std::alloc::Global;
@@ -12,7 +12,7 @@ use tcc_graph::{LargeGraph, Step, Walk};
 use tcc_txn::NoMemory;
 
 /// Whether `left` steps lead to the transaction, and no fewer; no steps lead to where the walk begins alone.
-fn stands_at(lengths: &[u8], from: u32, transaction: u32, left: u8) -> bool
+fn stands_at(lengths: &[u32], from: u32, transaction: u32, left: u32) -> bool
     requires { transaction < length lengths.now }
     ensures { result ≡ stands_at lengths.now from transaction left }
 {
@@ -24,7 +24,7 @@ fn stands_at(lengths: &[u8], from: u32, transaction: u32, left: u8) -> bool
 }
 
 /// The first step to `end` from where `left` steps lead.
-fn last_step(graph: &LargeGraph, lengths: &[u8], from: u32, end: u32, left: u8) -> Option<Step>
+fn last_step(graph: &LargeGraph, lengths: &[u32], from: u32, end: u32, left: u32) -> Option<Step>
     requires end { end < count graph.now }
     requires long { length lengths.now ≡ count graph.now }
     ensures { MatchOption result ((o : Step) → IsStep graph.now o → step_to o ≡ end → stands_at lengths.now from (step_from o) left ≡ true → ⊥)
@@ -42,15 +42,15 @@ fn last_step(graph: &LargeGraph, lengths: &[u8], from: u32, end: u32, left: u8) 
 pub(crate) fn first_walk(
     alloc: Global,
     graph: &LargeGraph,
-    lengths: &[u8],
+    lengths: &[u32],
     from: u32,
     to: u32,
 ) -> Result<Walk, NoMemory>
-    requires lengths { (level : Level) × (most : ℕ) × (most < MOST_STEPS) × AreWalkLengths (judged graph.now level) from most lengths.now }
+    requires lengths { (level : Level) × (most : ℕ) × (most < NO_WALK) × AreWalkLengths (judged graph.now level) from most lengths.now }
     requires from { from < count graph.now }
     requires to { to < count graph.now }
-    requires reached { slice_index lengths.now to < MOST_STEPS }
-    ensures { IfOk result (λ walk. (level : Level) (most : ℕ) → most < MOST_STEPS → AreWalkLengths (judged graph.now level) from most lengths.now
+    requires reached { slice_index lengths.now to < NO_WALK }
+    ensures { IfOk result (λ walk. (level : Level) (most : ℕ) → most < NO_WALK → AreWalkLengths (judged graph.now level) from most lengths.now
         → IsFirstWalk (judged graph.now level) from to walk) }
 {
     let total = lengths[to as usize];

@@ -31,6 +31,11 @@ module _ (rows : List (List ℕ)) (table : IsTable rows) (s level : ℕ) (old ne
           let still : get_or new t 0 ≡ get_or old t 0 = kept t (omega (arith, inside, same)) (omega (arith, at)) in
           inr (t, omega (arith, inside, same), omega (arith, still, at), omega (arith, still, at, over))
 
+pub attained_on : (rows : List (List ℕ)) (s level next : ℕ) (costs : List ℕ) (v : ℕ) → level < next → IsSettledFrom rows s (level + 1) costs v
+    → IsSettledFrom rows s next costs v
+attained_on rows s level next costs v more (inl start) = inl start
+attained_on rows s level next costs v more (inr (u, inside, low, over)) = inr (u, inside, omega (arith, low, more), over)
+
 pub attained : (rows : List (List ℕ)) (s level : ℕ) (costs : List ℕ) (v : ℕ) → IsSettledFrom rows s level costs v → IsAttained rows s costs v
 attained rows s level costs v (inl start) = inl start
 attained rows s level costs v (inr (u, inside, low, over)) = inr (u, inside, over)

@@ -11,7 +11,6 @@ use Rattle.tcc_graph.specs.declared.level.Level.{Level}
 use Rattle.tcc_graph.specs.declared.step.Step.{Step}
 use Rattle.tcc_lanes.specs.Nearness.{IsClosing}
 use Rattle.tcc_lanes.specs.declared.pricing.TheConstants.{NONE}
-use Rattle.tcc_lanes.specs.declared.limits.TheConstants.{MOST_STEPS}
 use Rattle.tcc_lanes.specs.private.Pricing.{ArePrices, cell}
 use Rattle.tcc_lanes.specs.private.Passes.{ArePricesOf}
 use Rattle.tcc_lanes.specs.private.Tiles.{IsTile}
@@ -246,7 +245,7 @@ module _ (positions : List ℕ) (most : ℕ) (starts members table : List ℕ) w
           go (inr other) = inl (k, omega (arith, less, other), is)
 
 -- ---- the sources of a block
-module _ (h : History) (level : Level) (positions : List ℕ) (most : ℕ) (sources targets : List ℕ) (some : All (λ a. 0 < a) targets) (low : most ≤ MOST_STEPS)
+module _ (h : History) (level : Level) (positions : List ℕ) (most : ℕ) (sources targets : List ℕ) (some : All (λ a. 0 < a) targets) (low : most ≤ NONE)
     (longest : ℕ) (longest_is : (walk : List Step) → IsAllowed level walk → length walk + 2 < most → length walk ≤ longest) where
   abbrev j : Judged
   j = judged h level

@@ -8,6 +8,7 @@ pub mod Grown
 pub mod MeetingLemmas
 pub mod PriceLemmas
 pub mod LengthLemmas
+pub mod StretchLemmas
 pub mod PriceRows
 pub mod SettledCosts
 pub mod Attained

@@ -1,20 +1,30 @@
 -- The columns of members, and where lanes meet the readers of what their starts write.
-use Rattle.std.proofs.Common.{◌≡◌, ◌≢◌, ◌<◌, ◌≤◌, ◌+◌, ◌⊎◌, ◌↔◌, inl, inr, ℕ, List, length, get_or, set, replicate, length-set, refl, sym, ap, subst, ◌∙◌, arith}
+use Rattle.std.proofs.Common.{◌≡◌, ◌≢◌, ◌<◌, ◌≤◌, ◌+◌, ◌⊎◌, ◌↔◌, inl, inr, ℕ, suc, zero, List, [], ◌∷◌, length, get_or, set, replicate, length-set, refl, sym, ap, subst, ◌∙◌, arith}
 use Rattle.std.specs.Prelude.{bit_and, bit_or}
-use Rattle.std.specs.List.{AllPairs, Contains}
+use Rattle.std.specs.List.{All, AllPairs, Contains}
 use Rattle.std.proofs.lemmas.Bool.{cases_eq, cases_lt}
 use Rattle.std.proofs.lemmas.List.{get_or-replicate, get_or-set_other, get_or-set_same, get_or_default, length-replicate}
 use Rattle.std.proofs.lemmas.List.Elements.{Contains-get_or}
 use Rattle.tcc_reads.specs.History.{History, count}
 use Rattle.tcc_graph.specs.Keys.{key_at}
 use Rattle.tcc_least.proofs.ReadLemmas.{AreReadsAt, is_read, read_is}
-use Rattle.tcc_lanes.specs.declared.limits.TheConstants.{MOST_MEMBERS}
+use Rattle.tcc_lanes.specs.declared.meeting.TheConstants.{NO_COLUMN}
 use Rattle.tcc_lanes.specs.declared.words.TheConstants.{LANES}
 use Rattle.tcc_lanes.specs.private.Marks.{HasLane, IsAt}
 use Rattle.tcc_lanes.specs.private.Pricing.{AreColumns, IsMetAt, IsMetIn}
 use Rattle.tcc_lanes.proofs.Grown.{OneBelow, grown_more, grown_none, grown_same, one_earlier, one_last, one_or_last}
 use Rattle.tcc_lanes.proofs.MarkLemmas.{key_of_read}
 use Rattle.tcc_lanes.proofs.WordLemmas.{both_have, either_has}
+
+-- ---- what ascends below a number
+ascending_at : (xs : List ℕ) → AllPairs (λ u v. u < v) xs → (k : ℕ) → k < length xs → k ≤ get_or xs k 0
+ascending_at xs up zero inside = omega arith
+ascending_at xs up (suc k) inside = omega (arith, ascending_at xs up k (omega (arith, inside)), up k (suc k) 0 (omega arith) inside)
+
+-- has no more items than that
+pub ascending_few : (xs : List ℕ) (n : ℕ) → AllPairs (λ u v. u < v) xs → All (λ v. v < n) xs → length xs ≤ n
+ascending_few [] n up below = omega arith
+ascending_few (x ∷ xs) n up below = omega (arith, ascending_at (x ∷ xs) up (length xs) (omega arith), below (length xs) 0 (omega arith))
 
 -- ---- columns
 -- those of the first members
@@ -23,11 +33,11 @@ AreColumnsTo h members end columns =
     (length columns ≡ count h)
     × ((a v : ℕ) → a < count h → v < length members → (get_or columns a 0 ≡ v) ↔ ((v < end) × (get_or members v 0 ≡ a)))
 
-pub columns_none : (h : History) (members : List ℕ) → length members ≤ MOST_MEMBERS → AreColumnsTo h members 0 (replicate (count h) MOST_MEMBERS)
+pub columns_none : (h : History) (members : List ℕ) → length members ≤ NO_COLUMN → AreColumnsTo h members 0 (replicate (count h) NO_COLUMN)
 columns_none h members few = (
-  length-replicate {A = ℕ} (count h) MOST_MEMBERS,
+  length-replicate {A = ℕ} (count h) NO_COLUMN,
   λ a v below inside. (
-    (λ same. absurd (omega (arith, same, inside, few, get_or-replicate {A = ℕ} (count h) a MOST_MEMBERS 0 below))),
+    (λ same. absurd (omega (arith, same, inside, few, get_or-replicate {A = ℕ} (count h) a NO_COLUMN 0 below))),
     λ is. absurd (omega (arith, is.0)),
   ),
 )

@@ -18,7 +18,7 @@ use Rattle.tcc_lanes.specs.private.Marks.{IsAt, AreMarksOf, AreWriterMarks}
 use Rattle.tcc_lanes.specs.private.Walking.{IsWalkedOn}
 use Rattle.tcc_lanes.specs.private.Walks.{AreWalked}
 use Rattle.tcc_lanes.specs.private.Pricing.{AreColumns, ArePrices, IsLowered, IsMetIn, cell}
-use Rattle.tcc_lanes.proofs.Walked.{none_walked, walked_more}
+use Rattle.tcc_lanes.proofs.Walked.{none_walked, still_walked, walked_more}
 use Rattle.tcc_lanes.proofs.WordLemmas.{zeros_nowhere}
 
 -- a lane has come, in so many steps at most, to a reader of what its start writes, which reads it from the member of a column
@@ -158,3 +158,31 @@ module _ (h : History) (level : Level) (members starts begun : List ℕ) (lanes 
 
         found_now : (v i : ℕ) → v < length members → i < LANES → IsAt met v i ↔ IsFound j members starts (n + 1) v i
         found_now = found_more after found met walked w.each (λ v i l m. grown v i (omega (arith, l, w.columns)) m)
+
+  -- where one pair more leads to nothing new, these are the prices of longer walks too
+  module _ (inside : All (λ u. u < count h) starts) (marks : AreMarksOf (count h) starts (length starts) begun) (n longest : ℕ) (up : n ≤ longest)
+      (reached underway found table after : List ℕ) (w : IsPricing h level members starts begun n reached underway found table)
+      (still : (v : ℕ) → v < count h → get_or after v 0 ≡ get_or reached v 0)
+      (each : (v i : ℕ) → v < count h → i < LANES → IsAt after v i ↔ IsWalkedOn h level begun reached v i) where
+    -- a walk is no longer than n steps, or one of so many leads where it does
+    cheap_at : (v i : ℕ) → v < length members → i < length starts → (x : List ℕ) (c : ℕ) (walk : List Step)
+        → IsReason j (get_or starts i 0) (get_or members v 0) x c walk → length walk ≤ longest → (n < length walk) ⊎ (length walk ≤ n)
+        → get_or table (cell v i) 0 ≤ length walk + 1
+    cheap_at v i l m x c walk reason short (inr few) = w.prices.all v i l m x c walk reason few
+    cheap_at v i l m x c walk reason short (inl more) =
+        let lane : i < LANES = omega (arith, m, lanes) in
+        let below : c < count h = reason.0.1.1 in
+        let begins : IsAt begun (get_or starts i 0) i = (marks.each (get_or starts i 0) i (inside i 0 m) lane).1 (m, refl) in
+        let at : IsAt reached c i
+        = (still_walked h level begun reached after n w.walked still each longest up c i below lane).1 (get_or starts i 0, walk, begins, reason.1, short) in
+        let (start, other, from, is, few) = (w.walked c i below lane).0 at in
+        let (_, start_is) = (marks.each start i (walk_below h start c other is.0).0 lane).0 from in
+        omega (arith, w.prices.all v i l m x c other (reason.0, subst (λ (z : ℕ). IsAllowedWalk j z c other) (sym start_is) is) few, few, more)
+
+    pub pricing_still : ArePrices j members starts longest table
+    pricing_still = record {
+      long = w.prices.long;
+      high = w.prices.high;
+      sound = w.prices.sound;
+      all = λ v i l m x c walk reason short. cheap_at v i l m x c walk reason short (cases_lt n (length walk));
+    }

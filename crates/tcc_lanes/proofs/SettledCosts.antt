@@ -1,9 +1,9 @@
 -- Costs that are settled level by level.
-use Rattle.std.proofs.Common.{◌≡◌, ◌≢◌, ◌<◌, ◌≤◌, ◌+◌, ◌⊎◌, inl, inr, ℕ, List, [], ◌∷◌, ◌++◌, length, get_or, refl, sym, subst, ◌∙◌, arith}
+use Rattle.std.proofs.Common.{◌≡◌, ◌≢◌, ◌<◌, ◌≤◌, ◌+◌, ◌⊎◌, inl, inr, ℕ, List, [], ◌∷◌, ◌++◌, length, get_or, replicate, refl, sym, ap, subst, ◌∙◌, arith}
 use Rattle.std.specs.Prelude.{min}
 use Rattle.std.specs.List.{All, AllPairs, Contains}
 use Rattle.std.proofs.lemmas.Bool.{cases_eq, cases_lt}
-use Rattle.std.proofs.lemmas.List.{get_or_default}
+use Rattle.std.proofs.lemmas.List.{ext_get_or, get_or-replicate, get_or_default, length-replicate}
 use Rattle.std.proofs.lemmas.List.Elements.{All-append, All-cons, All-head, All-nil, All-tail, Contains-get_or}
 use Rattle.tcc_graph.specs.Levels.{Judged}
 use Rattle.tcc_graph.specs.Links.{cost, link_from, link_to}
@@ -147,6 +147,20 @@ module _ (j : Judged) (members : List ℕ) (most : ℕ) (rows : List (List ℕ))
         over u v l m low (inr other) (inl stays) =
             omega (arith, stays, w.over u v l m (omega (arith, low, stays, other)), settled.kept v (here v m))
 
+    -- a level that nothing costs is passed over
+    pub reached_on : (level next : ℕ) (costs : List ℕ) → ((v : ℕ) → v < length costs → level < get_or costs v 0 → next ≤ get_or costs v 0)
+        → IsReached j members rows s (level + 1) costs → IsReached j members rows s next costs
+    reached_on level next costs above w = record {
+      same = w.same;
+      sound = w.sound;
+      first = w.first;
+      over = λ u v l m low. w.over u v l m (below u l low (cases_lt level (get_or costs u 0)));
+    }
+      where
+        below : (u : ℕ) → u < length members → get_or costs u 0 < next → (level < get_or costs u 0) ⊎ (get_or costs u 0 ≤ level) → get_or costs u 0 < level + 1
+        below u l low (inl more) = absurd (omega (arith, low, above u (omega (arith, l, w.same)) more))
+        below u l low (inr less) = omega (arith, less)
+
     module _ (ascending : AllPairs (λ u v. u < v) members) (level : ℕ) (costs : List ℕ) (far : most ≤ level) (w : IsReached j members rows s level costs) where
       once : (u v : ℕ) → u < length members → v < length members → get_or members u 0 ≡ get_or members v 0 → u ≡ v
       once u v l m e = go (cases_eq u v) (cases_lt u v)
@@ -210,3 +224,18 @@ module _ (j : Judged) (members : List ℕ) (most : ℕ) (rows : List (List ℕ))
       go (s, within, at) =
           let from : get_or members s 0 ≡ v = get_or_default members s 0 (link_from one) within ∙ (at ∙ cycle.1.0) in
           none s (omega (arith, within, all)) within (one ∷ links, subst (λ (z : ℕ). IsCycle j z (one ∷ links)) (sym from) cycle, listed, few)
+
+-- ---- before anything is settled
+-- lowered by a row alone, all costs are those of the row
+pub costs_of_row : (row costs new : List ℕ) (n : ℕ) → costs ≡ replicate n NONE → length row ≡ n → length new ≡ length costs
+    → ((v : ℕ) → v < n → get_or row v 0 ≤ NONE) → ((v : ℕ) → v < length costs → get_or new v 0 ≡ min (get_or costs v 0) (0 + get_or row v 0)) → new ≡ row
+costs_of_row row costs new n is long same high each = ext_get_or 0 new row (omega (arith, same, wide, long)) at
+  where
+    wide : length costs ≡ n
+    wide = ap length is ∙ length-replicate {A = ℕ} n NONE
+
+    at : (v : ℕ) → v < length new → get_or new v 0 ≡ get_or row v 0
+    at v l =
+        let below : v < n = omega (arith, l, same, wide) in
+        let none : get_or costs v 0 ≡ NONE = ap (λ (z : List ℕ). get_or z v 0) is ∙ get_or-replicate {A = ℕ} n v NONE 0 below in
+        omega (arith, each v (omega (arith, l, same)), none, high v below)

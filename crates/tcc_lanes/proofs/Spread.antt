@@ -1,5 +1,5 @@
 -- One level of the search.
-use Rattle.std.proofs.Common.{◌≡◌, ◌≢◌, ◌<◌, ◌+◌, ◌-◌, ◌↔◌, ◌⊎◌, inl, inr, ℕ, List, length, get_or, set, length-set, sym, ap, subst, ◌∙◌, arith}
+use Rattle.std.proofs.Common.{◌≡◌, ◌≢◌, ◌<◌, ◌≤◌, ◌+◌, ◌-◌, ◌↔◌, ◌⊎◌, inl, inr, ℕ, Bool, false, List, length, get_or, set, length-set, sym, ap, subst, ◌∙◌, arith}
 use Rattle.std.specs.Prelude.{bit_or}
 use Rattle.std.proofs.lemmas.Bool.{cases_eq, eq-eqb, ne_eqb}
 use Rattle.std.proofs.lemmas.List.{get_or_default, get_or-set_same, get_or-set_other}
@@ -129,3 +129,25 @@ module _ (h : History) (numbered : IsBySession h.entries) (parents : List ℕ) (
       each : (u i : ℕ) → u < v + 1 → i < LANES → (u ≡ v) ⊎ (u ≢ v) → IsAt (set found v (bit_or now word)) u i ↔ IsLedTo h marks u i
       each u i less l (inl same) = rw (same, get_or-set_same found v (bit_or now word) 0 (omega (arith, below, w.same))) (joined i l)
       each u i less l (inr other) = rw (get_or-set_other found v u (bit_or now word) 0 other) (w.each u i (omega (arith, less, other)) l)
+
+-- ---- whether anything is new
+-- where nothing is said to be new, the first words are what they were; the others are what they were in any case
+pub record IsStillTo (old : List ℕ) (end : ℕ) (is_new : Bool) (found : List ℕ) : Type 0 where
+  pub same : is_new ≡ false → (k : ℕ) → k < end → get_or found k 0 ≡ get_or old k 0
+  pub rest : (k : ℕ) → end ≤ k → get_or found k 0 ≡ get_or old k 0
+
+pub still_more : (old : List ℕ) (v : ℕ) (is_new : Bool) (found : List ℕ) (word : ℕ) (now : Bool) → v < length found
+    → (now ≡ false → (is_new ≡ false) × (word ≡ get_or found v 0)) → IsStillTo old v is_new found → IsStillTo old (v + 1) now (set found v word)
+still_more old v is_new found word now inside told w = record {
+  same = λ none k l. same none k l (cases_eq k v);
+  rest = λ k l. get_or-set_other found v k word 0 (apart k l) ∙ w.rest k (omega (arith, l));
+}
+  where
+    apart : (k : ℕ) → v + 1 ≤ k → k ≢ v
+    apart k l is = omega (arith, l, is)
+
+    same : now ≡ false → (k : ℕ) → k < v + 1 → (k ≡ v) ⊎ (k ≢ v) → get_or (set found v word) k 0 ≡ get_or old k 0
+    same none k l (inl here) =
+        subst (λ (z : ℕ). get_or (set found v word) z 0 ≡ get_or old z 0) (sym here)
+        (get_or-set_same found v word 0 inside ∙ ((told none).1 ∙ w.rest v (omega arith)))
+    same none k l (inr other) = get_or-set_other found v k word 0 other ∙ w.same (told none).0 k (omega (arith, l, other))

@@ -1,5 +1,5 @@
 -- Walks, one pair longer each time.
-use Rattle.std.proofs.Common.{◌≡◌, ◌<◌, ◌+◌, ◌↔◌, inl, inr, ℕ, List, get_or, [], ◌∷◌, length, replicate, refl, sym, subst, arith}
+use Rattle.std.proofs.Common.{◌≡◌, ◌<◌, ◌≤◌, ◌+◌, ◌-◌, ◌↔◌, inl, inr, ℕ, suc, zero, List, get_or, [], ◌∷◌, length, replicate, refl, sym, subst, arith}
 use Rattle.tcc_reads.specs.History.{History, count}
 use Rattle.tcc_graph.specs.Relations.{IsCausalPair}
 use Rattle.tcc_graph.specs.Levels.{judged, IsAllowed}
@@ -86,3 +86,23 @@ walked_by h l starts reached underway each v i = (
   (λ (u, pair, at). (u, pair, (under l starts reached underway u i (each u (pair_below h u v pair).0)).0 at)),
   λ (u, pair, at). (u, pair, (under l starts reached underway u i (each u (pair_below h u v pair).0)).1 at),
 )
+
+-- where one pair more leads to nothing new, more of them don't either
+module _ (h : History) (l : Level) (begun reached after : List ℕ) (n : ℕ) (w : AreWalked (judged h l) begun n reached)
+    (still : (v : ℕ) → v < count h → get_or after v 0 ≡ get_or reached v 0)
+    (each : (v i : ℕ) → v < count h → i < LANES → IsAt after v i ↔ IsWalkedOn h l begun reached v i) where
+  on : (v i : ℕ) → v < count h → i < LANES → IsAt reached v i ↔ IsWalkedOn h l begun reached v i
+  on v i below lane = subst (λ (word : ℕ). HasLane word i ↔ IsWalkedOn h l begun reached v i) (still v below) (each v i below lane)
+
+  longer : (more : ℕ) (most : ℕ) → most ≡ n + more → AreWalked (judged h l) begun most reached
+  longer zero most is = subst (λ (m : ℕ). AreWalked (judged h l) begun m reached) (omega (arith, is)) w
+  longer (suc more) most is =
+      subst (λ (m : ℕ). AreWalked (judged h l) begun m reached) (omega (arith, is))
+      (walked_more h begun reached reached (n + more) l (longer more (n + more) refl) on)
+
+  pub still_walked : (most : ℕ) → n ≤ most → AreWalked (judged h l) begun most reached
+  still_walked most up = longer (most - n) most (omega (arith, up))
+
+  pub still_after : (most : ℕ) → n ≤ most → AreWalked (judged h l) begun most after
+  still_after most up v i below lane =
+      subst (λ (word : ℕ). HasLane word i ↔ IsWalkedTo (judged h l) begun most v i) (sym (still v below)) (still_walked most up v i below lane)

@@ -3,13 +3,13 @@ use Rattle.std.specs.Prelude.{ℕ, ◌<◌, ◌≤◌, ◌≡◌, List, length, 
 use Rattle.tcc_reads.specs.History.{count}
 use Rattle.tcc_graph.specs.Levels.{Judged, IsAllowedWalk}
 use Rattle.tcc_graph.specs.declared.step.Step.{Step}
-use Rattle.tcc_lanes.specs.declared.limits.TheConstants.{MOST_STEPS}
+use Rattle.tcc_lanes.specs.declared.lengths.TheConstants.{NO_WALK}
 
 -- of each transaction the least number of steps of a walk that the level allows from b to it, where it is a limit at most; else the number
 -- that stands for none
 pub record AreWalkLengths (j : Judged) (b : ℕ) (most : ℕ) (lengths : List ℕ) : Type 0 where
   pub long : length lengths ≡ count j.history
-  pub high : (v : ℕ) → v < count j.history → slice_index lengths v ≤ MOST_STEPS
-  pub sound : (v : ℕ) → v < count j.history → slice_index lengths v < MOST_STEPS
+  pub high : (v : ℕ) → v < count j.history → slice_index lengths v ≤ NO_WALK
+  pub sound : (v : ℕ) → v < count j.history → slice_index lengths v < NO_WALK
       → (walk : List Step) × IsAllowedWalk j b v walk × (length walk ≤ slice_index lengths v) × (slice_index lengths v ≤ most)
   pub all : (v : ℕ) (walk : List Step) → v < count j.history → IsAllowedWalk j b v walk → length walk ≤ most → slice_index lengths v ≤ length walk

@@ -3,6 +3,7 @@ pub mod Marks
 pub mod Walking
 pub mod Walks
 pub mod IntoInit
+pub mod Stretches
 pub mod Pricing
 pub mod Tiles
 pub mod Closings

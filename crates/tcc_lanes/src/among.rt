@@ -2,7 +2,7 @@
 ghost use Rattle.std.specs.Prelude.{◌≡◌, ◌≤◌, ◌<◌, ◌+◌, ◌↔◌, ℕ, length, All, AllPairs, IfOk, IsTrue, MatchOption};
 ghost use Rattle.tcc_reads.specs.History.{count};
 ghost use Rattle.tcc_graph.specs.Levels.{judged};
-ghost use Rattle.tcc_lanes.specs.{declared.limits.TheConstants.MOST_MEMBERS, declared.limits.TheConstants.MOST_STEPS, Among.HasCheaperAlong, Among.HasCheaperAmong, Picked.HasAllAmong, Picked.IsPickedAround};
+ghost use Rattle.tcc_lanes.specs.{Among.HasCheaperAlong, Among.HasCheaperAmong, Picked.HasAllAmong, Picked.IsPickedAround};
 
 use crate::circling::circle;
 use crate::price_rows::price_rows;
@@ -13,8 +13,9 @@ use tcc_txn::NoMemory;
 
 /// The transactions of a cycle that costs less than `most`, all of whose links begin and end at these transactions, in its order; none
 /// where there is no such cycle. It starts at the lowest of them from which one does. Where no cycle costs less than one step less, its
-/// links are picked from the last backwards, each from the lowest number. The members ascend, and `init` isn't among them. For M transactions among N with R reads that takes M / 64
-/// times so many sweeps of N + R as a cycle may have steps, and then M * M * M steps at most; and M * M bytes.
+/// links are picked from the last backwards, each from the lowest number. The members ascend, and `init` isn't among them. For M members
+/// among N with R reads that takes M / 64 times so many sweeps of N + R as longer walks lead to anything new. Then it takes M * M steps,
+/// and for each member as many as all rows of prices have stretches (`stretches`), and M for each cost that is met; and 8 bytes a stretch.
 pub fn cheaper_among(
     alloc: Global,
     graph: &LargeGraph,
@@ -25,8 +26,6 @@ pub fn cheaper_among(
     requires inside { All (λ v. v < count graph.now) members.now }
     requires some { All (λ v. 0 < v) members.now }
     requires ascending { AllPairs (λ u v. u < v) members.now }
-    requires few { length members.now ≤ MOST_MEMBERS }
-    requires most { most ≤ MOST_STEPS }
     ensures found { IfOk result (λ found. MatchOption found
         (HasCheaperAmong (judged graph.now level) members.now most → ⊥)
         (λ circle. HasCheaperAmong (judged graph.now level) members.now most × HasCheaperAlong (judged graph.now level) circle.items most)) }
@@ -35,8 +34,8 @@ pub fn cheaper_among(
 {
     let rows = price_rows(alloc, graph, level, members, most)?;
     for start in 0..members.len() {
-        if has_return(alloc, &rows, start, most as u8)? {
-            return Ok(Some(circle(alloc, &rows, members, start, most as u8)?));
+        if has_return(alloc, &rows, start, most)? {
+            return Ok(Some(circle(alloc, &rows, members, start, most)?));
         }
     }
     Ok(None)
@@ -53,8 +52,6 @@ pub fn has_cheaper_among(
     requires inside { All (λ v. v < count graph.now) members.now }
     requires some { All (λ v. 0 < v) members.now }
     requires ascending { AllPairs (λ u v. u < v) members.now }
-    requires few { length members.now ≤ MOST_MEMBERS }
-    requires most { most ≤ MOST_STEPS }
     ensures { IfOk result (λ found. IsTrue found ↔ HasCheaperAmong (judged graph.now level) members.now most) }
 {
     let found = cheaper_among(alloc, graph, level, members, most)?;

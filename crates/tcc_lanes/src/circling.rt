@@ -2,33 +2,33 @@
 //! members that takes M prices a link, beside the costs themselves.
 ghost use Rattle.std.specs.Prelude.{◌≡◌, ◌≤◌, ◌<◌, ◌+◌, ◌↔◌, ℕ, AllPairs, IfOk, IsTrue, MatchOption, length, reverse, slice_index};
 ghost use Rattle.tcc_graph.specs.Levels.{Judged};
-ghost use Rattle.tcc_lanes.specs.{Among.HasCheaperAlong, Picked.ArePicked, Picked.HasAllAmong, Picked.IsLowestStart, declared.pricing.TheConstants.NONE};
+ghost use Rattle.tcc_lanes.specs.{Among.HasCheaperAlong, Picked.ArePicked, Picked.HasAllAmong, Picked.IsLowestStart};
 ghost use Rattle.tcc_lanes.specs.private.Pricing.{ArePriceRows, HasReturn, IsAttained, IsFirstBefore, IsTable, price_of};
 
 use crate::settling::costs_from;
+use crate::stretches::PriceRow;
 use std::alloc::Global;
-use tcc_bits::Row;
 use tcc_txn::NoMemory;
 
 /// Whether a cost is one with a price added to it.
-fn is_sum(before: u8, price: u8, cost: u8) -> bool
+fn is_sum(before: u32, price: u32, cost: u32) -> bool
     ensures { IsTrue result ↔ (before + price ≡ cost) }
 {
-    u32::from(before) + u32::from(price) == u32::from(cost)
+    u64::from(before) + u64::from(price) == u64::from(cost)
 }
 
 /// What a link from one member to another costs.
-fn price(rows: &[Row<u8>], from: usize, to: usize) -> u8
+fn price(rows: &[PriceRow], from: usize, to: usize) -> u32
     requires table { IsTable rows.now }
     requires from { from < length rows.now }
     requires to { to < length rows.now }
     ensures { result ≡ price_of rows.now from to }
 {
-    rows[from].as_slice()[to]
+    rows[from].price(to)
 }
 
 /// The first member from which a link leads to another at just what it costs to come there; none where one from the start does.
-fn before(rows: &[Row<u8>], costs: &[u8], start: usize, to: usize) -> Option<usize>
+fn before(rows: &[PriceRow], costs: &[u32], start: usize, to: usize) -> Option<usize>
     requires table { IsTable rows.now }
     requires start { start < length rows.now }
     requires to { to < length rows.now }
@@ -54,15 +54,14 @@ fn before(rows: &[Row<u8>], costs: &[u8], start: usize, to: usize) -> Option<usi
 /// the last backwards, each from the lowest number.
 pub(crate) fn circle(
     alloc: Global,
-    rows: &[Row<u8>],
+    rows: &[PriceRow],
     members: &[u32],
     start: usize,
-    most: u8,
+    most: u32,
 ) -> Result<Vec<u32>, NoMemory>
     requires table { IsTable rows.now }
     requires same { length members.now ≡ length rows.now }
     requires start { start < length rows.now }
-    requires few { most ≤ NONE }
     ensures along { IfOk result (λ circle. (j : Judged) → ArePriceRows j members.now most (length members.now) rows.now
         → AllPairs (λ u v. u < v) members.now → HasReturn j members.now most start → HasCheaperAlong j circle.items most) }
     ensures picked { IfOk result (λ circle. (j : Judged) (n : ℕ) → most ≡ n + 1 → ArePriceRows j members.now most (length members.now) rows.now

@@ -1,14 +1,13 @@
 //! The derived links that lead back in an order: where they begin and at what price, and how far back they lead. They are found from
 //! 64 sources at a time (`pricing`). For S sources, T targets, N transactions and R reads that takes S / 64 times so many sweeps of
-//! N + R as a walk may have steps, and S * T steps.
+//! N + R as longer walks lead to anything new, and S * T steps.
 ghost use Rattle.std.specs.Prelude.{◌≡◌, ◌≤◌, ◌<◌, ◌+◌, ◌*◌, ◌↔◌, min, max, length, set, slice_index, replicate, All, AllPairs, IfOk, IsTrue};
 ghost use Rattle.tcc_reads.specs.History.{count};
 ghost use Rattle.tcc_graph.specs.Levels.{judged};
-ghost use Rattle.tcc_lanes.specs.{declared.limits.TheConstants.MOST_MEMBERS, declared.limits.TheConstants.MOST_STEPS, declared.pricing.TheConstants.NONE, declared.words.TheConstants.LANES};
+ghost use Rattle.tcc_lanes.specs.{declared.pricing.TheConstants.NONE, declared.words.TheConstants.LANES};
 ghost use Rattle.tcc_lanes.specs.private.Pricing.{cell};
 ghost use Rattle.tcc_lanes.specs.private.Closings.{AreOffered, IsFromFirst, IsInColumn, IsInColumns};
 
-use crate::limits::MOST_MEMBERS;
 use crate::meeting::columns_of;
 use crate::price_rows::longest_walk;
 use crate::pricing::{NONE, prices_from};
@@ -23,7 +22,7 @@ use tcc_txn::NoMemory;
 #[derive(Drop)]
 pub(crate) struct Closings {
     /// Of each transaction the least price of one that begins there; `NONE` where none does.
-    pub(crate) prices: Vec<u8>,
+    pub(crate) prices: Vec<u32>,
     /// Of each transaction the last position from which one leads to it; 0 where none does.
     pub(crate) lasts: Vec<u32>,
 }
@@ -40,7 +39,7 @@ impl Closings {
     }
 
     /// Takes in one of a price, from a transaction at a position to another.
-    fn offer(&mut self, from: u32, position: u32, to: u32, price: u8)
+    fn offer(&mut self, from: u32, position: u32, to: u32, price: u32)
         requires from { from < length self.old.prices.items }
         requires to { to < length self.old.lasts.items }
         ensures prices { self.new.prices.items ≡ set self.old.prices.items from (min price (slice_index self.old.prices.items from)) }
@@ -52,10 +51,10 @@ impl Closings {
 }
 
 /// Whether a link of a price leads back, and costs so little that a cycle of fewer than `most` steps has another beside it.
-fn is_closing(price: u8, most: u32, from: u32, to: u32) -> bool
+fn is_closing(price: u32, most: u32, from: u32, to: u32) -> bool
     ensures { IsTrue result ↔ ((price + 1 < most) × (to ≤ from)) }
 {
-    u32::from(price) + 1 < most && to <= from
+    u64::from(price) + 1 < u64::from(most) && to <= from
 }
 
 /// Takes in what the table says of one column.
@@ -65,7 +64,7 @@ fn offer_column(
     most: u32,
     starts: &[u32],
     members: &[u32],
-    table: &[u8],
+    table: &[u32],
     column: usize,
 )
     requires starts { All (λ b. b < length positions.now) starts.now }
@@ -73,7 +72,6 @@ fn offer_column(
     requires prices { length found.old.prices.items ≡ length positions.now }
     requires lasts { length found.old.lasts.items ≡ length positions.now }
     requires lanes { length starts.now ≤ LANES }
-    requires few { length members.now ≤ MOST_MEMBERS }
     requires inside { column < length members.now }
     requires long { length table.now ≡ length members.now * LANES }
     ensures { AreOffered (IsInColumn positions.now most starts.now members.now table.now column (length starts.now)) (λ v. slice_index positions.now v)
@@ -96,14 +94,13 @@ fn offer_table(
     most: u32,
     starts: &[u32],
     members: &[u32],
-    table: &[u8],
+    table: &[u32],
 )
     requires starts { All (λ b. b < length positions.now) starts.now }
     requires members { All (λ a. a < length positions.now) members.now }
     requires prices { length found.old.prices.items ≡ length positions.now }
     requires lasts { length found.old.lasts.items ≡ length positions.now }
     requires lanes { length starts.now ≤ LANES }
-    requires few { length members.now ≤ MOST_MEMBERS }
     requires long { length table.now ≡ length members.now * LANES }
     ensures { AreOffered (IsInColumns positions.now most starts.now members.now table.now (length members.now)) (λ v. slice_index positions.now v)
         found.old.prices.items found.old.lasts.items found.new.prices.items found.new.lasts.items }
@@ -131,8 +128,6 @@ pub(crate) fn find_closings(
     requires targets { All (λ a. a < count graph.now) targets.now }
     requires some { All (λ a. 0 < a) targets.now }
     requires ascending { AllPairs (λ u v. u < v) targets.now }
-    requires few { length targets.now ≤ MOST_MEMBERS }
-    requires most { most ≤ MOST_STEPS }
     ensures { IfOk result (λ found. AreOffered (IsFromFirst (judged graph.now level) positions.now most sources.now targets.now (length sources.now))
         (λ v. slice_index positions.now v) (replicate (count graph.now) NONE) (replicate (count graph.now) 0) found.prices.items found.lasts.items) }
 {

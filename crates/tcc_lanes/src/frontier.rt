@@ -1,5 +1,5 @@
 //! The frontier of the search: walks from where lanes start, one pair longer each time.
-ghost use Rattle.std.specs.Prelude.{◌≡◌, ◌<◌, ◌↔◌, ℕ, length, slice_index, IfOk};
+ghost use Rattle.std.specs.Prelude.{◌≡◌, ◌<◌, ◌↔◌, ℕ, false, length, slice_index, IfOk};
 ghost use Rattle.tcc_reads.specs.History.{IsBySession, count};
 ghost use Rattle.tcc_graph.specs.Levels.{judged};
 ghost use Rattle.tcc_clocks.specs.Parents.{ArePrevious};
@@ -33,7 +33,7 @@ fn put_underway(level: Level, starts: &[u64], reached: &[u64], underway: &mut [u
     }
 }
 
-/// One pair more from where the lanes start and from where they have come to.
+/// One pair more from where the lanes start and from where they have come to. It answers whether any lane has come to anything new.
 pub(crate) fn walk_on(
     graph: &LargeGraph,
     level: Level,
@@ -41,7 +41,7 @@ pub(crate) fn walk_on(
     starts: &[u64],
     reached: &mut [u64],
     underway: &mut [u64],
-)
+) -> bool
     requires numbered { IsBySession graph.now.entries }
     requires parents { ArePrevious graph.now parent_of.now }
     requires starts { length starts.now ≡ count graph.now }
@@ -51,9 +51,10 @@ pub(crate) fn walk_on(
     ensures room { length underway.new ≡ count graph.now }
     ensures each { (v : ℕ) (i : ℕ) → v < count graph.now → i < LANES
         → IsAt reached.new v i ↔ IsWalkedOn graph.now level starts.now reached.old v i }
+    ensures still { result ≡ false → (v : ℕ) → v < count graph.now → slice_index reached.new v ≡ slice_index reached.old v }
 {
     put_underway(level, starts, reached, underway);
-    spread(graph, parent_of, underway, reached);
+    spread(graph, parent_of, underway, reached)
 }
 
 /// The lanes that have come to each transaction, by walks of so many pairs at most.
@@ -75,7 +76,9 @@ pub(crate) fn walked(
     let mut reached = vec![in alloc; 0; count]?;
     let mut underway = vec![in alloc; 0; count]?;
     for _ in 0..most {
-        walk_on(graph, level, parent_of, begun, &mut reached, &mut underway);
+        if !walk_on(graph, level, parent_of, begun, &mut reached, &mut underway) {
+            return Ok(reached);
+        }
     }
     Ok(reached)
 }

@@ -1,5 +1,5 @@
 //! Derived links into `init`, 64 keys at a time: the lane of a key begins at who writes it, and is met where it is read from `init`.
-//! For K keys, N transactions and R reads, and walks of so many steps at most, that takes K / 64 times so many sweeps of N + R.
+//! For K keys, N transactions and R reads that takes K / 64 times so many sweeps of N + R as longer walks lead to anything new.
 ghost use Rattle.std.specs.Prelude.{◌≡◌, ◌≤◌, ◌<◌, ◌↔◌, ℕ, length, All, IfOk, IsTrue, MatchOption};
 ghost use Rattle.tcc_reads.specs.History.{IsBySession, count};
 ghost use Rattle.tcc_graph.specs.{Keys.keys, Levels.judged};

@@ -18,11 +18,12 @@ mod price_rows;
 mod pricing;
 mod settling;
 mod spreading;
+mod stretches;
 mod tiles;
 mod words;
 
 pub use among::{cheaper_among, has_cheaper_among};
 pub use into_init::{has_cheaper_into_init, lowest_into_init};
-pub use lengths::walk_lengths;
+pub use lengths::{NO_WALK, walk_lengths};
 pub use limits::{MOST_MEMBERS, MOST_STEPS, MOST_SWEPT};
 pub use nearness::near;

@@ -1,4 +1,4 @@
-//! What is looked at at most.
+//! What is looked at at most where a claim is judged that a cycle is least. No call here asks for these limits.
 
 /// The transactions among which cycles are looked for.
 pub const MOST_MEMBERS: usize = 4096;

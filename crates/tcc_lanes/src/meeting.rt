@@ -1,14 +1,16 @@
 //! Which lanes have come to a reader of what their starts write, by the member that it is read from.
-ghost use Rattle.std.specs.Prelude.{◌≡◌, ◌≤◌, ◌<◌, ◌↔◌, ◌⊎◌, ℕ, length, All, AllPairs, IfOk};
+ghost use Rattle.std.specs.Prelude.{◌≡◌, ◌≤◌, ◌<◌, ◌^◌, ◌↔◌, ◌⊎◌, ℕ, length, All, AllPairs, IfOk};
 ghost use Rattle.tcc_reads.specs.History.{count};
 ghost use Rattle.tcc_graph.specs.Keys.{keys};
-ghost use Rattle.tcc_lanes.specs.{declared.limits.TheConstants.MOST_MEMBERS, declared.words.TheConstants.LANES, private.Marks.IsAt};
+ghost use Rattle.tcc_lanes.specs.{declared.words.TheConstants.LANES, private.Marks.IsAt};
 ghost use Rattle.tcc_lanes.specs.private.Pricing.{AreColumns, IsMetAt, IsMetIn};
 
-use crate::limits::MOST_MEMBERS;
 use std::alloc::Global;
 use tcc_graph::LargeGraph;
 use tcc_txn::NoMemory;
+
+/// What stands for no member.
+const NO_COLUMN: u32 = u32::MAX;
 
 /// Of each transaction the index of the member that it is; of any other one an index past the last.
 pub(crate) fn columns_of(
@@ -18,10 +20,10 @@ pub(crate) fn columns_of(
 ) -> Result<Vec<u32>, NoMemory>
     requires inside { All (λ v. v < count graph.now) members.now }
     requires ascending { AllPairs (λ u v. u < v) members.now }
-    requires few { length members.now ≤ MOST_MEMBERS }
-    ensures { IfOk result (λ columns. AreColumns graph.now members.now columns.items) }
+    ensures columns { IfOk result (λ columns. AreColumns graph.now members.now columns.items) }
+    ensures few { IfOk result (λ _columns. length members.now < 2 ^ 32) }
 {
-    let mut columns = vec![in alloc; MOST_MEMBERS as u32; graph.count() as usize]?;
+    let mut columns = vec![in alloc; NO_COLUMN; graph.count() as usize]?;
     for (column, member) in members.iter().enumerate() {
         columns[*member as usize] = column as u32;
     }

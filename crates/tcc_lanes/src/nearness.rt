@@ -3,7 +3,7 @@
 ghost use Rattle.std.specs.Prelude.{◌≡◌, ◌≤◌, ◌<◌, ◌+◌, ◌↔◌, ◌⊎◌, ℕ, Bool, List, true, false, length, slice_index, slice_index_or, if◌then◌else◌, All, AllPairs, IfOk, IsTrue};
 ghost use Rattle.tcc_reads.specs.History.{History, count};
 ghost use Rattle.tcc_graph.specs.{Levels.judged, Orders.IsNumbering};
-ghost use Rattle.tcc_lanes.specs.{Nearness.AreEndsOfAll, Nearness.AreNear, Nearness.ArePlaces, declared.limits.TheConstants.MOST_MEMBERS, declared.limits.TheConstants.MOST_STEPS, declared.pricing.TheConstants.NONE};
+ghost use Rattle.tcc_lanes.specs.{Nearness.AreEndsOfAll, Nearness.AreNear, Nearness.ArePlaces, declared.pricing.TheConstants.NONE};
 ghost use Rattle.tcc_lanes.specs.private.Marks.{HasLane, IsAt};
 ghost use Rattle.tcc_lanes.specs.private.Passes.{AreCovered, AreEnds, AreNearTo, ArePricesOf, IsBeyond, IsLeastPrice, IsLedFromEnd, IsNearAt, IsReachedOn};
 
@@ -52,7 +52,7 @@ fn led_on(alloc: Global, graph: &LargeGraph, lasts: &[u32]) -> Marking
 }
 
 /// What leads to a transaction from where a link ends costs at least.
-fn comes_at(ends: bool, led: bool, reached: bool) -> u8
+fn comes_at(ends: bool, led: bool, reached: bool) -> u32
     ensures { result ≡ (if ends then 0 else if led then 1 else if reached then 2 else NONE) }
 {
     if ends {
@@ -67,20 +67,21 @@ fn comes_at(ends: bool, led: bool, reached: bool) -> u8
 }
 
 /// Whether what leads to a transaction and on from it costs less than `most`.
-fn is_near(comes: u8, price: u8, beyond: u8, most: u32) -> bool
+fn is_near(comes: u32, price: u32, beyond: u32, most: u32) -> bool
     ensures { IsTrue result ↔ ((comes + price < most) ⊎ (comes + (beyond + 1) < most)) }
 {
-    let comes = u32::from(comes);
-    comes + u32::from(price) < most || comes + (u32::from(beyond) + 1) < most
+    let comes = u64::from(comes);
+    let most = u64::from(most);
+    comes + u64::from(price) < most || comes + (u64::from(beyond) + 1) < most
 }
 
 /// Whether a transaction at a place is near, by what was found of it and of its place.
 fn is_near_at(
-    prices: &[u8],
+    prices: &[u32],
     lasts: &[u32],
     led: &[u64],
     reached: &[bool],
-    beyond: &[u8],
+    beyond: &[u32],
     at: u32,
     place: usize,
     most: u32,
@@ -90,7 +91,6 @@ fn is_near_at(
     requires led { at < length led.now }
     requires reached { place < length reached.now }
     requires beyond { place < length beyond.now }
-    requires most { most ≤ MOST_STEPS }
     ensures { (h : History) (order : List ℕ) (covered : List Bool) → IsAt led.now at 0 ↔ IsLedFromEnd h lasts.now at
         → (slice_index_or reached.now place false ≡ true) ↔ IsReachedOn order lasts.now covered place
         → IsLeastPrice (IsBeyond order prices.now covered place) (slice_index beyond.now place)
@@ -113,7 +113,6 @@ fn mark_near(
     requires numbering { IsNumbering (count graph.now) order.now }
     requires prices { ArePricesOf (count graph.now) found.now.prices.items }
     requires lasts { length found.now.lasts.items ≡ count graph.now }
-    requires most { most ≤ MOST_STEPS }
     ensures { IfOk result (λ marks. (covered : List Bool) × AreCovered order.now found.now.lasts.items (length order.now) covered
         × AreNearTo graph.now order.now found.now.prices.items found.now.lasts.items covered most (length order.now) marks.items) }
 {
@@ -156,8 +155,6 @@ pub fn near(
     requires targets { All (λ a. a < count graph.now) targets.now }
     requires some { All (λ a. 0 < a) targets.now }
     requires ascending { AllPairs (λ u v. u < v) targets.now }
-    requires few { length targets.now ≤ MOST_MEMBERS }
-    requires most { most ≤ MOST_STEPS }
     requires ends { AreEndsOfAll (judged graph.now level) (λ v. slice_index positions.now v) most sources.now targets.now }
     ensures { IfOk result (λ marks. AreNear (judged graph.now level) (λ v. slice_index positions.now v) most marks.items) }
 {

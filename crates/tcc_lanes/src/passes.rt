@@ -55,9 +55,9 @@ pub(crate) fn reached_on(
 pub(crate) fn beyond(
     alloc: Global,
     order: &[u32],
-    prices: &[u8],
+    prices: &[u32],
     covered: &[bool],
-) -> Result<Vec<u8>, NoMemory>
+) -> Result<Vec<u32>, NoMemory>
     requires inside { All (λ v. v < length prices.now) order.now }
     requires prices { ArePricesOf (length prices.now) prices.now }
     requires long { length covered.now ≡ length order.now }

@@ -1,11 +1,11 @@
 //! What links among members cost: 1 where there is a pair, and else a step more than the shortest walk of a derived link, found from
-//! 64 members at a time. For M members, N transactions and R reads, and walks of so many steps at most, that takes M / 64 times so
-//! many sweeps of N + R, and M * M bytes.
-ghost use Rattle.std.specs.Prelude.{◌≡◌, ◌≢◌, ◌≤◌, ◌<◌, ◌+◌, ◌*◌, ◌↔◌, ℕ, IsTrue, length, slice_index, All, IfOk};
+//! 64 members at a time. For M members, N transactions and R reads that takes M / 64 times so many sweeps of N + R as longer walks lead
+//! to anything new, and 256 M bytes at a time.
+ghost use Rattle.std.specs.Prelude.{◌≡◌, ◌≢◌, ◌≤◌, ◌<◌, ◌+◌, ◌*◌, ◌^◌, ◌↔◌, ℕ, IsTrue, length, slice_index, All, IfOk};
 ghost use Rattle.tcc_reads.specs.History.{IsBySession, count};
 ghost use Rattle.tcc_graph.specs.Levels.{judged};
 ghost use Rattle.tcc_clocks.specs.Parents.{ArePrevious};
-ghost use Rattle.tcc_lanes.specs.{declared.limits.TheConstants.MOST_MEMBERS, declared.words.TheConstants.LANES, declared.pricing.TheConstants.NONE, private.Marks.HasLane, private.Marks.IsAt};
+ghost use Rattle.tcc_lanes.specs.{declared.words.TheConstants.LANES, declared.pricing.TheConstants.NONE, private.Marks.HasLane, private.Marks.IsAt};
 ghost use Rattle.tcc_lanes.specs.private.Pricing.{AreColumns, ArePrices, IsLowered, cell};
 
 use crate::frontier::walk_on;
@@ -17,10 +17,10 @@ use tcc_graph::{LargeGraph, Level};
 use tcc_txn::NoMemory;
 
 /// The price where there is no link.
-pub(crate) const NONE: u8 = 64;
+pub(crate) const NONE: u32 = u32::MAX;
 
 /// Lowers a value to a price.
-fn lower_at(table: &mut [u8], at: usize, price: u8)
+fn lower_at(table: &mut [u32], at: usize, price: u32)
     requires { at < length table.old }
     ensures same { length table.new ≡ length table.old }
     ensures each { (k : ℕ) → k < length table.old → IsLowered (k ≡ at) price (slice_index table.old k) (slice_index table.new k) }
@@ -37,9 +37,8 @@ fn is_met(word: u64, lane: usize, from: u32, to: u32) -> bool
 }
 
 /// Lowers the prices of one column for the lanes of a word, where these start elsewhere.
-fn lower_column(table: &mut [u8], column: usize, starts: &[u32], word: u64, to: u32, price: u8)
+fn lower_column(table: &mut [u32], column: usize, starts: &[u32], word: u64, to: u32, price: u32)
     requires lanes { length starts.now ≤ LANES }
-    requires few { column < MOST_MEMBERS }
     requires inside { cell (column + 1) 0 ≤ length table.old }
     ensures same { length table.new ≡ length table.old }
     ensures each { (v : ℕ) (i : ℕ) → cell (v + 1) 0 ≤ length table.old → i < LANES
@@ -54,9 +53,8 @@ fn lower_column(table: &mut [u8], column: usize, starts: &[u32], word: u64, to: 
 }
 
 /// Lowers the prices of each column for the lanes of its word, where these start elsewhere.
-fn lower(table: &mut [u8], members: &[u32], starts: &[u32], found: &[u64], price: u8)
+fn lower(table: &mut [u32], members: &[u32], starts: &[u32], found: &[u64], price: u32)
     requires lanes { length starts.now ≤ LANES }
-    requires few { length members.now ≤ MOST_MEMBERS }
     requires found { length found.now ≡ length members.now }
     requires long { length table.old ≡ length members.now * LANES }
     ensures same { length table.new ≡ length table.old }
@@ -78,13 +76,13 @@ pub(crate) fn prices_from(
     columns: &[u32],
     members: &[u32],
     starts: &[u32],
-    longest: u8,
-) -> Result<Vec<u8>, NoMemory>
+    longest: u32,
+) -> Result<Vec<u32>, NoMemory>
     requires numbered { IsBySession graph.now.entries }
     requires parents { ArePrevious graph.now parent_of.now }
     requires columns { AreColumns graph.now members.now columns.now }
     requires members { All (λ v. v < count graph.now) members.now }
-    requires few { length members.now ≤ MOST_MEMBERS }
+    requires few { length members.now < 2 ^ 32 }
     requires lanes { length starts.now ≤ LANES }
     requires inside { All (λ u. u < count graph.now) starts.now }
     requires some { All (λ u. 0 < u) starts.now }
@@ -99,7 +97,9 @@ pub(crate) fn prices_from(
     let mut found = vec![in alloc; 0; members.len()]?;
     let mut table = vec![in alloc; NONE; members.len() * LANES]?;
     for steps in 0..longest {
-        walk_on(graph, level, parent_of, &begun, &mut reached, &mut underway);
+        if !walk_on(graph, level, parent_of, &begun, &mut reached, &mut underway) {
+            return Ok(table);
+        }
         meet(graph, columns, &writers, &reached, &mut found);
         lower(&mut table, members, starts, &found, steps + 2);
     }

@@ -1,5 +1,5 @@
 //! One level of the search: each lane goes on along the pairs from where it is marked.
-ghost use Rattle.std.specs.Prelude.{◌≡◌, ◌<◌, ◌↔◌, ℕ, length, slice_index};
+ghost use Rattle.std.specs.Prelude.{◌≡◌, ◌<◌, ◌↔◌, ℕ, false, length, slice_index};
 ghost use Rattle.tcc_reads.specs.History.{IsBySession, count};
 ghost use Rattle.tcc_clocks.specs.Parents.{ArePrevious};
 ghost use Rattle.tcc_lanes.specs.declared.words.TheConstants.{LANES};
@@ -37,18 +37,35 @@ fn before(parent_of: &[u32], marks: &[u64], run: u64, v: u32) -> u64
     }
 }
 
-/// Marks each lane where a pair leads to from where it is marked, and nowhere else.
-pub(crate) fn spread(graph: &LargeGraph, parent_of: &[u32], marks: &[u64], found: &mut [u64])
+/// Whether anything is new: something was before, or a word isn't what it was.
+fn is_new_by(is_new: bool, old: u64, word: u64) -> bool
+    ensures { result ≡ false → (is_new ≡ false) × (word ≡ old) }
+{
+    is_new || word != old
+}
+
+/// Marks each lane where a pair leads to from where it is marked, and nowhere else. It answers whether any word isn't what it was.
+pub(crate) fn spread(
+    graph: &LargeGraph,
+    parent_of: &[u32],
+    marks: &[u64],
+    found: &mut [u64],
+) -> bool
     requires numbered { IsBySession graph.now.entries }
     requires parents { ArePrevious graph.now parent_of.now }
     requires long { length marks.now ≡ count graph.now }
     requires room { length found.old ≡ count graph.now }
     ensures same { length found.new ≡ count graph.now }
     ensures each { (v : ℕ) (i : ℕ) → v < count graph.now → i < LANES → IsAt found.new v i ↔ IsLedTo graph.now marks.now v i }
+    ensures still { result ≡ false → (v : ℕ) → v < count graph.now → slice_index found.new v ≡ slice_index found.old v }
 {
     let mut run = 0;
+    let mut is_new = false;
     for v in 0..graph.count() {
         run = before(parent_of, marks, run, v);
-        found[v as usize] = run | at_sources(graph, marks, v);
+        let word = run | at_sources(graph, marks, v);
+        is_new = is_new_by(is_new, found[v as usize], word);
+        found[v as usize] = word;
     }
+    is_new
 }

@@ -31,7 +31,7 @@ fn first_links(
     let Some(first) = first_around(alloc, graph, level, runs.as_slice(), most)? else {
         return Ok(None);
     };
-    let links = first_along(alloc, graph, level, &first.circle, first.steps as u8)?;
+    let links = first_along(alloc, graph, level, &first.circle, first.steps)?;
     Ok(Some(links))
 }
 

@@ -39,7 +39,7 @@ unreachable-requires c =
     (subst (λ (m : ℕ). ArePicked j (get_or circle 0 0) c.loop-left.end n (reverse (take m circle))) e are) in
     let (q, last, rest) = next in
     let none = rw c.in_default.is at c.in_ok-link.ensures in
-    some_link is way (get_or circle k 0) q last (λ l leads. omega (arith, none l leads))
+    some_link is way (get_or circle k 0) q last (λ l leads. omega (arith, none l leads, c.requires.some))
 
 pub loop-left-preserved : goal.loop-left-preserved
 loop-left-preserved c =

@@ -15,7 +15,7 @@ loop-from-init c = rw c.new-circle.ensures.items (record {
   picked = λ j n limit are ascending has every lowest.
       let (level, far, w) = c.in_ok-costs.ensures.reached j c.args.members.now are in
       pick.way_none j c.args.members.now n c.args.most limit c.args.rows.now are ascending c.args.start (omega (arith, c.requires.start, c.requires.same))
-      c.requires.few level c.in_ok-costs.costs.items far w has every lowest;
+      (omega (arith, c.ranges.most.fits)) level c.in_ok-costs.costs.items far w has every lowest;
 })
 
 pub loop-from-preserved : goal.loop-from-preserved
@@ -30,11 +30,11 @@ loop-from-preserved c =
     rw c.in_ok-push.ensures.items (record {
       inside = found.0;
       way = λ j are low.
-          way_more j members c.args.most c.args.rows.now are c.args.start costs c.requires.few low from to c.loop-from.circle.items here within found.1.sum
+          way_more j members c.args.most c.args.rows.now are c.args.start costs (omega (arith, c.ranges.most.fits)) low from to c.loop-from.circle.items here within found.1.sum
           (c.loop-from.invariant.way j are low);
       picked = λ j n limit are ascending has every lowest.
           let (level, far, w) = c.in_ok-costs.ensures.reached j members are in
-          pick.way_more j members n c.args.most limit c.args.rows.now are ascending c.args.start (omega (arith, c.requires.start, c.requires.same)) c.requires.few
+          pick.way_more j members n c.args.most limit c.args.rows.now are ascending c.args.start (omega (arith, c.requires.start, c.requires.same)) (omega (arith, c.ranges.most.fits))
           level costs far w has every lowest to within c.loop-from.circle.items (c.loop-from.invariant.picked j n limit are ascending has every lowest) from here
           found.1;
     })
@@ -50,7 +50,7 @@ returns-clause-along c = λ j are ascending has.
     let direct = rw (c.in_default.is, c.deref.ensures.value) at c.before-in-loop-from.ensures in
     subst (λ (all : List ℕ). HasCheaperAlong j all c.args.most)
     (sym (c.reverse.ensures.items ∙ ap reverse c.in_ok-push-2.ensures.items))
-    (circled j members c.args.most c.args.rows.now are c.args.start costs c.requires.few low to c.loop-from.circle.items inside
+    (circled j members c.args.most c.args.rows.now are c.args.start costs (omega (arith, c.ranges.most.fits)) low to c.loop-from.circle.items inside
     (omega (arith, c.loop-from.invariant.inside, c.requires.same)) (omega (arith, direct)) (c.loop-from.invariant.way j are low))
 
 pub returns-clause-picked : goal.returns-clause-picked
@@ -64,6 +64,6 @@ returns-clause-picked c = λ j n limit are ascending has every lowest.
     let start : ℕ = Rattle.std.proofs.Common.get_or members c.args.start 0 in
     subst (λ (all : List ℕ). ArePicked j start start n all)
     (sym (ap reverse (c.reverse.ensures.items ∙ ap reverse c.in_ok-push-2.ensures.items) ∙ reverse-reverse _))
-    (pick.way_done j members n c.args.most limit c.args.rows.now are ascending c.args.start inside c.requires.few level costs far w has every lowest to
+    (pick.way_done j members n c.args.most limit c.args.rows.now are ascending c.args.start inside (omega (arith, c.ranges.most.fits)) level costs far w has every lowest to
     (omega (arith, c.loop-from.invariant.inside, c.requires.same)) c.loop-from.circle.items (c.loop-from.invariant.picked j n limit are ascending has every lowest)
     direct)

@@ -16,7 +16,7 @@ loop-block-preserved c =
     let table = c.in_ok-table.table.items in
     let order : from ≤ length c.args.sources.now = omega (arith, c.div_ceil-block-end.ensures, c.loop-block-test.true) in
     let prices : ArePrices (judged h c.args.level) targets starts c.longest_walk-longest.result table = c.in_ok-table.ensures in
-    from_more h c.args.level c.args.positions.now c.args.most c.args.sources.now targets c.requires.some c.requires.most c.longest_walk-longest.result
+    from_more h c.args.level c.args.positions.now c.args.most c.args.sources.now targets c.requires.some (omega (arith, c.ranges.most.fits)) c.longest_walk-longest.result
     (λ walk allowed few. c.longest_walk-longest.ensures.all walk allowed (omega (arith, c.saturating_sub.ensures, few))) from ((c.loop-block.block + 1) * LANES) starts table c.tile_at-starts.ensures.tiled order (omega arith) prices
     (replicate (count h) NONE) (replicate (count h) 0) c.loop-block.found.prices.items c.loop-block.found.lasts.items c.offer_table.new.found.prices.items
     c.offer_table.new.found.lasts.items c.loop-block.invariant (rw c.deref-in-loop-block-2.ensures.value at c.offer_table.ensures)
@@ -24,6 +24,6 @@ loop-block-preserved c =
 pub returns : goal.returns
 returns c =
     let h = c.args.graph.now in
-    from_all h c.args.level c.args.positions.now c.args.most c.args.sources.now c.args.targets.now c.requires.some c.requires.most c.longest_walk-longest.result
+    from_all h c.args.level c.args.positions.now c.args.most c.args.sources.now c.args.targets.now c.requires.some (omega (arith, c.ranges.most.fits)) c.longest_walk-longest.result
     (λ walk allowed few. c.longest_walk-longest.ensures.all walk allowed (omega (arith, c.saturating_sub.ensures, few))) (replicate (count h) NONE) (replicate (count h) 0) c.loop-block.found.prices.items c.loop-block.found.lasts.items
     (c.loop-block.block * LANES) (omega (arith, c.div_ceil-block-end.ensures, c.loop-block-test.false)) c.loop-block.invariant

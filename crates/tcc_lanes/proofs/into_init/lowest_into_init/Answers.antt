@@ -1,5 +1,4 @@
-use Rattle.std.proofs.Common.{◌+◌, ◌*◌, ◌∙◌, sym, arith}
-use Rattle.tcc_reads.specs.History.{count}
+use Rattle.std.proofs.Common.{◌+◌, ◌*◌, arith}
 use Rattle.tcc_graph.specs.Levels.{judged}
 use Rattle.tcc_lanes.specs.declared.words.TheConstants.{LANES}
 use Rattle.tcc_lanes.proofs.IntoInit.{lowest_found, lowest_missed, lowest_more}

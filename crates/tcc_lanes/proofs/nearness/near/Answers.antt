@@ -28,4 +28,4 @@ returns c =
     let told = c.in_ok-marks.ensures in
     near_all j order positions c.requires.places c.args.most found.prices.items found.lasts.items
     (closings_are j order positions c.requires.places c.args.most found.prices.items found.lasts.items c.args.sources.now c.args.targets.now c.requires.ends
-    c.in_ok-found.ensures) told.0 told.1 (omega (arith, c.requires.most)) c.in_ok-marks.marks.items told.2
+    c.in_ok-found.ensures) told.0 told.1 (omega (arith, c.ranges.most.fits)) c.in_ok-marks.marks.items told.2

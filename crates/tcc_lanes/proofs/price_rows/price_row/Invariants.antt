@@ -5,7 +5,7 @@ use Rattle.tcc_lanes.proofs.price_rows.price_row.Given as goal
 
 abbrev pub invariant-loop-column : goal.invariant-loop-column
 invariant-loop-column l = record {
-  long : length l.row.items ≡ l.column;
+  long : length l.row ≡ l.column;
   each : (v : ℕ) → v < l.column
-      → slice_index l.row.items v ≡ (if causal_pair l.graph l.from (slice_index l.members v) then 1 else slice_index l.table (cell v l.lane));
+      → slice_index l.row v ≡ (if causal_pair l.graph l.from (slice_index l.members v) then 1 else slice_index l.table (cell v l.lane));
 }

@@ -5,7 +5,7 @@ use Rattle.tcc_lanes.specs.private.Marks.{AreMarksOf, IsAt}
 use Rattle.tcc_lanes.specs.private.Walking.{IsWalkedOn}
 use Rattle.tcc_lanes.specs.private.Pricing.{IsLowered, IsMetIn, cell}
 use Rattle.tcc_txn.proofs.Lists.{whole}
-use Rattle.tcc_lanes.proofs.PriceLemmas.{pricing_more}
+use Rattle.tcc_lanes.proofs.PriceLemmas.{pricing_more, pricing_still}
 use Rattle.tcc_lanes.proofs.pricing.prices_from.Goals as goal
 
 pub loop-steps-preserved : goal.loop-steps-preserved
@@ -42,3 +42,18 @@ loop-steps-preserved c =
     (pricing_more h c.args.level members starts begun c.requires.lanes c.requires.inside c.requires.members marks c.args.columns.now writers c.requires.columns
     c.in_ok-writers.ensures now.steps price refl (omega (arith, c.requires.short, c.loop-steps-test.true)) now.reached.items now.underway.items now.found.items
     now.table.items after room met new now.invariant c.walk_on.ensures.same c.walk_on.ensures.room each same grown alike lowered)
+
+pub returns-then-not-walk_on : goal.returns-then-not-walk_on
+returns-then-not-walk_on c =
+    let h = c.args.graph.now in
+    let starts = c.args.starts.now in
+    let begun = c.in_ok-begun.begun.items in
+    let now = c.loop-steps in
+    let after = c.walk_on.new.reached in
+    let marks : AreMarksOf (count h) starts (length starts) begun = rw c.count-count.ensures.value at c.in_ok-begun.ensures in
+    let each : (v i : ℕ) → v < count h → i < LANES → IsAt after v i ↔ IsWalkedOn h c.args.level begun now.reached.items v i
+    = rw (c.deref.ensures.value, c.deref_mut.ensures.value) at c.walk_on.ensures.each in
+    let still : (v : ℕ) → v < count h → get_or after v 0 ≡ get_or now.reached.items v 0
+    = rw c.deref_mut.ensures.value at c.walk_on.ensures.still c.if-not-walk_on.true in
+    pricing_still h c.args.level c.args.members.now starts begun c.requires.lanes c.requires.inside marks now.steps c.args.longest
+    (omega (arith, c.loop-steps-test.true)) now.reached.items now.underway.items now.found.items now.table.items after now.invariant still each

@@ -12,7 +12,7 @@ returns c = λ j members are ascending.
     let (level, far, w) = c.in_ok-costs.ensures.reached j members are in
     let is : c.index.result.now ≡ get_or costs c.args.start 0
     = get_or_read costs c.args.start c.index.result.now (omega (arith, c.requires.start, c.in_ok-costs.ensures.same)) c.index.ensures 0 in (
-      (λ low. returning j members c.args.most rows are c.args.start inside ascending level costs far w c.requires.few
+      (λ low. returning j members c.args.most rows are c.args.start inside ascending level costs far w (omega (arith, c.ranges.most.fits))
           (omega (arith, ltb-true c.index.result.now c.args.most low, is))),
       (λ has. lt-ltb c.index.result.now c.args.most
           (omega (arith, returned j members c.args.most rows are c.args.start inside ascending level costs far w has, is))),

@@ -1,4 +1,4 @@
-use Rattle.std.proofs.Common.{◌≡◌, ◌<◌, ◌+◌, ℕ, [], length, get_or, ◌∙◌, arith}
+use Rattle.std.proofs.Common.{◌≡◌, ◌<◌, ◌+◌, ℕ, [], length, get_or, arith}
 use Rattle.std.specs.Prelude.{min}
 use Rattle.std.proofs.lemmas.List.{get_or_read}
 use Rattle.tcc_lanes.proofs.SettledCosts.{settled_more, settled_same}
@@ -14,7 +14,7 @@ loop-member-preserved c =
     let inside : member < length old = omega (arith, c.loop-member-test.true, c.requires.same) in
     elim c.if-costs-member.branch [
       | then-costs-member w ↦
-          let row : w.as_slice.result.now ≡ get_or rows member [] = w.as_slice.ensures ∙ get_or_read rows member c.index-rows-member.result c.loop-member-test.true c.index-rows-member.is [] in
+          let row : c.index-rows-member.result ≡ get_or rows member [] = get_or_read rows member c.index-rows-member.result c.loop-member-test.true c.index-rows-member.is [] in
           let each : (v : ℕ) → v < length mid → get_or w.relax.new.costs v 0 ≡ min (get_or mid v 0) (c.args.level + get_or (get_or rows member []) v 0)
           = rw row at w.relax.ensures.each in
           rw w.costs-is

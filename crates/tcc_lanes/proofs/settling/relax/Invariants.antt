@@ -1,9 +1,0 @@
-use Rattle.std.proofs.Common.{◌≡◌, ◌<◌, ◌≤◌, ◌+◌, ℕ, length, slice_index, min}
-use Rattle.tcc_lanes.proofs.settling.relax.Given as goal
-
-abbrev pub invariant-loop-v : goal.invariant-loop-v
-invariant-loop-v l = record {
-  same : length l.costs ≡ length l.initial.costs;
-  each : (k : ℕ) → k < l.v → slice_index l.costs k ≡ min (slice_index l.initial.costs k) (l.level + slice_index l.row k);
-  rest : (k : ℕ) → l.v ≤ k → slice_index l.costs k ≡ slice_index l.initial.costs k;
-}

@@ -1,0 +1,104 @@
+//! Run-length encoding of what links from one member cost: columns beside one another with the same price are one stretch. Members of
+//! one session stand beside one another, and mostly cost the same. A row of S stretches takes 8 S bytes, and S steps to go through.
+ghost use Rattle.std.specs.Prelude.{◌≡◌, ◌≤◌, ◌<◌, ◌+◌, ◌^◌, ◌++◌, ◌∷◌, [], ◌⊎◌, ℕ, length, slice_index, min, OnOk};
+
+use crate::pricing::NONE;
+use std::alloc::Global;
+use std::marker::Model;
+use tcc_txn::NoMemory;
+
+/// Columns beside one another with the same price.
+#[derive(Clone, Copy, Drop)]
+struct Stretch {
+    /// How many columns.
+    columns: u32,
+    /// What each of them costs.
+    price: u32,
+}
+
+/// What links from one member to each of them cost.
+#[derive(Drop)]
+pub(crate) struct PriceRow {
+    stretches: Vec<Stretch>,
+}
+
+impl Model for PriceRow {
+    ghost use Rattle.std.specs.Prelude.{ℕ, List};
+    ghost use Rattle.tcc_lanes.specs.private.Stretches.{prices_in};
+
+    ghost Value = { List ℕ };
+
+    ghost view = { λ r. prices_in r.stretches.items };
+}
+
+/// Lowers the costs of some columns to a level and a price together.
+fn lower_columns(costs: &mut [u32], from: usize, end: usize, level: u32, price: u32)
+    requires order { from ≤ end }
+    requires end { end ≤ length costs.old }
+    ensures same { length costs.new ≡ length costs.old }
+    ensures each { (v : ℕ) → from ≤ v → v < end → slice_index costs.new v ≡ min (slice_index costs.old v) (level + price) }
+    ensures rest { (v : ℕ) → (v < from) ⊎ (end ≤ v) → slice_index costs.new v ≡ slice_index costs.old v }
+{
+    if price == NONE {
+        return;
+    }
+    let cost = level.saturating_add(price);
+    for v in from..end {
+        costs[v] = costs[v].min(cost);
+    }
+}
+
+impl PriceRow {
+    /// A row of no prices yet.
+    pub(crate) fn new(alloc: Global) -> PriceRow
+        ensures { result ≡ [] }
+    {
+        PriceRow {
+            stretches: Vec::new(alloc),
+        }
+    }
+
+    /// Adds the price of one more column.
+    pub(crate) fn push(&mut self, price: u32) -> Result<(), NoMemory>
+        requires { length self.old + 1 < 2 ^ 32 }
+        ensures { OnOk result (self.new ≡ self.old ++ price ∷ []) }
+    {
+        let count = self.stretches.len();
+        if 0 < count && self.stretches[count - 1].price == price {
+            self.stretches[count - 1].columns += 1;
+            return Ok(());
+        }
+        self.stretches.push(Stretch { columns: 1, price })?;
+        Ok(())
+    }
+
+    /// The price of a column.
+    pub(crate) fn price(&self, column: usize) -> u32
+        requires { column < length self.now }
+        ensures { result ≡ slice_index self.now column }
+    {
+        let mut left = column;
+        for stretch in &self.stretches {
+            if left < stretch.columns as usize {
+                return stretch.price;
+            }
+            left -= stretch.columns as usize;
+        }
+        unreachable!()
+    }
+
+    /// Lowers what it costs to come to each member, by going on from this one where that costs a level.
+    pub(crate) fn relax(&self, costs: &mut [u32], level: u32)
+        requires { length self.now ≡ length costs.old }
+        ensures same { length costs.new ≡ length costs.old }
+        ensures each { (v : ℕ) → v < length costs.old
+            → slice_index costs.new v ≡ min (slice_index costs.old v) (level + slice_index self.now v) }
+    {
+        let mut from = 0;
+        for stretch in &self.stretches {
+            let end = from + stretch.columns as usize;
+            lower_columns(costs, from, end, level, stretch.price);
+            from = end;
+        }
+    }
+}
