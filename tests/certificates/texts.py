@@ -10,8 +10,8 @@ COUNT, NUMBER, SESSIONS, SESSION, RUNS, LENGTH, COST, KEY = range(8)
 HEADER_BYTES = 8191
 VERSION_1 = {"bytes": 8191, COUNT: (1, 1024), NUMBER: (0, 1023), SESSIONS: (0, 64), COST: (0, 1049600)}
 VERSION_2 = {"bytes": 36863, COUNT: (1, 4096), NUMBER: (0, 4095), SESSIONS: (0, 64), COST: (0, 16781312)}
-VERSION_3 = {"bytes": 127, COUNT: (1, 1048576), NUMBER: (0, 1048575), SESSIONS: (0, 65535), SESSION: (0, 65534),
-             RUNS: (0, 1048575), LENGTH: (1, 1048575), COST: (0, 4294967295)}
+VERSION_3 = {"bytes": 127, COUNT: (1, 16777216), NUMBER: (0, 16777215), SESSIONS: (0, 65535), SESSION: (0, 65534),
+             RUNS: (0, 16777215), LENGTH: (1, 16777215), COST: (0, 4294967295)}
 RANGES = {1: VERSION_1, 2: VERSION_2, 3: VERSION_3}
 HEADERS = {b"tcc-certificate 1": (1, "causal"), b"tcc-certificate 1 atomic": (1, "atomic"),
            b"tcc-certificate 2 causal": (2, "causal"), b"tcc-certificate 2 atomic": (2, "atomic"),

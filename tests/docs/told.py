@@ -44,7 +44,7 @@ IN_GUIDE = """| of a history, at most | by default | with `--large` |
 IN_PAGE = (".SH LIMITS\n" + LIMITS % (", aborted ones counted,", " each", ",") + ".\n.PP\nWith \\fB\\-\\-large\\fR " + LARGE % ","
            + "; as many operations and seals.\n")
 HELD = {
-    "README.md": ("up to {MAX_SESSIONS} sessions and {MAX_TRANSACTIONS} transactions, or {LARGE_SESSIONS} and a million with `--large`",),
+    "README.md": ("up to {MAX_SESSIONS} sessions and {MAX_TRANSACTIONS} transactions, or {LARGE_SESSIONS} and 16 million with `--large`",),
     "docs/GUIDE.md": (
         "more than {MAX_SESSIONS} sessions or {MAX_TRANSACTIONS} transactions",
         "lets N threads search for an anomaly, 1 to {MAX_WORKERS}."),

@@ -74,9 +74,9 @@ def five_clients(folder: pathlib.Path, tcc: List[str]) -> Iterator[Outcome]:
 def limits() -> Iterator[Outcome]:
     """Clients times transactions may be what `tcc` takes, and no more."""
     from tcc import clients
-    for words, wanted in ((["--clients", "5", "--transactions", "209715"], "taken"), (["--clients", "5", "--transactions", "209716"], "refused"),
-                          (["--clients", "4095", "--transactions", "256"], "taken"), (["--clients", "4095", "--transactions", "257"], "refused"),
-                          (["--clients", "4096"], "refused"), (["--transactions", "1048576"], "refused")):
+    for words, wanted in ((["--clients", "5", "--transactions", "3355443"], "taken"), (["--clients", "5", "--transactions", "3355444"], "refused"),
+                          (["--clients", "4095", "--transactions", "4097"], "taken"), (["--clients", "4095", "--transactions", "4098"], "refused"),
+                          (["--clients", "4096"], "refused"), (["--transactions", "16777216"], "refused")):
         before, sys.argv = sys.argv, ["record.py", *words]
         try:
             with contextlib.redirect_stderr(io.StringIO()):

@@ -98,12 +98,12 @@ number-back v n h = number_of-decimal 0 (ranges_at v).number n (omega arith) h (
 pub numbers-two : (v : Scale) (a b : ℕ) → IsNumber v a → IsNumber v b → AreWords (decimal a ∷ decimal b ∷ [])
 numbers-two v a b ha hb = ((number-word v a ha).0, (number-word v a ha).1, ((number-word v b hb).0, (number-word v b hb).1, tt))
 
-pub seven_digits : (v : Scale) (n : ℕ) → IsNumber v n → length (decimal n) ≤ 7
-seven_digits v n h = length-decimal-le 7 n (lit< tt) (omega (arith, h, numbers v)) (omega (arith, h, numbers v))
+pub eight_digits : (v : Scale) (n : ℕ) → IsNumber v n → length (decimal n) ≤ 8
+eight_digits v n h = length-decimal-le 8 n (lit< tt) (omega (arith, h, numbers v)) (omega (arith, h, numbers v))
 
 pub session-back : (v : Scale) (a b : ℕ) → HasStepText v (step.Session a b) → IsReadBack v (step_line v) step_words (step.Session a b)
 session-back v a b h = record {
   are = (lit< tt, (lit< tt, tt), numbers-two v a b h.0 h.1);
-  short = omega (arith, lines v, words-short 7 (codes "S") (decimal a ∷ decimal b ∷ []) (lit≤ tt) (seven_digits v a h.0, (seven_digits v b h.1, tt)));
+  short = omega (arith, lines v, words-short 8 (codes "S") (decimal a ∷ decimal b ∷ []) (lit≤ tt) (eight_digits v a h.0, (eight_digits v b h.1, tt)));
   back = rw (number-back v a h.0, number-back v b h.1) refl;
 }

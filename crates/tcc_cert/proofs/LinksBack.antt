@@ -22,7 +22,7 @@ use Rattle.tcc_cert.proofs.Items.{flat_map-map}
 use Rattle.tcc_cert.proofs.ReadingFacts.{IsAbove, AreWords, words-first, later-one, decimal-above, number_of-decimal}
 use Rattle.tcc_cert.proofs.LinesBack.{at, then_ok, words-line, line-at, IsReadBack, IsReadAt, repeated-back}
 use Rattle.tcc_cert.proofs.RangeFacts.{counts, lines}
-use Rattle.tcc_cert.proofs.FormsBack.{IsPlainKey, number-word, number-back, seven_digits, session-back}
+use Rattle.tcc_cert.proofs.FormsBack.{IsPlainKey, number-word, number-back, eight_digits, session-back}
 
 -- ---- keys
 
@@ -85,8 +85,8 @@ reads-back v a b key h =
             later-one (decimal a) (decimal b ∷ key ∷ []),
             later-one (decimal b) (key ∷ []),
             later-one key [],
-            seven_digits v a h.0,
-            seven_digits v b h.1,
+            eight_digits v a h.0,
+            eight_digits v b h.1,
             k.1,
           );
       back = rw (number-back v a h.0, number-back v b h.1, h.2) refl;
@@ -143,7 +143,7 @@ derived-short : (v : Scale) (b a : ℕ) (key : List ℕ) (c w : ℕ) → IsNumbe
     → length (words_text (derived_words b a key c w)) ≤ (ranges_at v).line_bytes
 derived-short v b a key c w hb ha hk hc hw =
     let k = key-parts key hk in
-    let steps = length-decimal-le 7 w (lit< tt) (omega (arith, hw.limit, counts v)) (omega (arith, hw.limit, counts v)) in
+    let steps = length-decimal-le 8 w (lit< tt) (omega (arith, hw.limit, counts v)) (omega (arith, hw.limit, counts v)) in
     omega (
       arith,
       lines v,
@@ -153,10 +153,10 @@ derived-short v b a key c w hb ha hk hc hw =
       later-one key (decimal c ∷ decimal w ∷ []),
       later-one (decimal c) (decimal w ∷ []),
       later-one (decimal w) [],
-      seven_digits v b hb,
-      seven_digits v a ha,
+      eight_digits v b hb,
+      eight_digits v a ha,
       k.1,
-      seven_digits v c hc,
+      eight_digits v c hc,
       steps,
     )
 

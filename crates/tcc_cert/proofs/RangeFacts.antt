@@ -10,12 +10,12 @@ pub costs : (v : Version) → (ranges_of v).cost ≤ 16781312
 costs One = lit≤ tt
 costs Two = lit≤ tt
 
-pub numbers : (v : Scale) → (ranges_at v).number ≤ 1048575
+pub numbers : (v : Scale) → (ranges_at v).number ≤ 16777215
 numbers (Small One) = lit≤ tt
 numbers (Small Two) = lit≤ tt
 numbers Large = lit≤ tt
 
-pub counts : (v : Scale) → (ranges_at v).count ≤ 1048576
+pub counts : (v : Scale) → (ranges_at v).count ≤ 16777216
 counts (Small One) = lit≤ tt
 counts (Small Two) = lit≤ tt
 counts Large = lit≤ tt

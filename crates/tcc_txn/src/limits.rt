@@ -30,13 +30,13 @@ pub const MAX_INPUT_BYTES: u64 = 134_217_728;
 /// The sessions of a large input or snapshot.
 pub const LARGE_SESSIONS: usize = 65_535;
 /// The transactions of a large input or snapshot, aborted ones among them.
-pub const LARGE_TRANSACTIONS: usize = 1_048_575;
+pub const LARGE_TRANSACTIONS: usize = 16_777_215;
 /// The transactions of a large history: those of a snapshot and the initial one.
 pub const LARGE_COUNT: usize = LARGE_TRANSACTIONS + 1;
 /// The keys of a large input.
-pub const LARGE_KEYS: usize = 1_048_576;
+pub const LARGE_KEYS: usize = 16_777_216;
 /// The bytes of a large input.
-pub const LARGE_INPUT_BYTES: u64 = 1_073_741_824;
+pub const LARGE_INPUT_BYTES: u64 = 17_179_869_184;
 
 /// The limits that an input or a snapshot keeps; those on names, operations and seals are the same in both.
 #[derive(Clone, Copy, Debug, PartialEq, Eq)]

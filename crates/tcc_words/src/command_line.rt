@@ -159,7 +159,7 @@ fn large_flag<'a>(alloc: Global) -> Arg<'a>
     flag(
         alloc,
         "large",
-        "Takes up to 1048575 transactions of 65535 sessions",
+        "Takes up to 16777215 transactions of 65535 sessions",
     )
 }
 
@@ -250,7 +250,7 @@ pub(crate) fn check_command<'a>(alloc: Global) -> Result<Command<'a>, AllocError
     let large = flag(
         alloc,
         "large",
-        "Takes up to 1048575 transactions of 65535 sessions, and a certificate of any version",
+        "Takes up to 16777215 transactions of 65535 sessions, and a certificate of any version",
     );
     let history = path(alloc, "history", "HISTORY", "The file of the records", true);
     let certificate = path(

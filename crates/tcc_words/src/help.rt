@@ -30,7 +30,7 @@ The end of the input wants an answer too, unless nothing was finished since the 
 A write is known by any chain of sessions and reads at the level causal, by one step at atomic.
 What to mend, and why a file failed, is said on standard error.
 
-With '--large' a history has up to 1048575 transactions, 65535 sessions and 1048576 keys, in place of
+With '--large' a history has up to 16777215 transactions, 65535 sessions and 16777216 keys, in place of
 4095, 64 and 1024. Past those an anomaly of more than four steps needn't be a least one, which its first
 line says, and a certificate is one of version 3, for 'tcc check --large'. '--slice PATH' writes a small
 history that has an anomaly of this one.
@@ -51,7 +51,7 @@ Statuses, of the last answer or of the fault that ended the run:
       transactions for '--require'
   4   the records are past a limit
   5   out of memory
-  6   reading or writing failed, the input has more than 134217728 bytes, with '--large' 1073741824,
+  6   reading or writing failed, the input has more than 134217728 bytes, with '--large' 17179869184,
       or a file can't be opened or made
   64  the command line is wrong
 
@@ -103,7 +103,7 @@ Statuses, of the last answer or of the fault that ended the run:
   3   a record breaks a rule, or the input ends inside a transaction
   4   the records are past a limit
   5   out of memory
-  6   reading or writing failed, the input has more than 1073741824 bytes, or a file can't be opened
+  6   reading or writing failed, the input has more than 17179869184 bytes, or a file can't be opened
   64  the command line is wrong
 
 'man tcc' says how to read an answer, docs/FORMATS.md of the sources has every text and every limit.";
@@ -123,7 +123,7 @@ level of its first line; 'tcc explain --certificate PATH' writes one of version 
                             end
 At 'tcc-certificate 2 atomic' an order has no clocks. Version 1 is read as well.
 
-With '--large' HISTORY has up to 1048575 transactions, 65535 sessions and 1048576 keys, and CERTIFICATE
+With '--large' HISTORY has up to 16777215 transactions, 65535 sessions and 16777216 keys, and CERTIFICATE
 may be of version 3, which has no tables; one of version 1 or 2 is rejected past the limits without it:
   tcc-certificate 3 causal  tcc-certificate 3 causal
   order N S R               cycle N M L
@@ -143,7 +143,7 @@ Statuses:
   3   a record breaks a rule, or the history ends inside a transaction
   4   the records are past a limit
   5   out of memory
-  6   a file can't be opened or read, the history has more than 134217728 bytes, with '--large' 1073741824,
+  6   a file can't be opened or read, the history has more than 134217728 bytes, with '--large' 17179869184,
       or writing failed
   7   rejected: the certificate breaks a rule, named with its place
   8   the text of the certificate has a fault, named with its line

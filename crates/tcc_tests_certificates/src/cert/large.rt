@@ -19,8 +19,8 @@ const FIVE_STEPS: &str = "tcc-certificate 3 causal\ncycle 5 2 5\nS 0 1\nD 1 0 x 
     R 2 3 y\nS 3 4\nleast 3\n0 1\n1 1\n2 2\nend\n";
 
 /// The greatest numbers that a text may have.
-const GREATEST: &str = "tcc-certificate 3 atomic\ncycle 1048576 1 4294967295\n\
-    R 1048575 1048575 x\nleast 1\n65534 1048575\nend\n";
+const GREATEST: &str = "tcc-certificate 3 atomic\ncycle 16777216 1 4294967295\n\
+    R 16777215 16777215 x\nleast 1\n65534 16777215\nend\n";
 
 const TEXTS: [&str; 6] = [
     NO_RUNS,
@@ -71,24 +71,24 @@ const ALTERED: &str = "\
     2:2 Number|cycle 05 2 5\n\
     2:2 Number|cycle 0 2 5\n\
     2:2 Number|cycle 5 0 5\n\
-    2:2 TooLarge|cycle 1048577 2 5\n\
-    2:2 TooLarge|cycle 5 1048577 5\n\
+    2:2 TooLarge|cycle 16777217 2 5\n\
+    2:2 TooLarge|cycle 5 16777217 5\n\
     2:2 TooLarge|cycle 5 2 4294967296\n\
     2:2 TooLarge|order 5 65536 5\n\
-    2:2 TooLarge|order 5 4 1048576\n\
+    2:2 TooLarge|order 5 4 16777216\n\
     2:8 Word|cycle 5 3 5\n\
     2:4 Word|cycle 5 1 5\n\
-    3:3 TooLarge|S 0 1048576\n\
+    3:3 TooLarge|S 0 16777216\n\
     4:4 Number|D 1 0 x 4 0\n\
     4:8 Word|D 1 0 x 4 4\n\
-    4:4 TooLarge|D 1 0 x 4 1048577\n\
+    4:4 TooLarge|D 1 0 x 4 16777217\n\
     8:8 Word|0 1\n\
     8:8 Word|\n\
     8:8 Word|leas 3\n\
     8:8 Count|least\n\
     8:8 Count|least 3 3\n\
     8:8 Number|least 03\n\
-    8:8 TooLarge|least 1048576\n\
+    8:8 TooLarge|least 16777216\n\
     8:11 Word|least 2\n\
     8:12 Count|least 4\n\
     8:9 Trailing|end\n\
@@ -101,8 +101,8 @@ const ALTERED: &str = "\
     9:9 Number|0 0\n\
     9:9 Number|00 1\n\
     9:9 TooLarge|65535 1\n\
-    9:9 TooLarge|0 1048576\n\
-    9:taken|0 1048575\n\
+    9:9 TooLarge|0 16777216\n\
+    9:taken|0 16777215\n\
     12:12 Word|3 1\n\
     12:12 Count|end \n";
 

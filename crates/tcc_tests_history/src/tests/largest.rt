@@ -1,4 +1,5 @@
-//! The largest histories: the resolver and the graphs take them, and tell all faults of them, where memory is there.
+//! The largest small histories, and one of a million transactions: the resolver and the graphs take them, and tell all faults of them,
+//! where memory is there. What a test of the most transactions with `--large` would take is past a test's time; the rows have it.
 use crate::tests::builders::name;
 use std::alloc::Global;
 use std::process::Abort;
@@ -105,20 +106,20 @@ fn tells_as_many_faults_as_there_may_be(rt: HostRuntime) -> Result<(), Fail> {
 }
 
 #[test]
-fn resolves_as_many_transactions_as_there_may_be(rt: HostRuntime) -> Result<(), Fail> {
+fn resolves_more_than_a_million_transactions(rt: HostRuntime) -> Result<(), Fail> {
     let alloc = rt.alloc();
     let keys = keys(&rt, alloc, 1)?;
-    let Ok(snapshot) = LargeSnapshot::new(sessions(&rt, alloc, 4_096, 256, &keys, 0)?) else {
+    let Ok(snapshot) = LargeSnapshot::new(sessions(&rt, alloc, 4_097, 256, &keys, 0)?) else {
         panic!(rt; "no snapshot");
     };
     let Ok(resolved) = resolve_large(alloc, &snapshot) else {
         panic!(rt; "not resolved");
     };
-    assert_eq!(rt; resolved.places().len(), 1_048_575);
+    assert_eq!(rt; resolved.places().len(), 1_048_831);
     let Ok(graph) = LargeGraph::build(alloc, resolved) else {
         panic!(rt; "no graph");
     };
-    assert_eq!(rt; graph.count(), 1_048_576);
-    assert_eq!(rt; graph.readings_at(0).0.len(), 1_048_575);
+    assert_eq!(rt; graph.count(), 1_048_832);
+    assert_eq!(rt; graph.readings_at(0).0.len(), 1_048_831);
     Ok(())
 }

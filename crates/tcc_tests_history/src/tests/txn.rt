@@ -293,14 +293,20 @@ fn refuses_snapshots(rt: HostRuntime) -> Result<(), Fail> {
 fn tells_limits(rt: HostRuntime) {
     for (limits, sessions, transactions, keys, bytes) in [
         (Limits::Small, 64, 4_095, 1_024, 134_217_728),
-        (Limits::Large, 65_535, 1_048_575, 1_048_576, 1_073_741_824),
+        (
+            Limits::Large,
+            65_535,
+            16_777_215,
+            16_777_216,
+            17_179_869_184,
+        ),
     ] {
         assert_eq!(rt; limits.sessions(), sessions);
         assert_eq!(rt; limits.transactions(), transactions);
         assert_eq!(rt; limits.keys(), keys);
         assert_eq!(rt; limits.bytes(), bytes);
     }
-    assert_eq!(rt; LARGE_COUNT, 1_048_576);
+    assert_eq!(rt; LARGE_COUNT, 16_777_216);
 }
 
 // Each has some sessions of which the first has some transactions, and whether it is small.
