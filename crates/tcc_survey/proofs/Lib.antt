@@ -14,3 +14,4 @@ pub mod CalledLemmas
 pub mod CallingLemmas
 pub mod LaneLemmas
 pub mod NeededLemmas
+pub mod AmongLemmas

@@ -1,9 +1,11 @@
 //! Which of the usual names fits a writer of a key, by what the session of a reader has read so far (`seen`). Those of the session
 //! guarantees (Terry et al., Session guarantees for weakly consistent replicated data, 1994) are among them. The first that fits is
-//! found by a look at each reader of the key from the writer. A writer that nobody reads from needs a step alone, unless the session
-//! of the reader has read past it, or wrote it.
-ghost use Rattle.std.specs.Prelude.{◌≡◌, ◌<◌, ◌⊎◌, ◌↔◌, ℕ, false, length, All, Contains, IsTrue};
-ghost use Rattle.tcc_reads.specs.History.{count};
+//! found by a look at the readers of the key from the writer. The last of them up to the reader is found by binary search, and of each
+//! session the first is looked at. With M readers in S sessions that takes S log M steps at most, and S where each session has one. A
+//! writer that nobody reads from needs a step alone, unless the session of the reader has read past it, or wrote it.
+ghost use Rattle.std.specs.Prelude.{◌≡◌, ◌<◌, ◌≤◌, ◌⊎◌, ◌↔◌, ℕ, false, length, slice_index, All, Contains, IsTrue};
+ghost use Rattle.std.specs.List.Sorted.{IsNonDecreasing};
+ghost use Rattle.tcc_reads.specs.History.{IsBySession, count};
 ghost use Rattle.tcc_graph.specs.Keys.{key_at, readers};
 ghost use Rattle.tcc_graph.specs.Relations.{IsSessionPair};
 ghost use Rattle.tcc_survey.specs.Names.{Fits, rank};
@@ -11,22 +13,46 @@ ghost use Rattle.tcc_survey.specs.declared.usual_name.UsualName.TheVariants.{Cau
 ghost use Rattle.tcc_survey.specs.private.Seen.{IsSeen, latest_mark};
 ghost use Rattle.tcc_survey.specs.private.Spells.{IsAfterAny, IsFirstName, IsKnowledge, IsSeenAfter, NoneBefore};
 
+use crate::scanning::count_before;
 use crate::seen::Mark;
 use crate::usual_name::{NAMES, UsualName};
 use tcc_graph::LargeGraph;
 
-/// Whether `d` is one of these transactions, or a later one of its session.
+/// Whether `d` is one of these transactions, which rise, or a later one of its session: the last of them up to `d` is of this session
+/// where any is.
 fn is_after_any(graph: &LargeGraph, among: &[u32], d: u32) -> bool
+    requires numbered { IsBySession graph.now.entries }
+    requires rising { IsNonDecreasing among.now }
+    requires some { All (λ f. 0 < f) among.now }
     requires inside { All (λ f. f < count graph.now) among.now }
     requires below { d < count graph.now }
     ensures { IsTrue result ↔ IsAfterAny graph.now among.now d }
 {
-    for one in among {
-        if *one == d || graph.session(*one, d) {
-            return true;
-        }
+    let early = count_before(among, d);
+    if early < among.len() && among[early] == d {
+        return true;
     }
-    false
+    if early == 0 {
+        return false;
+    }
+    graph.session(among[early - 1], d)
+}
+
+/// Of some transactions, which rise, a later index than this one, up to which all are of the session of the one there.
+fn next_of_other(graph: &LargeGraph, among: &[u32], index: usize) -> usize
+    requires rising { IsNonDecreasing among.now }
+    requires inside { All (λ f. f < count graph.now) among.now }
+    requires within { index < length among.now }
+    ensures behind { index < result }
+    ensures within { result ≤ length among.now }
+    ensures passed { (k : ℕ) → index < k → k < result → (slice_index among.now k ≡ slice_index among.now index)
+        ⊎ IsSessionPair graph.now (slice_index among.now index) (slice_index among.now k) }
+{
+    let next = index + 1;
+    if next < among.len() && graph.session(among[index], among[next]) {
+        return count_before(among, graph.later(among[index]).1);
+    }
+    next
 }
 
 /// What the reader of a key knows by what its session has read so far.
@@ -76,17 +102,24 @@ impl Knowledge<'_> {
         f <= self.latest(self.owners[f as usize])
     }
 
-    /// Whether the reader's session has read from one of these, or from a later one of its session.
+    /// Whether the reader's session has read from one of these, which rise, or from a later one of its session: of each session the
+    /// first of them is looked at.
     fn has_seen_any(&self, among: &[u32]) -> bool
         requires knowledge { IsKnowledge self.now }
+        requires rising { IsNonDecreasing among.now }
         requires some { All (λ f. 0 < f) among.now }
         requires inside { All (λ f. f < count self.now.graph.now) among.now }
         ensures { IsTrue result ↔ ((f : ℕ) × Contains among.now f × IsSeenAfter self.now.graph.now self.now.reader f) }
     {
-        for one in among {
-            if self.has_seen(*one) {
+        let mut next = 0;
+        for _session in 0..among.len() {
+            if next == among.len() {
+                return false;
+            }
+            if self.has_seen(among[next]) {
                 return true;
             }
+            next = next_of_other(self.graph, among, next);
         }
         false
     }

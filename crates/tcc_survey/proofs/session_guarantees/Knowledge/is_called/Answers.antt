@@ -1,13 +1,29 @@
 use Rattle.std.proofs.Common.{ℕ, List, sym, subst}
 use Rattle.tcc_graph.specs.Keys.{key_at}
 use Rattle.tcc_survey.specs.private.Spells.{IsAfterAny}
+use Rattle.tcc_survey.proofs.AmongLemmas.{readers_rise}
 use Rattle.tcc_survey.proofs.CalledLemmas.{readers_below, readers_some, fits_fractured, fits_reads, fits_follow}
 use Rattle.tcc_survey.proofs.session_guarantees.Knowledge.is_called.Goals as goal
+
+pub is_after_any-requires-clause-rising : goal.is_after_any-requires-clause-rising
+is_after_any-requires-clause-rising c =
+    let k = c.args.self.now in
+    rw c.requires.readers (readers_rise k.graph.now c.args.b (key_at k.graph.now k.key_index))
+
+pub is_after_any-requires-clause-some : goal.is_after_any-requires-clause-some
+is_after_any-requires-clause-some c =
+    let k = c.args.self.now in
+    rw c.requires.readers (readers_some k c.requires.knowledge c.args.b (key_at k.graph.now k.key_index) c.requires.below)
 
 pub is_after_any-requires-clause-inside : goal.is_after_any-requires-clause-inside
 is_after_any-requires-clause-inside c =
     let k = c.args.self.now in
     rw c.requires.readers (readers_below k.graph.now c.args.b (key_at k.graph.now k.key_index))
+
+pub has_seen_any-requires-clause-rising : goal.has_seen_any-requires-clause-rising
+has_seen_any-requires-clause-rising c =
+    let k = c.args.self.now in
+    rw c.requires.readers (readers_rise k.graph.now c.args.b (key_at k.graph.now k.key_index))
 
 pub has_seen_any-requires-clause-some : goal.has_seen_any-requires-clause-some
 has_seen_any-requires-clause-some c =
