@@ -37,6 +37,7 @@ pub mod Pairs
 pub mod RouteLemmas
 pub mod Sessions
 pub mod NotedKeys
+pub mod OwnKeys
 pub mod SortedKeys
 pub mod TableLemmas
 pub mod Tied

@@ -8,26 +8,8 @@ ghost use Rattle.tcc_graph.specs.{Keys.has_name, Keys.keys_of, KeyIndices.name_o
 
 use crate::key_table::key_index_of;
 use std::alloc::Global;
-use std::marker::Model;
-use tcc_reads::Transaction;
+use tcc_reads::{Indexed, Transaction};
 use tcc_txn::{Name, Nearby, NoMemory};
-
-/// A transaction: its session and place, and the indices of the keys that it writes and reads, those read each with its source.
-#[derive(Drop)]
-pub(crate) struct Indexed {
-    owner: u32,
-    place: u32,
-    writes: Vec<u32>,
-    reads: Vec<(u32, u32)>,
-}
-
-impl Model for Indexed {
-    ghost use Rattle.tcc_graph.specs.private.ReadTables.{Indexed};
-
-    ghost Value = { Indexed };
-
-    ghost view = { λ p. record { owner = p.owner; place = p.place; writes = p.writes.items; reads = p.reads.items } };
-}
 
 /// The index of a key that is among the sorted keys.
 fn key_index_in(keys: &[Name], nearby: &Nearby, key: &Name) -> u32
@@ -86,54 +68,21 @@ fn indexed_reads(
     Ok(key_indices)
 }
 
-impl Indexed {
-    /// The transaction, by the indices of its keys.
-    fn of(
-        alloc: Global,
-        keys: &[Name],
-        nearby: &Nearby,
-        transaction: &Transaction,
-    ) -> Result<Indexed, NoMemory>
-        requires sorted { IsStrictlySortedBy (slice_cmp nat_cmp) keys.now }
-        requires few { length keys.now ≤ u32.MAX }
-        requires there { All (λ x. has_name keys.now x ≡ true) (keys_of transaction.now) }
-        ensures { IfOk result (λ indexed. IsIndexed keys.now transaction.now indexed) }
-    {
-        Ok(Indexed {
-            owner: transaction.owner(),
-            place: transaction.place(),
-            writes: key_indices_of(alloc, keys, nearby, transaction.writes())?,
-            reads: indexed_reads(alloc, keys, nearby, transaction.reads())?,
-        })
-    }
-
-    /// The index of its session.
-    pub(crate) fn owner(&self) -> u32
-        ensures { result ≡ self.now.owner }
-    {
-        self.owner
-    }
-
-    /// Its place in its session.
-    pub(crate) fn place(&self) -> u32
-        ensures { result ≡ self.now.place }
-    {
-        self.place
-    }
-
-    /// The indices of the keys that it writes visibly.
-    pub(crate) fn writes(&self) -> &[u32]
-        ensures { result.now ≡ self.now.writes }
-    {
-        &self.writes
-    }
-
-    /// Index of the key and source of its external reads.
-    pub(crate) fn reads(&self) -> &[(u32, u32)]
-        ensures { result.now ≡ self.now.reads }
-    {
-        &self.reads
-    }
+/// The transaction, by the indices of its keys.
+fn index(
+    alloc: Global,
+    keys: &[Name],
+    nearby: &Nearby,
+    transaction: &Transaction,
+) -> Result<Indexed, NoMemory>
+    requires sorted { IsStrictlySortedBy (slice_cmp nat_cmp) keys.now }
+    requires few { length keys.now ≤ u32.MAX }
+    requires there { All (λ x. has_name keys.now x ≡ true) (keys_of transaction.now) }
+    ensures { IfOk result (λ indexed. IsIndexed keys.now transaction.now indexed) }
+{
+    let writes = key_indices_of(alloc, keys, nearby, transaction.writes())?;
+    let reads = indexed_reads(alloc, keys, nearby, transaction.reads())?;
+    Ok(Indexed::new(transaction.owner(), transaction.place(), writes, reads))
 }
 
 /// The transactions by the indices of their keys. Each is let go when its keys are indices, so both lists never stand whole.
@@ -150,7 +99,7 @@ pub(crate) fn indexed_by(
     let nearby = Nearby::of(alloc, keys)?;
     let mut indexed = Vec::with_capacity(alloc, transactions.len())?;
     for transaction in transactions {
-        indexed.push(Indexed::of(alloc, keys, &nearby, &transaction)?)?;
+        indexed.push(index(alloc, keys, &nearby, &transaction)?)?;
     }
     Ok(indexed)
 }

@@ -8,16 +8,15 @@ ghost use Rattle.tcc_txn.specs.declared.limits.TheConstants.{LARGE_COUNT, LARGE_
 ghost use Rattle.tcc_reads.specs.History.{History, IsBySession, count, entry_at, owner};
 
 use crate::grouped::Grouped;
-use crate::indexed::{Indexed, indexed_by};
 use crate::key_row::KeyRow;
 use crate::key_table::{key_index_of, key_table};
-use crate::keys::sorted_keys;
+use crate::own_keys::{OwnKeys, with_own_keys};
 use crate::tables::{index_table, parts_of};
 use crate::validity::{is_link, is_writer};
 use crate::{Level, Link, Step};
 use std::alloc::Global;
 use std::marker::Model;
-use tcc_reads::LargeResolved;
+use tcc_reads::{HistoryParts, Indexed, LargeResolved};
 use tcc_txn::{Name, NoMemory};
 
 /// The session order and the reads-from pairs of a history whose reads are resolved, up to the large limits. Number 0 is the initial
@@ -34,7 +33,8 @@ pub struct LargeGraph {
 
 impl Model for LargeGraph {
     ghost use Rattle.tcc_reads.specs.History.{History};
-    ghost use Rattle.tcc_graph.specs.{private.ReadTables.entries_of, private.ReadTables.history_of, private.Graphs.IsGraph};
+    ghost use Rattle.tcc_reads.specs.Indexed.{entries_of};
+    ghost use Rattle.tcc_graph.specs.{private.ReadTables.history_of, private.Graphs.IsGraph};
 
     ghost Value = { History };
 
@@ -48,9 +48,12 @@ impl LargeGraph {
     pub fn build(alloc: Global, resolved: LargeResolved) -> Result<LargeGraph, NoMemory>
         ensures { IfOk result (λ g. g ≡ resolved) }
     {
-        let (sessions, transactions) = parts_of(resolved);
-        let keys = sorted_keys(alloc, &transactions)?;
-        let indexed = indexed_by(alloc, &keys, transactions)?;
+        let HistoryParts {
+            sessions,
+            keys,
+            transactions,
+        } = parts_of(resolved);
+        let OwnKeys { keys, indexed } = with_own_keys(alloc, keys, transactions)?;
         let key_indices = index_table(alloc, &indexed)?;
         let rows = key_table(alloc, keys.len(), &indexed, &key_indices)?;
         Ok(LargeGraph {

@@ -16,6 +16,7 @@ mod limits;
 mod link;
 mod named;
 mod operations;
+mod own_keys;
 mod renumbering;
 mod routes;
 mod step;

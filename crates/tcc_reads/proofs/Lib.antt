@@ -1,6 +1,7 @@
 pub mod WorkedRows
 pub mod Ties
 pub mod Indices
+pub mod ByIndex
 pub mod KeyNumbers
 pub mod Steps
 pub mod Tables

@@ -32,7 +32,7 @@ All-insert_key P cmp k (x ∷ xs) here rest =
       | Greater ↦ All-cons P x (insert_key cmp xs k) (All-head P x xs rest) (All-insert_key P cmp k xs here (All-tail P x xs rest))
     ]
 
-All-sorted_once : {K : Type 0} (P : K → Type 0) (cmp : K → K → Ordering) (ks : List K) → All P ks → All P (sorted_once cmp ks)
+pub All-sorted_once : {K : Type 0} (P : K → Type 0) (cmp : K → K → Ordering) (ks : List K) → All P ks → All P (sorted_once cmp ks)
 All-sorted_once P cmp [] each = each
 All-sorted_once P cmp (k ∷ ks) each =
     All-insert_key P cmp k (sorted_once cmp ks) (All-head P k ks each) (All-sorted_once P cmp ks (All-tail P k ks each))

@@ -1,4 +1,5 @@
 pub mod History
+pub mod Indexed
 pub mod Sites
 pub mod Sources
 pub mod Faults

@@ -1,9 +1,9 @@
 //! What each operation of a transaction is: a fault, an external read with its source, or neither.
-ghost use Rattle.std.specs.Prelude.{◌≡◌, ◌≤◌, length, true, [], ◌++◌, map, IfOk, OnOk, option_to_list, if◌then◌else◌, None};
+ghost use Rattle.std.specs.Prelude.{All, ◌≡◌, ◌<◌, ◌≤◌, length, true, [], ◌++◌, map, IfOk, OnOk, option_to_list, if◌then◌else◌, None};
 ghost use Rattle.std.specs.Option.{option_copied};
 ghost use Rattle.tcc_txn.specs.{KeyNumbers.AreNumbers, Symbols.IsNumber, declared.limits.TheConstants.MAX_OPERATIONS, Transactions.op_key, Transactions.op_value};
-ghost use Rattle.tcc_reads.specs.{Sources.visible_write, private.Tracings.is_outside, private.Tracings.sources_traced};
-ghost use Rattle.tcc_reads.specs.private.Verdicts.{writers_in, is_in, write_judgement, read_judgement, op_judgement, fault_in, source_in, IsOwn, AreOwnIn, faults_found, sources_found};
+ghost use Rattle.tcc_reads.specs.{Indexed.named, Sources.visible_write, private.Tracings.is_outside, private.Tracings.sources_traced};
+ghost use Rattle.tcc_reads.specs.private.Verdicts.{writers_in, is_in, write_judgement, read_judgement, op_judgement, fault_in, read_in, IsOwn, AreOwnIn, faults_found, sources_found};
 
 use crate::standing::Standing;
 use crate::writers::{Writer, Writers, first_writer};
@@ -132,17 +132,18 @@ fn judgement_of(
     }
 }
 
-/// Adds what was found out about an operation at a position of its transaction, from 1.
+/// Adds what was found out about an operation at a position of its transaction, from 1, by the index of its key.
 fn note(
     standing: &Standing<'_>,
     position: u16,
     op: &Op,
+    index: u32,
     judgement: OpJudgement,
     faults: &mut Vec<ReadFault>,
-    reads: &mut Vec<(Name, u32)>,
+    reads: &mut Vec<(u32, u32)>,
 ) -> Result<(), AllocError>
     ensures fault { OnOk result (faults.new.items ≡ faults.old.items ++ option_to_list (fault_in standing.now.stand position op.now judgement)) }
-    ensures read { OnOk result (reads.new.items ≡ reads.old.items ++ option_to_list (source_in op.now judgement)) }
+    ensures read { OnOk result (reads.new.items ≡ reads.old.items ++ option_to_list (read_in index judgement)) }
 {
     match judgement {
         OpJudgement::Faulty(kind) => {
@@ -158,33 +159,34 @@ fn note(
             Ok(())
         }
         OpJudgement::ReadsFrom(source) => {
-            reads.push((op.key(), source))?;
+            reads.push((index, source))?;
             Ok(())
         }
         OpJudgement::Silent => Ok(()),
     }
 }
 
-/// Adds an external read with its source, unless its key and value are among these.
+/// Adds an external read, by the index of its key, with its source, unless its key and value are among these.
 fn note_traced(
     rewrites: &BTreeSet<(Name, u64)>,
     op: &Op,
+    index: u32,
     judgement: OpJudgement,
-    reads: &mut Vec<(Name, u32)>,
+    reads: &mut Vec<(u32, u32)>,
 ) -> Result<(), AllocError>
     ensures { OnOk result (reads.new.items ≡ reads.old.items
-        ++ option_to_list (if is_outside rewrites.now (op_key op.now, op_value op.now) then source_in op.now judgement else None)) }
+        ++ option_to_list (if is_outside rewrites.now (op_key op.now, op_value op.now) then read_in index judgement else None)) }
 {
     if let OpJudgement::ReadsFrom(source) = judgement {
         if !rewrites.contains(&(op.key(), op.value())) {
-            reads.push((op.key(), source))?;
+            reads.push((index, source))?;
         }
     }
     Ok(())
 }
 
-/// Judges these operations of a transaction, by the indices of their keys: adds its faults, and gives its external reads with
-/// their sources.
+/// Judges these operations of a transaction, by the indices of their keys: adds its faults, and gives its external reads, by the
+/// indices of their keys too, with their sources.
 pub(crate) fn judge(
     alloc: Global,
     writers: &Writers,
@@ -193,13 +195,14 @@ pub(crate) fn judge(
     ops: &[Op],
     indices: &[u32],
     faults: &mut Vec<ReadFault>,
-) -> Result<Vec<(Name, u32)>, AllocError>
+) -> Result<Vec<(u32, u32)>, AllocError>
     requires ops { ops.now ≡ standing.now.stand.txn.ops }
     requires few { length ops.now ≤ MAX_OPERATIONS }
     requires indices { AreNumbers writers.now.keys indices.now (map op_key ops.now) }
     requires own { distinct ≡ true → AreOwnIn (writers_in writers.now) standing.now [] ops.now }
     ensures faults { IfOk result (λ _. faults.new.items ≡ faults.old.items ++ faults_found (writers_in writers.now) standing.now) }
-    ensures sources { IfOk result (λ reads. reads.items ≡ sources_found (writers_in writers.now) standing.now) }
+    ensures sources { IfOk result (λ reads. named writers.now.keys reads.items ≡ sources_found (writers_in writers.now) standing.now) }
+    ensures within { IfOk result (λ reads. All (λ read. read.0 < length writers.now.keys) reads.items) }
 {
     let mut reads = Vec::new(alloc);
     for (before, op) in ops.iter().enumerate() {
@@ -207,13 +210,13 @@ pub(crate) fn judge(
         let index = indices[before];
         let earlier = &ops[..before];
         let judgement = judgement_of(writers, distinct, standing, position, *op, index, earlier);
-        note(standing, position, op, judgement, faults, &mut reads)?;
+        note(standing, position, op, index, judgement, faults, &mut reads)?;
     }
     Ok(reads)
 }
 
-/// Traces the external reads of a transaction of these operations, by the indices of their keys: gives those without a fault, with
-/// their sources, but none of these keys and values.
+/// Traces the external reads of a transaction of these operations, by the indices of their keys: gives those without a fault, by
+/// the indices of their keys too, with their sources, but none of these keys and values.
 pub(crate) fn trace(
     alloc: Global,
     writers: &Writers,
@@ -221,11 +224,12 @@ pub(crate) fn trace(
     standing: &Standing<'_>,
     ops: &[Op],
     indices: &[u32],
-) -> Result<Vec<(Name, u32)>, AllocError>
+) -> Result<Vec<(u32, u32)>, AllocError>
     requires ops { ops.now ≡ standing.now.stand.txn.ops }
     requires few { length ops.now ≤ MAX_OPERATIONS }
     requires indices { AreNumbers writers.now.keys indices.now (map op_key ops.now) }
-    ensures { IfOk result (λ reads. reads.items ≡ sources_traced (writers_in writers.now) (is_outside rewrites.now) standing.now) }
+    ensures sources { IfOk result (λ reads. named writers.now.keys reads.items ≡ sources_traced (writers_in writers.now) (is_outside rewrites.now) standing.now) }
+    ensures within { IfOk result (λ reads. All (λ read. read.0 < length writers.now.keys) reads.items) }
 {
     let mut reads = Vec::new(alloc);
     for (before, op) in ops.iter().enumerate() {
@@ -233,7 +237,7 @@ pub(crate) fn trace(
         let index = indices[before];
         let earlier = &ops[..before];
         let judgement = judgement_of(writers, false, standing, position, *op, index, earlier);
-        note_traced(rewrites, op, judgement, &mut reads)?;
+        note_traced(rewrites, op, index, judgement, &mut reads)?;
     }
     Ok(reads)
 }

@@ -79,6 +79,15 @@ impl Keys {
         self.names.len()
     }
 
+    /// The names, in byte order, each once, given away.
+    pub fn into_names(self) -> Vec<Name>
+        ensures names { result.items ≡ self }
+        ensures sorted { IsStrictlySortedBy name_cmp self }
+        ensures few { length self ≤ u32.MAX }
+    {
+        self.names
+    }
+
     /// The index of a key that the cache knows; none says nothing.
     fn near(&self, key: &Name) -> Option<u32>
         ensures { IfSome result (λ k. IsNumber self.now key.now k) }

@@ -2,6 +2,7 @@
 #![tactic(auto)]
 
 mod fault;
+mod indexed;
 mod judging;
 mod keys;
 pub mod laws;
@@ -15,7 +16,8 @@ mod transaction;
 mod writers;
 
 pub use fault::{ReadFault, ReadFaultKind, ResolveFault};
-pub use resolved::{LargeResolved, Resolved};
+pub use indexed::Indexed;
+pub use resolved::{HistoryParts, LargeResolved, Resolved, named_by};
 pub use resolver::{resolve, resolve_large};
 pub use tracing::{Traced, resolve_traced};
 pub use transaction::Transaction;

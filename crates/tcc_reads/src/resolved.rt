@@ -1,33 +1,48 @@
 //! Histories whose reads are resolved.
-ghost use Rattle.std.specs.Prelude.{◌≡◌, ◌<◌, ◌≤◌, ◌+◌, length, All};
+ghost use Rattle.std.specs.Prelude.{◌≡◌, ◌<◌, ◌≤◌, ◌+◌, length, All, IfOk};
 ghost use Rattle.std.specs.List.Sorted.{IsStrictlySortedBy};
 ghost use Rattle.tcc_txn.specs.declared.limits.TheConstants.{MAX_COUNT, MAX_SESSIONS, LARGE_COUNT, LARGE_SESSIONS};
 ghost use Rattle.tcc_reads.specs.History.{count, entry_at, initial, IsBySession, places_of};
-ghost use Rattle.tcc_reads.specs.Sources.{pair_cmp};
+ghost use Rattle.tcc_reads.specs.{Indexed.IsWithin, Indexed.entries_of, private.Stored.AreNamed};
+ghost use Rattle.tcc_reads.specs.Sources.{name_cmp, pair_cmp};
 
-use crate::Transaction;
+use crate::{Indexed, Transaction};
+use std::alloc::Global;
 use std::marker::Model;
 use std::ops::Deref;
-use tcc_txn::Name;
+use tcc_txn::{Name, NoMemory};
 
 /// A snapshot of the large limits, or of the small ones, of which each external read has its source. The committed
 /// transactions are numbered from 1 by session name in byte order and by place; number 0 is the initial transaction,
-/// which writes 0 at every key.
+/// which writes 0 at every key. Each name is held once: keys are known by their indices in byte order.
 #[derive(Drop)]
 pub struct LargeResolved {
     pub(crate) sessions: Vec<Name>,
+    pub(crate) keys: Vec<Name>,
     pub(crate) places: Vec<(u32, u32)>,
-    pub(crate) transactions: Vec<Transaction>,
+    pub(crate) transactions: Vec<Indexed>,
 }
 
 impl Model for LargeResolved {
-    ghost use Rattle.tcc_reads.specs.{History.History, private.Stored.IsStored};
+    ghost use Rattle.tcc_reads.specs.{History.History, Indexed.entries_of, private.Stored.AreKeyed, private.Stored.IsStored};
 
     ghost Value = { History };
 
-    ghost view = { λ r. record { sessions = r.sessions.items; entries = r.transactions.items } };
+    ghost view = { λ r. record { sessions = r.sessions.items; entries = entries_of r.keys.items r.transactions.items } };
 
-    ghost invariant = { λ r. IsStored r.sessions.items r.places.items r.transactions.items };
+    ghost invariant = { λ r. IsStored r.sessions.items r.places.items (entries_of r.keys.items r.transactions.items)
+        × AreKeyed r.keys.items r.transactions.items };
+}
+
+/// What a resolved history holds.
+#[derive(Drop)]
+pub struct HistoryParts {
+    /// The names of the sessions, in byte order.
+    pub sessions: Vec<Name>,
+    /// Names of keys, in byte order, each once; among them those that the transactions write and read.
+    pub keys: Vec<Name>,
+    /// The transactions by number, each by the indices of its keys.
+    pub transactions: Vec<Indexed>,
 }
 
 impl LargeResolved {
@@ -52,10 +67,13 @@ impl LargeResolved {
         &self.places
     }
 
-    /// The names of the sessions and the transactions, by number, given away.
-    pub fn into_parts(self) -> (Vec<Name>, Vec<Transaction>)
-        ensures sessions { result.0.items ≡ self.sessions }
-        ensures transactions { result.1.items ≡ self.entries }
+    /// The names of the sessions and of the keys, and the transactions, by number, given away.
+    pub fn into_parts(self) -> HistoryParts
+        ensures sessions { result.sessions.items ≡ self.sessions }
+        ensures transactions { entries_of result.keys.items result.transactions.items ≡ self.entries }
+        ensures within { All (IsWithin (length result.keys.items)) result.transactions.items }
+        ensures sorted { IsStrictlySortedBy name_cmp result.keys.items }
+        ensures few_keys { length result.keys.items ≤ u32.MAX }
         ensures few_sessions { length self.sessions ≤ LARGE_SESSIONS }
         ensures some { 0 < count self }
         ensures few { count self ≤ LARGE_COUNT }
@@ -65,46 +83,56 @@ impl LargeResolved {
         ensures ordered { IsBySession self.entries }
         ensures reads { All (λ e. IsStrictlySortedBy pair_cmp e.reads) self.entries }
     {
-        (self.sessions, self.transactions)
+        HistoryParts {
+            sessions: self.sessions,
+            keys: self.keys,
+            transactions: self.transactions,
+        }
     }
 
-    /// The keys that the transaction of this number writes visibly, in byte order; none for the initial one, which
-    /// writes every key.
-    pub fn writes(&self, t: u32) -> &[Name]
-        requires { t < count self.now }
-        ensures { result.now ≡ (entry_at self.now t).writes }
+    /// The transactions by number, each by the names of its keys.
+    pub(crate) fn named(&self, alloc: Global) -> Result<Vec<Transaction>, NoMemory>
+        ensures { IfOk result (λ named. AreNamed self.now named.items) }
     {
-        &self.transactions[t as usize].writes
-    }
-
-    /// Key and source of the external reads of this transaction, by key in byte order, then by number, each pair once.
-    pub fn reads(&self, t: u32) -> &[(Name, u32)]
-        requires { t < count self.now }
-        ensures value { result.now ≡ (entry_at self.now t).reads }
-        ensures sources { All (λ r. r.1 < count self.now) result.now }
-        ensures order { IsStrictlySortedBy pair_cmp result.now }
-    {
-        &self.transactions[t as usize].reads
+        let named = named_by(alloc, &self.keys, &self.transactions)?;
+        Ok(named)
     }
 }
 
+/// Transactions by the names of these keys.
+pub fn named_by(
+    alloc: Global,
+    keys: &[Name],
+    transactions: &[Indexed],
+) -> Result<Vec<Transaction>, NoMemory>
+    requires { All (IsWithin (length keys.now)) transactions.now }
+    ensures { IfOk result (λ named. named.items ≡ entries_of keys.now transactions.now) }
+{
+    let mut named = Vec::with_capacity(alloc, transactions.len())?;
+    for transaction in transactions {
+        named.push(Transaction::of(alloc, keys, transaction)?)?;
+    }
+    Ok(named)
+}
+
 /// A snapshot of the small limits of which each external read has its source: what it can be asked it is asked as one of the large
-/// limits, which it dereferences to.
+/// limits, which it dereferences to; it lends what the transactions write and read by the names of the keys.
 #[derive(Drop)]
 pub struct Resolved {
     pub(crate) large: LargeResolved,
+    pub(crate) named: Vec<Transaction>,
 }
 
 impl Model for Resolved {
     ghost use Rattle.std.specs.Prelude.{◌≤◌, length};
     ghost use Rattle.tcc_txn.specs.declared.limits.TheConstants.{MAX_COUNT, MAX_SESSIONS};
-    ghost use Rattle.tcc_reads.specs.History.{History, count};
+    ghost use Rattle.tcc_reads.specs.{History.History, History.count, private.Stored.AreNamed};
 
     ghost Value = { History };
 
     ghost view = { λ r. r.large };
 
-    ghost invariant = { λ r. (count r.large ≤ MAX_COUNT) × (length r.large.sessions ≤ MAX_SESSIONS) };
+    ghost invariant = { λ r. (count r.large ≤ MAX_COUNT) × (length r.large.sessions ≤ MAX_SESSIONS) × AreNamed r.large r.named.items };
 }
 
 impl Deref for Resolved {
@@ -124,6 +152,25 @@ impl Deref for Resolved {
 }
 
 impl Resolved {
+    /// The keys that the transaction of this number writes visibly, in byte order; none for the initial one, which
+    /// writes every key.
+    pub fn writes(&self, t: u32) -> &[Name]
+        requires { t < count self.now }
+        ensures { result.now ≡ (entry_at self.now t).writes }
+    {
+        self.named[t as usize].writes()
+    }
+
+    /// Key and source of the external reads of this transaction, by key in byte order, then by number, each pair once.
+    pub fn reads(&self, t: u32) -> &[(Name, u32)]
+        requires { t < count self.now }
+        ensures value { result.now ≡ (entry_at self.now t).reads }
+        ensures sources { All (λ r. r.1 < count self.now) result.now }
+        ensures order { IsStrictlySortedBy pair_cmp result.now }
+    {
+        self.named[t as usize].reads()
+    }
+
     /// This history, given away as one of the large limits.
     pub fn into_large(self) -> LargeResolved
         ensures value { result ≡ self }

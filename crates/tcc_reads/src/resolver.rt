@@ -1,53 +1,74 @@
 //! The resolver.
-ghost use Rattle.std.specs.Prelude.{All, ◌≡◌, ◌≤◌, ◌+◌, true, [], ◌∷◌, ◌++◌, length, map, sum_by, filter_map, flat_map, IfOk, OnOk, MatchResult};
-ghost use Rattle.tcc_txn.specs.{KeyNumbers.AreNumbers, Limits.most_sessions, Limits.most_transactions, Transactions.op_key, declared.limits.TheConstants.MAX_OPERATIONS};
+ghost use Rattle.std.specs.Prelude.{All, ◌≡◌, ◌<◌, ◌≤◌, ◌+◌, ℕ, List, true, [], ◌∷◌, ◌++◌, drop, length, map, sum_by, filter_map, flat_map, IfOk, OnOk, MatchResult};
+ghost use Rattle.tcc_txn.specs.{KeyNumbers.AreNumbers, KeyNumbers.name_at, Limits.most_sessions, Limits.most_transactions, Transactions.op_key, declared.limits.TheConstants.MAX_OPERATIONS};
 ghost use Rattle.tcc_reads.specs.{Faults.read_faults, Refusals.IsRefusal, private.KeyIndices.keys_used, private.Numbers.IsPlace, private.Numbers.numbered};
-ghost use Rattle.tcc_reads.specs.History.{initial, count, places_of};
+ghost use Rattle.tcc_reads.specs.History.{initial, count};
+ghost use Rattle.tcc_reads.specs.Indexed.{IsWithin, entry_of, entries_of, named};
 ghost use Rattle.tcc_reads.specs.Sources.{name_cmp, pair_cmp, key_put, sorted_once, writes_of, history};
 ghost use Rattle.tcc_reads.specs.private.Verdicts.{writers_in, AreOwn, AreOwnIn, faults_found, entries_found};
 
 use crate::judging::judge;
+use crate::keys::Keys;
 use crate::numbering::{self, session_names, visit};
 use crate::sorting::sorted_once;
 use crate::standing::{Place, Standing};
-use crate::writers::{FirstWrites, first_writes};
-use crate::{LargeResolved, ReadFault, ResolveFault, Resolved, Transaction};
+use crate::writers::{FirstWrites, fill_keys, first_writes};
+use crate::{Indexed, LargeResolved, ReadFault, ResolveFault, Resolved};
 use std::alloc::{AllocError, Global};
-use tcc_txn::{Bounds, LargeSnapshot, Name, NoMemory, Op, Snapshot, SnapshotWithin};
+use tcc_txn::{Bounds, LargeSnapshot, NoMemory, Op, Snapshot, SnapshotWithin};
 
-/// The keys that some operations write, in order, each once.
-fn written_keys(alloc: Global, ops: &[Op]) -> Result<Vec<Name>, AllocError>
-    ensures { IfOk result (λ keys. keys.items ≡ sorted_once name_cmp (filter_map key_put ops.now)) }
+/// The indices of the keys that some operations write, in order, each once.
+fn written_keys(
+    alloc: Global,
+    keys: &Keys,
+    ops: &[Op],
+    indices: &[u32],
+) -> Result<Vec<u32>, NoMemory>
+    requires { AreNumbers keys.now indices.now (map op_key ops.now) }
+    ensures names { IfOk result (λ written. map (name_at keys.now) written.items ≡ sorted_once name_cmp (filter_map key_put ops.now)) }
+    ensures within { IfOk result (λ written. All (λ k. k < length keys.now) written.items) }
 {
-    let mut keys = Vec::new(alloc);
-    for op in ops {
-        if let Op::Put { key, .. } = op {
-            keys.push(*key)?;
-        }
-    }
-    Ok(sorted_once(keys))
+    keys.are_sorted();
+    let mut written = Vec::new(alloc);
+    fill_keys(&mut written, keys, ops, indices)?;
+    Ok(sorted_once(written))
 }
 
-/// A committed transaction of these operations with its external reads.
+/// The indices of keys that are read, each with its source, in order, each pair once.
+fn reads_in_order(keys: &Keys, reads: Vec<(u32, u32)>) -> Vec<(u32, u32)>
+    requires { All (λ read. read.0 < length keys.now) reads.items }
+    ensures names { named keys.now result.items ≡ sorted_once pair_cmp (named keys.now reads.items) }
+    ensures within { All (λ read. read.0 < length keys.now) result.items }
+{
+    keys.are_sorted();
+    sorted_once(reads)
+}
+
+/// A committed transaction of these operations, by the indices of their keys, with its external reads.
 pub(crate) fn transaction(
     alloc: Global,
+    keys: &Keys,
     standing: &Standing<'_>,
     ops: &[Op],
-    reads: Vec<(Name, u32)>,
-) -> Result<Transaction, AllocError>
-    requires { ops.now ≡ standing.now.stand.txn.ops }
-    ensures { IfOk result (λ transaction. transaction ≡ record {
+    indices: &[u32],
+    reads: Vec<(u32, u32)>,
+) -> Result<Indexed, NoMemory>
+    requires ops { ops.now ≡ standing.now.stand.txn.ops }
+    requires indices { AreNumbers keys.now indices.now (map op_key ops.now) }
+    requires within { All (λ read. read.0 < length keys.now) reads.items }
+    ensures entry { IfOk result (λ transaction. entry_of keys.now transaction ≡ record {
       owner = standing.now.stand.session;
       place = standing.now.stand.place;
       writes = writes_of standing.now.stand;
-      reads = sorted_once pair_cmp reads.items;
+      reads = sorted_once pair_cmp (named keys.now reads.items);
     }) }
+    ensures within { IfOk result (λ transaction. IsWithin (length keys.now) transaction) }
 {
-    Ok(Transaction {
+    Ok(Indexed {
         owner: standing.session,
         place: standing.place,
-        writes: written_keys(alloc, ops)?,
-        reads: sorted_once(reads),
+        writes: written_keys(alloc, keys, ops, indices)?,
+        reads: reads_in_order(keys, reads),
     })
 }
 
@@ -58,20 +79,23 @@ fn examine_one(
     standing: &Standing<'_>,
     ops: &[Op],
     indices: &[u32],
-    transactions: &mut Vec<Transaction>,
+    transactions: &mut Vec<Indexed>,
     faults: &mut Vec<ReadFault>,
-) -> Result<(), AllocError>
+) -> Result<(), NoMemory>
     requires ops { ops.now ≡ standing.now.stand.txn.ops }
     requires few { length ops.now ≤ MAX_OPERATIONS }
     requires indices { AreNumbers first.now.writers.keys indices.now (map op_key ops.now) }
     requires own { first.now.distinct ≡ true → AreOwnIn (writers_in first.now.writers) standing.now [] ops.now }
-    ensures transactions { OnOk result (transactions.new.items ≡ transactions.old.items ++ entries_found (writers_in first.now.writers) (standing.now ∷ [])) }
+    ensures transactions { OnOk result (entries_of first.now.writers.keys transactions.new.items
+        ≡ entries_of first.now.writers.keys transactions.old.items ++ entries_found (writers_in first.now.writers) (standing.now ∷ [])) }
+    ensures within { OnOk result (All (IsWithin (length first.now.writers.keys)) transactions.old.items → All (IsWithin (length first.now.writers.keys)) transactions.new.items) }
     ensures faults { OnOk result (faults.new.items ≡ faults.old.items ++ faults_found (writers_in first.now.writers) standing.now) }
 {
     let (writers, distinct) = (&first.writers, first.distinct);
     let reads = judge(alloc, writers, distinct, standing, ops, indices, faults)?;
     if standing.txn.committed() {
-        transactions.push(transaction(alloc, standing, ops, reads)?)?;
+        let keys = writers.keys();
+        transactions.push(transaction(alloc, keys, standing, ops, indices, reads)?)?;
     }
     Ok(())
 }
@@ -79,16 +103,17 @@ fn examine_one(
 /// The initial and the committed transactions, and all faults.
 #[derive(Drop)]
 pub(crate) struct Findings {
-    pub transactions: Vec<Transaction>,
+    pub transactions: Vec<Indexed>,
     pub faults: Vec<ReadFault>,
 }
 
 /// The initial transaction alone.
-pub(crate) fn with_initial(alloc: Global) -> Result<Vec<Transaction>, AllocError>
-    ensures { IfOk result (λ transactions. transactions.items ≡ initial ∷ []) }
+pub(crate) fn with_initial(alloc: Global) -> Result<Vec<Indexed>, AllocError>
+    ensures entry { IfOk result (λ transactions. (keys : List (List ℕ)) → entries_of keys transactions.items ≡ initial ∷ []) }
+    ensures within { IfOk result (λ transactions. (n : ℕ) → All (IsWithin n) transactions.items) }
 {
     let mut transactions = Vec::new(alloc);
-    transactions.push(Transaction {
+    transactions.push(Indexed {
         owner: 0,
         place: 0,
         writes: Vec::new(alloc),
@@ -106,8 +131,9 @@ pub(crate) fn examine<B: Bounds>(
     requires places { All (IsPlace snapshot.now) places.now }
     requires indices { AreNumbers first.now.writers.keys first.now.indices.items (keys_used (numbered snapshot.now places.now)) }
     requires own { first.now.distinct ≡ true → AreOwn (writers_in first.now.writers) (numbered snapshot.now places.now) }
-    ensures transactions { IfOk result (λ found. found.transactions.items
+    ensures transactions { IfOk result (λ found. entries_of first.now.writers.keys found.transactions.items
         ≡ initial ∷ entries_found (writers_in first.now.writers) (numbered snapshot.now places.now)) }
+    ensures within { IfOk result (λ found. All (IsWithin (length first.now.writers.keys)) found.transactions.items) }
     ensures faults { IfOk result (λ found. found.faults.items ≡ flat_map (faults_found (writers_in first.now.writers)) (numbered snapshot.now places.now)) }
 {
     let mut transactions = with_initial(alloc)?;
@@ -135,11 +161,8 @@ pub(crate) fn examine<B: Bounds>(
 }
 
 /// Session's index and place from number 1 on.
-pub(crate) fn places(
-    alloc: Global,
-    transactions: &[Transaction],
-) -> Result<Vec<(u32, u32)>, AllocError>
-    ensures { IfOk result (λ places. places.items ≡ places_of transactions.now) }
+pub(crate) fn places(alloc: Global, transactions: &[Indexed]) -> Result<Vec<(u32, u32)>, AllocError>
+    ensures { IfOk result (λ places. places.items ≡ map (λ p. (p.owner, p.place)) (drop 1 transactions.now)) }
 {
     transactions
         .iter()
@@ -170,6 +193,7 @@ fn resolve_within<B: Bounds>(
         let places = places(alloc, &transactions)?;
         Ok(LargeResolved {
             sessions,
+            keys: first.writers.into_keys().into_names(),
             places,
             transactions,
         })
@@ -193,7 +217,8 @@ pub fn resolve(alloc: Global, snapshot: &Snapshot) -> Result<Resolved, ResolveFa
         (IsRefusal snapshot.now) }
 {
     let large = resolve_within(alloc, snapshot)?;
-    Ok(Resolved { large })
+    let named = large.named(alloc)?;
+    Ok(Resolved { large, named })
 }
 
 /// Finds the source of each external read of a large snapshot's committed transactions, or else all faults.

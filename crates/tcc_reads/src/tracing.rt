@@ -4,7 +4,7 @@ ghost use Rattle.std.specs.BTreeSet.{contains};
 ghost use Rattle.std.specs.List.{list_any};
 ghost use Rattle.tcc_txn.specs.{KeyNumbers.AreNumbers, Transactions.op_key};
 ghost use Rattle.tcc_txn.specs.declared.limits.TheConstants.{MAX_OPERATIONS};
-ghost use Rattle.tcc_reads.specs.{History.initial, Sources.pair_cmp, Faults.read_faults, private.KeyIndices.keys_used, private.Numbers.IsPlace, private.Numbers.numbered, private.Verdicts.writers_in, private.Verdicts.entries_found, private.Tracings.entries_traced, private.Tracings.is_outside};
+ghost use Rattle.tcc_reads.specs.{History.initial, Indexed.IsWithin, Indexed.entries_of, Sources.pair_cmp, Faults.read_faults, private.KeyIndices.keys_used, private.Numbers.IsPlace, private.Numbers.numbered, private.Verdicts.writers_in, private.Verdicts.entries_found, private.Tracings.entries_traced, private.Tracings.is_outside};
 ghost use Rattle.tcc_reads.specs.Traced.{is_duplicate, is_rewrite, is_unique, traced_history};
 
 use crate::judging::trace;
@@ -12,7 +12,7 @@ use crate::numbering::{self, session_names, visit};
 use crate::resolver::{Findings, examine, places, transaction, with_initial};
 use crate::standing::{Place, Standing};
 use crate::writers::{FirstWrites, first_writes};
-use crate::{LargeResolved, ReadFault, ReadFaultKind, Transaction};
+use crate::{Indexed, LargeResolved, ReadFault, ReadFaultKind};
 use std::alloc::{AllocError, Global};
 use std::collections::BTreeSet;
 use tcc_txn::{Bounds, Name, NoMemory, Op, SnapshotWithin};
@@ -69,17 +69,19 @@ fn trace_one(
     standing: &Standing<'_>,
     ops: &[Op],
     indices: &[u32],
-    transactions: &mut Vec<Transaction>,
-) -> Result<(), AllocError>
+    transactions: &mut Vec<Indexed>,
+) -> Result<(), NoMemory>
     requires ops { ops.now ≡ standing.now.stand.txn.ops }
     requires few { length ops.now ≤ MAX_OPERATIONS }
     requires indices { AreNumbers first.now.writers.keys indices.now (map op_key ops.now) }
-    ensures { OnOk result (transactions.new.items ≡ transactions.old.items
+    ensures transactions { OnOk result (entries_of first.now.writers.keys transactions.new.items ≡ entries_of first.now.writers.keys transactions.old.items
         ++ entries_traced (writers_in first.now.writers) (is_outside rewrites.now) (standing.now ∷ [])) }
+    ensures within { OnOk result (All (IsWithin (length first.now.writers.keys)) transactions.old.items → All (IsWithin (length first.now.writers.keys)) transactions.new.items) }
 {
     if standing.txn.committed() {
         let reads = trace(alloc, &first.writers, rewrites, standing, ops, indices)?;
-        transactions.push(transaction(alloc, standing, ops, reads)?)?;
+        let keys = first.writers.keys();
+        transactions.push(transaction(alloc, keys, standing, ops, indices, reads)?)?;
     }
     Ok(())
 }
@@ -91,11 +93,12 @@ fn trace_all<B: Bounds>(
     rewrites: &BTreeSet<(Name, u64)>,
     snapshot: &SnapshotWithin<B>,
     places: &[Place],
-) -> Result<Vec<Transaction>, NoMemory>
+) -> Result<Vec<Indexed>, NoMemory>
     requires places { All (IsPlace snapshot.now) places.now }
     requires indices { AreNumbers first.now.writers.keys first.now.indices.items (keys_used (numbered snapshot.now places.now)) }
-    ensures { IfOk result (λ traced. traced.items
+    ensures transactions { IfOk result (λ traced. entries_of first.now.writers.keys traced.items
         ≡ initial ∷ entries_traced (writers_in first.now.writers) (is_outside rewrites.now) (numbered snapshot.now places.now)) }
+    ensures within { IfOk result (λ traced. All (IsWithin (length first.now.writers.keys)) traced.items) }
 {
     let mut transactions = with_initial(alloc)?;
     let mut ops = Vec::new(alloc);
@@ -127,9 +130,11 @@ fn keep_traced<B: Bounds>(
 ) -> Result<(), NoMemory>
     requires places { All (IsPlace snapshot.now) places.now }
     requires indices { AreNumbers first.now.writers.keys first.now.indices.items (keys_used (numbered snapshot.now places.now)) }
-    requires found { found.old.transactions.items ≡ initial ∷ entries_found (writers_in first.now.writers) (numbered snapshot.now places.now) }
-    ensures transactions { OnOk result (found.new.transactions.items
+    requires found { entries_of first.now.writers.keys found.old.transactions.items ≡ initial ∷ entries_found (writers_in first.now.writers) (numbered snapshot.now places.now) }
+    requires within { All (IsWithin (length first.now.writers.keys)) found.old.transactions.items }
+    ensures transactions { OnOk result (entries_of first.now.writers.keys found.new.transactions.items
         ≡ initial ∷ entries_traced (writers_in first.now.writers) (is_unique found.old.faults.items) (numbered snapshot.now places.now)) }
+    ensures within { OnOk result (All (IsWithin (length first.now.writers.keys)) found.new.transactions.items) }
     ensures faults { found.new.faults.items ≡ found.old.faults.items }
 {
     let rewrites = rewrites(alloc, &found.faults)?;
@@ -156,6 +161,7 @@ pub fn resolve_traced<B: Bounds>(
     let places = places(alloc, &found.transactions)?;
     let history = LargeResolved {
         sessions,
+        keys: first.writers.into_keys().into_names(),
         places,
         transactions: found.transactions,
     };

@@ -1,16 +1,20 @@
-//! Transactions of a resolved history.
-ghost use Rattle.std.specs.Prelude.{◌≡◌};
+//! Transactions of a resolved history by the names of their keys.
+ghost use Rattle.std.specs.Prelude.{◌≡◌, ◌<◌, All, IfOk, length, map};
+ghost use Rattle.tcc_txn.specs.KeyNumbers.{name_at};
+ghost use Rattle.tcc_reads.specs.Indexed.{IsWithin, entry_of, named};
 
+use crate::Indexed;
+use std::alloc::Global;
 use std::marker::Model;
-use tcc_txn::Name;
+use tcc_txn::{Name, NoMemory};
 
 /// A committed transaction, or the initial one.
 #[derive(Drop)]
 pub struct Transaction {
-    pub(crate) owner: u32,
-    pub(crate) place: u32,
-    pub(crate) writes: Vec<Name>,
-    pub(crate) reads: Vec<(Name, u32)>,
+    owner: u32,
+    place: u32,
+    writes: Vec<Name>,
+    reads: Vec<(Name, u32)>,
 }
 
 impl Model for Transaction {
@@ -21,7 +25,52 @@ impl Model for Transaction {
     ghost view = { λ t. record { owner = t.owner; place = t.place; writes = t.writes.items; reads = t.reads.items } };
 }
 
+/// The keys at these indices.
+fn names_at(alloc: Global, keys: &[Name], indices: &[u32]) -> Result<Vec<Name>, NoMemory>
+    requires { All (λ k. k < length keys.now) indices.now }
+    ensures { IfOk result (λ names. names.items ≡ map (name_at keys.now) indices.now) }
+{
+    let mut names = Vec::with_capacity(alloc, indices.len())?;
+    for index in indices {
+        names.push(keys[*index as usize])?;
+    }
+    Ok(names)
+}
+
+/// Reads by the names of the keys, each with its source.
+fn named_reads(
+    alloc: Global,
+    keys: &[Name],
+    reads: &[(u32, u32)],
+) -> Result<Vec<(Name, u32)>, NoMemory>
+    requires { All (λ read. read.0 < length keys.now) reads.now }
+    ensures { IfOk result (λ names. names.items ≡ named keys.now reads.now) }
+{
+    let mut names = Vec::with_capacity(alloc, reads.len())?;
+    for (index, source) in reads {
+        names.push((keys[*index as usize], *source))?;
+    }
+    Ok(names)
+}
+
 impl Transaction {
+    /// The transaction by the names of these keys.
+    pub(crate) fn of(
+        alloc: Global,
+        keys: &[Name],
+        indexed: &Indexed,
+    ) -> Result<Transaction, NoMemory>
+        requires { IsWithin (length keys.now) indexed.now }
+        ensures { IfOk result (λ transaction. transaction ≡ entry_of keys.now indexed.now) }
+    {
+        Ok(Transaction {
+            owner: indexed.owner(),
+            place: indexed.place(),
+            writes: names_at(alloc, keys, indexed.writes())?,
+            reads: named_reads(alloc, keys, indexed.reads())?,
+        })
+    }
+
     /// The index of its session.
     pub fn owner(&self) -> u32
         ensures { result ≡ self.now.owner }

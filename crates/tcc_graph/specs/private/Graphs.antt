@@ -9,7 +9,8 @@ use Rattle.tcc_graph.specs.Relations.{reads_from}
 use Rattle.tcc_graph.specs.Readings.{AreReadings}
 use Rattle.tcc_graph.specs.Keys.{keys}
 use Rattle.tcc_graph.specs.private.Grouped.{of_group}
-use Rattle.tcc_graph.specs.private.ReadTables.{over, HasSources, HasReadsInOrder, Indexed, AreIndexed, IsIndexTable}
+use Rattle.tcc_reads.specs.Indexed.{Indexed}
+use Rattle.tcc_graph.specs.private.ReadTables.{over, HasSources, HasReadsInOrder, AreIndexed, IsIndexTable}
 use Rattle.tcc_graph.specs.private.KeyRows.{KeyRow, IsKeyTable}
 
 -- the tables are those of these transactions

@@ -1,8 +1,9 @@
 -- What transactions write and read by the indices of the keys, and the table of who reads from whom.
-use Rattle.std.specs.Prelude.{ℕ, ◌<◌, ◌≤◌, ◌≡◌, ◌==◌, List, [], ◌++◌, length, map, filter, slice_index_or, All}
+use Rattle.std.specs.Prelude.{ℕ, ◌<◌, ◌≤◌, ◌≡◌, ◌==◌, Bool, true, false, List, [], ◌++◌, length, map, filter, slice_index_or, All}
 use Rattle.tcc_txn.specs.declared.limits.TheConstants.{LARGE_COUNT}
 use Rattle.std.specs.List.Sorted.{IsStrictlySortedBy}
 use Rattle.tcc_reads.specs.History.{Entry, History, IsBySession, initial}
+use Rattle.tcc_reads.specs.Indexed.{Indexed, entries_of, named}
 use Rattle.tcc_reads.specs.Sources.{pair_cmp}
 use Rattle.tcc_graph.specs.private.Grouped.{as_group, groups}
 use Rattle.tcc_graph.specs.KeyIndices.{name_of}
@@ -26,30 +27,12 @@ pub record IsSourceTable (count : ℕ) (reads : ℕ → List (ℕ × ℕ)) (n : 
 abbrev pub over : List Entry → History
 over entries = record { sessions = []; entries = entries }
 
--- a transaction, with what it writes and reads by the indices of the keys
-pub record Indexed : Type 0 where
-  pub owner : ℕ
-  pub place : ℕ
-  pub writes : List ℕ
-  pub reads : List (ℕ × ℕ)
-
 -- `init`
 abbrev pub unindexed : Indexed
 unindexed = record { owner = 0; place = 0; writes = []; reads = [] }
 
 abbrev pub indexed_of : List Indexed → ℕ → Indexed
 indexed_of indexed n = slice_index_or indexed n unindexed
-
--- reads by the names of the keys
-abbrev pub named : List (List ℕ) → List (ℕ × ℕ) → List (List ℕ × ℕ)
-named names reads = map (λ read. (name_of names read.0, read.1)) reads
-
--- the transaction by the names of the keys
-abbrev pub entry_of : List (List ℕ) → Indexed → Entry
-entry_of names p = record { owner = p.owner; place = p.place; writes = map (name_of names) p.writes; reads = named names p.reads }
-
-abbrev pub entries_of : List (List ℕ) → List Indexed → List Entry
-entries_of names indexed = map (entry_of names) indexed
 
 -- the history of these sessions and transactions
 abbrev pub history_of : List (List ℕ) → List (List ℕ) → List Indexed → History
@@ -63,6 +46,15 @@ pub record IsIndexed (names : List (List ℕ)) (e : Entry) (p : Indexed) : Type 
   pub reads : named names p.reads ≡ e.reads
   pub writes_within : All (λ k. k < length names) p.writes
   pub reads_within : All (λ read. read.0 < length names) p.reads
+
+-- only numbers that pass are indices of its keys
+pub record UsesOnly (passes : ℕ → Bool) (p : Indexed) : Type 0 where
+  pub writes : All (λ k. passes k ≡ true) p.writes
+  pub reads : All (λ read. passes read.0 ≡ true) p.reads
+
+-- only numbers that pass are marked
+abbrev pub MarksOnly : (ℕ → Bool) → List Bool → Type 0
+MarksOnly passes marks = (k : ℕ) → k < length marks → slice_index_or marks k false ≡ true → passes k ≡ true
 
 -- each transaction is held by the indices of its keys
 pub record AreIndexed (names : List (List ℕ)) (entries : List Entry) (indexed : List Indexed) : Type 0 where

@@ -1,9 +1,11 @@
 -- How a resolved history lies in memory.
 use Rattle.std.specs.Prelude.{ℕ, ◌≡◌, ◌<◌, ◌≤◌, List, length, All, slice_index_or}
 use Rattle.std.specs.List.Sorted.{IsStrictlySortedBy}
+use Rattle.std.below.core.specs.declared.int.u32.TheConstants.{MAX}
 use Rattle.tcc_txn.specs.declared.limits.TheConstants.{LARGE_COUNT, LARGE_SESSIONS}
-use Rattle.tcc_reads.specs.History.{Entry, IsBySession, initial, places_of}
-use Rattle.tcc_reads.specs.Sources.{pair_cmp}
+use Rattle.tcc_reads.specs.History.{Entry, History, IsBySession, initial, places_of}
+use Rattle.tcc_reads.specs.Indexed.{Indexed, IsWithin}
+use Rattle.tcc_reads.specs.Sources.{name_cmp, pair_cmp}
 
 pub record IsStored (sessions : List (List ℕ)) (places : List (ℕ × ℕ)) (entries : List Entry) : Type 0 where
   pub places_again : places ≡ places_of entries
@@ -15,3 +17,15 @@ pub record IsStored (sessions : List (List ℕ)) (places : List (ℕ × ℕ)) (e
   pub sources : All (λ e. All (λ r. r.1 < length entries) e.reads) entries
   pub reads_ordered : All (λ e. IsStrictlySortedBy pair_cmp e.reads) entries
   pub ordered : IsBySession entries
+
+-- the keys stand in byte order, each once, and the transactions have indices of them
+pub record AreKeyed (keys : List (List ℕ)) (indexed : List Indexed) : Type 0 where
+  pub sorted : IsStrictlySortedBy name_cmp keys
+  pub few : length keys ≤ MAX
+  pub within : All (IsWithin (length keys)) indexed
+
+-- the transactions of a history, whose reads have sources there and stand in order
+pub record AreNamed (h : History) (named : List Entry) : Type 0 where
+  pub is : named ≡ h.entries
+  pub sources : All (λ e. All (λ r. r.1 < length h.entries) e.reads) named
+  pub reads_ordered : All (λ e. IsStrictlySortedBy pair_cmp e.reads) named

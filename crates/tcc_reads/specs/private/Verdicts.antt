@@ -173,6 +173,12 @@ source_in op (Faulty kind) = None
 source_in op (ReadsFrom number) = Some (op_key op, number)
 source_in op Silent = None
 
+-- the index of the key and the source of an external read of this key
+abbrev pub read_in : ℕ → OpJudgement → Option (ℕ × ℕ)
+read_in index (Faulty kind) = None
+read_in index (ReadsFrom number) = Some (index, number)
+read_in index Silent = None
+
 abbrev pub fault_found : Writes → Numbered → Site → Option ReadFault
 fault_found table n site = fault_in n.stand (at site) site.op (site_judgement table n site)
 

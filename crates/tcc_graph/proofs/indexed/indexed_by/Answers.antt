@@ -8,8 +8,8 @@ use Rattle.tcc_graph.specs.Keys.{has_name, keys_of}
 use Rattle.tcc_graph.proofs.IndexedLemmas.{more_indexed}
 use Rattle.tcc_graph.proofs.indexed.indexed_by.Goals as goal
 
-pub of-requires-in-loop-transaction-clause-there : goal.of-requires-in-loop-transaction-clause-there
-of-requires-in-loop-transaction-clause-there c =
+pub index-requires-clause-there : goal.index-requires-clause-there
+index-requires-clause-there c =
     let t =
     YieldsList-turn (YieldsList-from_vec c.args.transactions.items (cc) (cc)) c.loop-transaction.yielded
     c.loop-transaction.transaction-iterator c.loop-transaction.yielded_by c.next.result c.next.new.self c.in-Some.transaction c.in-Some.is c.next.ensures.steps in
@@ -19,5 +19,5 @@ of-requires-in-loop-transaction-clause-there c =
 pub loop-transaction-preserved : goal.loop-transaction-preserved
 loop-transaction-preserved c =
     rw c.in_ok-push.ensures.items
-    (more_indexed c.args.keys.now c.loop-transaction.yielded c.loop-transaction.indexed.items c.in-Some.transaction c.in_ok-of.field-0
-    c.loop-transaction.invariant c.in_ok-of.ensures)
+    (more_indexed c.args.keys.now c.loop-transaction.yielded c.loop-transaction.indexed.items c.in-Some.transaction c.in_ok-index.field-0
+    c.loop-transaction.invariant c.in_ok-index.ensures)

@@ -4,7 +4,7 @@ use Rattle.std.proofs.lemmas.List.Elements.{All-map}
 use Rattle.tcc_reads.specs.History.{count}
 use Rattle.tcc_graph.specs.KeyIndices.{name_of}
 use Rattle.tcc_graph.specs.Keys.{keys}
-use Rattle.tcc_graph.specs.private.ReadTables.{named}
+use Rattle.tcc_reads.specs.Indexed.{named}
 use Rattle.tcc_graph.proofs.named.reads_by_name.Goals.{After-loop-key_index}
 use Rattle.tcc_graph.proofs.named.reads_by_name.Goals as goal
 

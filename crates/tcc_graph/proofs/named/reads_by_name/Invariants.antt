@@ -1,5 +1,5 @@
 use Rattle.std.proofs.Common.{◌≡◌, take}
-use Rattle.tcc_graph.specs.private.ReadTables.{named}
+use Rattle.tcc_reads.specs.Indexed.{named}
 use Rattle.tcc_graph.proofs.named.reads_by_name.Given as goal
 
 abbrev pub invariant-loop-key_index : goal.invariant-loop-key_index

@@ -1,5 +1,6 @@
-use Rattle.std.proofs.Common.{◌≡◌, ◌++◌, true, List, take, drop}
+use Rattle.std.proofs.Common.{◌≡◌, ◌<◌, ◌++◌, ℕ, true, List, All, length, take, drop}
 use Rattle.std.specs.Prelude.{filter_map}
+use Rattle.tcc_reads.specs.Indexed.{named}
 use Rattle.tcc_reads.specs.Sites.{Site, sites_from}
 use Rattle.tcc_reads.specs.private.Verdicts.{writers_in, AreOwnIn, fault_found, source_found, faults_found, sources_found}
 use Rattle.tcc_reads.proofs.judging.judge.Given as goal
@@ -11,5 +12,7 @@ invariant-loop-before l =
       writes : l.distinct ≡ true → AreOwnIn (writers_in l.writers) l.standing (take l.before l.ops) (drop l.before l.ops);
       faults : l.faults.items ++ filter_map (fault_found (writers_in l.writers) l.standing) ahead ≡ l.initial.faults.items
           ++ faults_found (writers_in l.writers) l.standing;
-      reads : l.reads.items ++ filter_map (source_found (writers_in l.writers) l.standing) ahead ≡ sources_found (writers_in l.writers) l.standing;
+      reads : named l.writers.keys l.reads.items ++ filter_map (source_found (writers_in l.writers) l.standing) ahead
+          ≡ sources_found (writers_in l.writers) l.standing;
+      within : All (λ (read : ℕ × ℕ). read.0 < length l.writers.keys) l.reads.items;
     }

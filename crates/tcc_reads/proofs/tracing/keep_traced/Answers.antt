@@ -18,6 +18,6 @@ returns-then-is_empty-clause-transactions g c =
 
 pub returns-clause-transactions : goal.returns-clause-transactions
 returns-clause-transactions g c =
-    c.in_ok-found.ensures
+    c.in_ok-found.ensures.transactions
     ∙ (λ i. initial ∷ entries_traced (writers_in c.args.first.now.writers) (λ r. not ((rw c.deref.ensures.value at (c.in_ok-rewrites.ensures r)) i))
     (numbered c.args.snapshot.now c.args.places.now))

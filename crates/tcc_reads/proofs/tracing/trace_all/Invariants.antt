@@ -1,6 +1,7 @@
-use Rattle.std.proofs.Common.{◌≡◌, ◌∷◌, ◌++◌, drop}
+use Rattle.std.proofs.Common.{◌≡◌, ◌∷◌, ◌++◌, All, length, drop}
 use Rattle.tcc_txn.specs.KeyNumbers.{AreNumbers}
 use Rattle.tcc_reads.specs.History.{initial}
+use Rattle.tcc_reads.specs.Indexed.{IsWithin, entries_of}
 use Rattle.tcc_reads.specs.private.Numbers.{numbered}
 use Rattle.tcc_reads.specs.private.KeyIndices.{keys_used}
 use Rattle.tcc_reads.specs.private.Verdicts.{writers_in}
@@ -10,6 +11,8 @@ use Rattle.tcc_reads.proofs.tracing.trace_all.Given as goal
 abbrev pub invariant-loop-place : goal.invariant-loop-place
 invariant-loop-place g l = record {
   indices : AreNumbers l.first.writers.keys l.left (keys_used (numbered l.snapshot (drop l.place-index l.places)));
-  traced : l.transactions.items ++ entries_traced (writers_in l.first.writers) (is_outside l.rewrites) (numbered l.snapshot (drop l.place-index l.places))
+  traced : entries_of l.first.writers.keys l.transactions.items
+      ++ entries_traced (writers_in l.first.writers) (is_outside l.rewrites) (numbered l.snapshot (drop l.place-index l.places))
       ≡ initial ∷ entries_traced (writers_in l.first.writers) (is_outside l.rewrites) (numbered l.snapshot l.places);
+  within : All (IsWithin (length l.first.writers.keys)) l.transactions.items;
 }

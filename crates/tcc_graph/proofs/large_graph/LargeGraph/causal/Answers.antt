@@ -3,7 +3,8 @@ use Rattle.tcc_reads.specs.History.{History}
 use Rattle.tcc_graph.specs.KeyIndices.{name_of}
 use Rattle.tcc_graph.specs.Relations.{has_items}
 use Rattle.tcc_graph.specs.private.Grouped.{of_group}
-use Rattle.tcc_graph.specs.private.ReadTables.{entries_of, history_of}
+use Rattle.tcc_reads.specs.Indexed.{entries_of}
+use Rattle.tcc_graph.specs.private.ReadTables.{history_of}
 use Rattle.tcc_graph.proofs.GraphLemmas.{names_from, has_items-map, causal_at}
 use Rattle.tcc_graph.proofs.large_graph.LargeGraph.causal.Goals as goal
 

@@ -4,7 +4,8 @@ use Rattle.tcc_reads.specs.History.{History}
 use Rattle.tcc_graph.specs.KeyIndices.{name_of}
 use Rattle.tcc_graph.specs.Relations.{reads_from}
 use Rattle.tcc_graph.specs.private.Grouped.{of_group}
-use Rattle.tcc_graph.specs.private.ReadTables.{entries_of, over}
+use Rattle.tcc_reads.specs.Indexed.{entries_of}
+use Rattle.tcc_graph.specs.private.ReadTables.{over}
 use Rattle.tcc_graph.proofs.GraphLemmas.{indices_within, index_readings, indices_order, names_from}
 use Rattle.tcc_graph.proofs.large_graph.LargeGraph.read_at.Goals as goal
 

@@ -1,6 +1,6 @@
 use Rattle.std.proofs.Common.{◌∙◌, sym}
 use Rattle.std.proofs.lemmas.List.{length-map}
-use Rattle.tcc_graph.specs.private.ReadTables.{entries_of}
+use Rattle.tcc_reads.specs.Indexed.{entries_of}
 use Rattle.tcc_graph.proofs.GraphLemmas.{key_order, key_readings}
 use Rattle.tcc_graph.proofs.large_graph.LargeGraph.readings_of.Goals as goal
 

@@ -1,6 +1,6 @@
 use Rattle.std.proofs.Common.{◌<◌, length, sym, subst}
 use Rattle.tcc_reads.specs.History.{History}
-use Rattle.tcc_graph.specs.private.ReadTables.{entries_of}
+use Rattle.tcc_reads.specs.Indexed.{entries_of}
 use Rattle.tcc_graph.proofs.IndexedLemmas.{reads_below}
 use Rattle.tcc_graph.proofs.large_graph.LargeGraph.reads_at.Goals as goal
 

@@ -3,7 +3,8 @@ use Rattle.tcc_reads.specs.History.{History}
 use Rattle.tcc_graph.specs.KeyIndices.{name_of}
 use Rattle.tcc_graph.specs.Relations.{reads_from}
 use Rattle.tcc_graph.specs.private.Grouped.{of_group}
-use Rattle.tcc_graph.specs.private.ReadTables.{entries_of, over}
+use Rattle.tcc_reads.specs.Indexed.{entries_of}
+use Rattle.tcc_graph.specs.private.ReadTables.{over}
 use Rattle.tcc_graph.proofs.GraphLemmas.{names_from, from_within}
 use Rattle.tcc_graph.proofs.large_graph.LargeGraph.reads_from_at.Goals as goal
 

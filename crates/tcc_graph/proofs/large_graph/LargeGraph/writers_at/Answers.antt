@@ -1,5 +1,5 @@
 use Rattle.std.proofs.Common.{◌∙◌}
-use Rattle.tcc_graph.specs.private.ReadTables.{entries_of}
+use Rattle.tcc_reads.specs.Indexed.{entries_of}
 use Rattle.tcc_graph.proofs.GraphLemmas.{writers_here}
 use Rattle.tcc_graph.proofs.large_graph.LargeGraph.writers_at.Goals as goal
 

@@ -1,7 +1,7 @@
 use Rattle.std.proofs.Common.{◌≡◌, ℕ, List, true}
 use Rattle.tcc_graph.specs.Keys.{has_name}
 use Rattle.tcc_graph.proofs.IndexedLemmas.{keys_read}
-use Rattle.tcc_graph.proofs.indexed.Indexed.of.Goals as goal
+use Rattle.tcc_graph.proofs.indexed.index.Goals as goal
 
 pub indexed_reads-requires-clause-there : goal.indexed_reads-requires-clause-there
 indexed_reads-requires-clause-there c =

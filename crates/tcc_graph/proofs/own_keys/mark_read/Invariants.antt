@@ -1,0 +1,10 @@
+use Rattle.std.proofs.Common.{ℕ, ◌≡◌, Bool, true, length}
+use Rattle.std.specs.Prelude.{All}
+use Rattle.tcc_graph.specs.private.ReadTables.{MarksOnly}
+use Rattle.tcc_graph.proofs.own_keys.mark_read.Given as goal
+
+abbrev pub invariant-loop-key : goal.invariant-loop-key
+invariant-loop-key l = record {
+  long : length l.marks ≡ length l.initial.marks;
+  only : (passes : ℕ → Bool) → All (λ read. passes read.0 ≡ true) l.reads → MarksOnly passes l.initial.marks → MarksOnly passes l.marks;
+}
