@@ -19,6 +19,7 @@ give (`contracts.py`, `definitions.py`, `modules.py`, `claims.py`). So have the 
 documents say about statuses and limits (`told.py`), and what names the kinds of faults (`kinds.py`). Sentences have to be short,
 and words usual (`plain.py`). The public names that callers rely on have to be there (`surface.py`), and the JSON schema of answers
 has to be that of the answers in the rows (`schema.py`). What has to be believed is in `specs/`, and nothing else is (`trust.py`).
+No file of code may see two types by one name (`names.py`).
 CHANGELOG is about the past, and is left out. No script may define a name twice at one level, and what a mutant replaces has to be
 once in its file. The man page and the completion for bash have to name each command and option of the program's help, and the
 completion to complete them. The stack that docs/GUIDE.md names has to be enough, and what documents show of the program is what it
@@ -45,6 +46,7 @@ import definitions  # noqa: E402
 import examples  # noqa: E402
 import kinds  # noqa: E402
 import modules  # noqa: E402
+import names  # noqa: E402
 import plain  # noqa: E402
 import schema  # noqa: E402
 import surface  # noqa: E402
@@ -297,6 +299,7 @@ def outcomes(tcc: List[str]) -> Iterator[Outcome]:
     yield from surface.outcomes()
     yield from schema.outcomes()
     yield from faults_of_trust()
+    yield from names.outcomes()
     yield from faults_of_scripts()
     yield from faults_of_mutants()
     if not shutil.which(tcc[0]):

@@ -28,16 +28,20 @@ fn note<B: Bounds, N: Write>(
     required: u32,
     notes: &mut N,
 )
-    ensures { AreNotesOf required found.now (N.contents notes.old) (N.contents notes.new) }
+    ensures { AreNotesOf required snapshot.now found.now (N.contents notes.old) (N.contents notes.new) }
 {
     match found {
         FullAnswer::Answered(Answer::Commit(commit)) => {
-            note_order(alloc, commit.order(), required, notes)
+            note_order(alloc, commit.order(), required, notes);
         }
-        FullAnswer::Decided(Decision::Order(order)) => note_order(alloc, order, required, notes),
+        FullAnswer::Decided(Decision::Order(order)) => {
+            note_order(alloc, order, required, notes);
+        }
         FullAnswer::Answered(Answer::Anomaly(_))
         | FullAnswer::Decided(Decision::Least(_) | Decision::Cycle(_)) => {}
-        FullAnswer::Unresolved(faults) => note_reads(alloc, snapshot, faults, notes),
+        FullAnswer::Unresolved(faults) => {
+            note_reads(alloc, snapshot, faults, notes);
+        }
     }
 }
 

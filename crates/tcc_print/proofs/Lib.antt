@@ -8,4 +8,5 @@ pub mod LastSaid
 pub mod Saying
 pub mod AtMoments
 pub mod Noted
+mod RowNotes
 mod FirstWrites

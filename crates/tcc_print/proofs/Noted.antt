@@ -1,14 +1,8 @@
 -- What notes add to what went out before.
-use Rattle.std.proofs.Common.{◌≡◌, ℕ, List, [], ◌∷◌, ◌++◌, Option, Result, Ok, Err, refl, take}
+use Rattle.std.proofs.Common.{ℕ, List, [], ◌∷◌, ◌++◌, Option, take}
 use Rattle.std.proofs.KnownBytes.{Appends-nil, Appends-trans}
-use Rattle.std.specs.Prelude.{IfOk}
-use Rattle.tcc_print.specs.Notes.{IsNoted, AddsNotes, AddsEach}
-
--- whatever was made of a note, what went out stands behind what was there
-pub added : {A E : Type 0} (items : A → List ℕ) (made : Result A E) (before after : Option (List ℕ))
-    → ((text : List ℕ) → IfOk made (λ bytes. items bytes ≡ text) → IsNoted before after text) → AddsNotes before after
-added items (Ok bytes) before after said = let noted = said (items bytes) refl in (take noted.0 (items bytes), noted.1)
-added items (Err e) before after said = let noted = said [] tt in (take noted.0 [], noted.1)
+use Rattle.std.specs.Io.KnownBytes.{Appends}
+use Rattle.tcc_print.specs.Notes.{IsNoted, AddsAll, AddsNotes, AddsEach}
 
 pub none_added : (before : Option (List ℕ)) → AddsNotes before before
 none_added before = ([], Appends-nil before)
@@ -23,6 +17,12 @@ pub noted_more : (before between after : Option (List ℕ)) (texts : List (List 
 noted_more before between after [] text none more =
     (after, (more.0, Appends-trans before between after [] (take more.0 text) none more.1), Appends-nil after)
 noted_more before between after (t ∷ ts) text some more = (some.0, some.1, noted_more some.0 between after ts text some.2 more)
+
+-- all of these notes, and one behind them
+pub all_more : (before between after : Option (List ℕ)) (texts : List (List ℕ)) (text : List ℕ) → AddsAll before between texts
+    → Appends between after text → AddsAll before after (texts ++ text ∷ [])
+all_more before between after [] text none more = (after, Appends-trans before between after [] text none more, Appends-nil after)
+all_more before between after (t ∷ ts) text some more = (some.0, some.1, all_more some.0 between after ts text some.2 more)
 
 -- whatever these notes are, bytes stand behind what was there
 pub noted_added : (before after : Option (List ℕ)) (texts : List (List ℕ)) → AddsEach before after texts → AddsNotes before after

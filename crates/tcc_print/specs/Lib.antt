@@ -9,4 +9,5 @@ pub mod Halts
 pub mod Printed
 pub mod Large
 pub mod Notes
+pub mod RowNotes
 pub mod private

@@ -26,6 +26,11 @@ abbrev pub AddsEach : Option (List ℕ) → Option (List ℕ) → List (List ℕ
 AddsEach before after [] = Appends before after []
 AddsEach before after (text ∷ texts) = (between : Option (List ℕ)) × IsNoted before between text × AddsEach between after texts
 
+-- all of these notes went out, one behind the other
+abbrev pub AddsAll : Option (List ℕ) → Option (List ℕ) → List (List ℕ) → Type 0
+AddsAll before after [] = Appends before after []
+AddsAll before after (text ∷ texts) = (between : Option (List ℕ)) × Appends before between text × AddsAll between after texts
+
 -- --require N: only M transactions
 abbrev pub too_few_text : ℕ → ℕ → List ℕ
 too_few_text required transactions =

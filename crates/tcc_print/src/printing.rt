@@ -103,6 +103,7 @@ pub fn print_device<W: Write>(out: &mut W, json: bool) -> u8
 pub fn send_made<W: Write>(made: Made, json: bool, out: &mut W) -> Sent
     ensures whole { (text : List ℕ) → IfOk made (λ bytes. bytes.items ≡ text) → OnOk result (Appends (W.contents out.old) (W.contents out.new) text) }
     ensures ended { (text : List ℕ) → IfOk made (λ bytes. bytes.items ≡ text) → IfErr result (EndsIn json (W.contents out.old) (W.contents out.new) text) }
+    ensures made { IfOk made (λ bytes. IfErr result (CutsOff (W.contents out.old) (W.contents out.new) bytes.items)) }
 {
     match made {
         Ok(text) => send_text(out, &text),

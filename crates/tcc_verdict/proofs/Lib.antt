@@ -1,3 +1,4 @@
 pub mod Checked
 pub mod Shown
 pub mod NotesLemmas
+mod FieldsLemmas

@@ -1,11 +1,10 @@
 -- What is noted of a snapshot, from what is noted of the answer of its resolver.
-use Rattle.std.proofs.Common.{◌≡◌, ℕ, List, [], ◌∷◌, Option, None, Some, Result, Ok, Err, refl, sym, subst, zero, append-nil}
+use Rattle.std.proofs.Common.{ℕ, List, [], ◌∷◌, Option, Err, subst}
 use Rattle.std.proofs.KnownBytes.{Appends-nil}
 use Rattle.std.specs.Io.KnownBytes.{Appends}
 use Rattle.tcc_txn.specs.Snapshots.{Sessions}
 use Rattle.tcc_reads.specs.Faults.{read_faults}
 use Rattle.tcc_reads.specs.Refusals.{IsRefusal}
-use Rattle.tcc_reads.specs.declared.fault.ReadFault.{ReadFault}
 use Rattle.tcc_reads.specs.declared.fault.ResolveFault.{ResolveFault}
 use Rattle.tcc_reads.specs.declared.fault.ResolveFault.TheVariants as refusal
 use Rattle.tcc_print.specs.Notes.{AddsEach, read_notes, resolved_notes}

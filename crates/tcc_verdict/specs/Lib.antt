@@ -1,3 +1,4 @@
 pub mod Checking
 pub mod Checks
+pub mod Stopping
 pub mod private

@@ -1,8 +1,8 @@
 //! The run of a check, whatever history it makes of the records and however it judges a certificate.
 ghost use Rattle.std.specs.Prelude.{◌≡◌, Ok, IfSome, MatchResult};
-ghost use Rattle.tcc_rows.specs.Recordings.{IsRecorded};
+ghost use Rattle.tcc_rows.specs.{Lines.Record, Recordings.IsRecorded};
 ghost use Rattle.tcc_verdict.specs.Checking.{IsCheckRunBy, MayBe, PrintsOutcome};
-ghost use Rattle.tcc_verdict.specs.private.Stages.{IsMadeOf};
+ghost use Rattle.tcc_verdict.specs.{Stopping.NotesStop, private.Stages.IsMadeOf};
 
 use crate::stopping::note_stop;
 use std::alloc::Global;
@@ -63,8 +63,10 @@ pub fn recorded<R: Read + Drop, B: Bounds, N: Write>(
     reader: R,
     notes: &mut N,
 ) -> Result<RecordingWithin<R, B>, RowFault>
-    ensures { IfSome (R.remaining reader) (λ text. MatchResult result
+    ensures recorded { IfSome (R.remaining reader) (λ text. MatchResult result
         (λ recording. IsRecorded B.limits text (Ok recording.snapshot)) (λ fault. IsRecorded B.limits text (Err fault))) }
+    ensures noted { MatchResult result (λ _. N.contents notes.new ≡ N.contents notes.old)
+        (λ fault. (last : Record) × NotesStop B.limits fault last (N.contents notes.old) (N.contents notes.new)) }
 {
     let Ok(recording) = RecordingWithin::<R, B>::new(alloc, reader) else {
         return Err(RowFault {

@@ -1,19 +1,21 @@
 //! What stands where a record has a fault, by the kind of the fault.
+ghost use Rattle.std.specs.Prelude.{◌≡◌, ◌++◌, OnOk};
+ghost use Rattle.tcc_print.specs.RowNotes.{expected_text, limit_text, most_text, shown_of, stands_text, wider, word_stands};
 
+use std::alloc::Global;
+use tcc_answer::pieces::push;
 use tcc_rows::RowFaultKind;
-use tcc_txn::{Limits, MAX_OPERATIONS, MAX_SEALS};
+use tcc_txn::{Limits, MAX_OPERATIONS, MAX_SEALS, NoMemory};
 
-/// What stands where a record has a fault.
+/// What the note of a fault shows of the record.
 #[derive(Clone, Copy)]
-pub(super) enum Mending {
-    /// In the place of its field with this number, from 0.
-    Field(usize, &'static str),
-    /// In the place of the whole record.
-    Record(&'static str),
-    /// At most so many of these.
-    Limit(u64, &'static str),
-    /// In the place of the end of the input, or of what could not be read.
-    Input(&'static str),
+pub(super) enum Shown {
+    /// The field at this place, from 0.
+    Field(usize),
+    /// All of it.
+    Record,
+    /// Nothing: the fault is one of the input.
+    Nothing,
 }
 
 const NAME: &str = "a name, which is 1 to 32 of A-Z, a-z, 0-9, '_', '.' and '-'";
@@ -21,74 +23,150 @@ const NAME: &str = "a name, which is 1 to 32 of A-Z, a-z, 0-9, '_', '.' and '-'"
 const RECORD: &str =
     "SESSION,begin or SESSION,r,KEY,VALUE or SESSION,w,KEY,VALUE or SESSION,commit or SESSION,abort or seal";
 
+/// What is shown of a record of so many fields with a fault of this kind.
+pub(super) fn shown_of(kind: &RowFaultKind, fields: usize) -> Shown
+    ensures { result ≡ shown_of kind.now fields }
+{
+    match kind {
+        RowFaultKind::BadSession => Shown::Field(0),
+        RowFaultKind::UnknownWord if fields != 1 => Shown::Field(1),
+        RowFaultKind::BadKey => Shown::Field(2),
+        RowFaultKind::BadValue | RowFaultKind::WriteOfZero => Shown::Field(3),
+        RowFaultKind::Unfinished { .. } | RowFaultKind::NoMemory => Shown::Nothing,
+        RowFaultKind::FieldCount
+        | RowFaultKind::UnknownWord
+        | RowFaultKind::SessionEnded
+        | RowFaultKind::NotBegun
+        | RowFaultKind::AlreadyBegun
+        | RowFaultKind::TooManyOps
+        | RowFaultKind::TooManySessions
+        | RowFaultKind::TooManyTransactions
+        | RowFaultKind::TooManyKeys
+        | RowFaultKind::TooManySeals
+        | RowFaultKind::Read => Shown::Record,
+    }
+}
+
 /// What stands where a record of so many fields has an unknown word.
-fn word_of(fields: usize) -> Mending {
+fn word_stands(fields: usize) -> &'static str
+    ensures { result.now ≡ word_stands fields }
+{
     match fields {
-        1 => Mending::Record(RECORD),
-        2 => Mending::Field(1, "begin, commit or abort, or r or w with KEY and VALUE"),
-        4 => Mending::Field(1, "r or w, or begin, commit or abort without KEY and VALUE"),
-        _ => Mending::Field(1, "begin, r, w, commit, abort or seal"),
+        1 => RECORD,
+        2 => "begin, commit or abort, or r or w with KEY and VALUE",
+        4 => "r or w, or begin, commit or abort without KEY and VALUE",
+        _ => "begin, r, w, commit, abort or seal",
     }
 }
 
 /// What a limit is of: where there is a wider one, it says by which option.
-fn wider(limits: Limits, small: &'static str, large: &'static str) -> &'static str {
+fn wider(limits: Limits, small: &'static str, large: &'static str) -> &'static str
+    ensures { result.now ≡ wider limits small.now large.now }
+{
     match limits {
         Limits::Small => small,
         Limits::Large => large,
     }
 }
 
-/// What stands where a record of so many fields has a fault of this kind, in an input of these limits.
-pub(super) fn mending_of(kind: &RowFaultKind, fields: usize, limits: Limits) -> Mending {
+/// Adds what stands there instead.
+fn push_stands(text: &mut Vec<u8>, stands: &str) -> Result<(), NoMemory>
+    ensures { OnOk result (text.new.items ≡ text.old.items ++ stands_text stands.now) }
+{
+    push(text, &[b"expected ", stands.as_bytes()])
+}
+
+/// Adds that there are at most so many of these.
+fn push_most(alloc: Global, text: &mut Vec<u8>, most: u64, things: &str) -> Result<(), NoMemory>
+    ensures { OnOk result (text.new.items ≡ text.old.items ++ most_text most things.now) }
+{
+    let most = most.to_string(alloc)?;
+    push(
+        text,
+        &[b"at most ", most.as_bytes(), b" ", things.as_bytes()],
+    )
+}
+
+/// Adds what a limit of an input is, that of a record's fault.
+fn push_limit(
+    alloc: Global,
+    text: &mut Vec<u8>,
+    limits: Limits,
+    kind: &RowFaultKind,
+) -> Result<(), NoMemory>
+    ensures { OnOk result (text.new.items ≡ text.old.items ++ limit_text limits kind.now) }
+{
     match kind {
-        RowFaultKind::FieldCount => Mending::Record(RECORD),
-        RowFaultKind::BadSession => Mending::Field(0, NAME),
-        RowFaultKind::UnknownWord => word_of(fields),
-        RowFaultKind::BadKey => Mending::Field(2, NAME),
-        RowFaultKind::BadValue => Mending::Field(
-            3,
-            "a whole number up to 18446744073709551615, in digits without a leading 0",
-        ),
-        RowFaultKind::WriteOfZero => Mending::Field(3, "a value other than the initial 0"),
-        RowFaultKind::SessionEnded => {
-            Mending::Record(
-                "another session, since this one ended by a transaction of unknown outcome",
-            )
+        RowFaultKind::TooManySessions => {
+            let things = wider(limits, "sessions, see --large", "sessions");
+            push_most(alloc, text, limits.sessions() as u64, things)
         }
-        RowFaultKind::NotBegun => {
-            Mending::Record("begin first, since no transaction of the session is begun")
-        }
-        RowFaultKind::AlreadyBegun => {
-            Mending::Record("commit or abort first, since a transaction of the session is begun")
-        }
-        RowFaultKind::TooManyOps => {
-            Mending::Limit(MAX_OPERATIONS as u64, "operations in a transaction")
-        }
-        RowFaultKind::TooManySessions => Mending::Limit(
-            limits.sessions() as u64,
-            wider(limits, "sessions, see --large", "sessions"),
-        ),
-        RowFaultKind::TooManyTransactions => Mending::Limit(
-            limits.transactions() as u64,
-            wider(
+        RowFaultKind::TooManyTransactions => {
+            let things = wider(
                 limits,
                 "transactions, aborted ones counted, see --large",
                 "transactions, aborted ones counted",
-            ),
-        ),
-        RowFaultKind::TooManyKeys => Mending::Limit(
-            limits.keys() as u64,
-            wider(limits, "keys, see --large", "keys"),
-        ),
-        RowFaultKind::TooManySeals => Mending::Limit(MAX_SEALS as u64, "seals"),
-        RowFaultKind::Unfinished { .. } => {
-            Mending::Input("the input ends: expected commit or abort of the session")
+            );
+            push_most(alloc, text, limits.transactions() as u64, things)
         }
-        RowFaultKind::Read => Mending::Limit(
-            limits.bytes(),
-            "bytes, from a reader that does not fail",
+        RowFaultKind::TooManyKeys => {
+            let things = wider(limits, "keys, see --large", "keys");
+            push_most(alloc, text, limits.keys() as u64, things)
+        }
+        RowFaultKind::Read => {
+            let things = "bytes, from a reader that does not fail";
+            push_most(alloc, text, limits.bytes(), things)
+        }
+        RowFaultKind::TooManyOps => {
+            let things = "operations in a transaction";
+            push_most(alloc, text, MAX_OPERATIONS as u64, things)
+        }
+        RowFaultKind::TooManySeals => push_most(alloc, text, MAX_SEALS as u64, "seals"),
+        _ => Ok(()),
+    }
+}
+
+/// Adds what stands where a record of so many fields has a fault of this kind, in an input of these limits.
+pub(super) fn push_expected(
+    alloc: Global,
+    text: &mut Vec<u8>,
+    limits: Limits,
+    kind: &RowFaultKind,
+    fields: usize,
+) -> Result<(), NoMemory>
+    ensures { OnOk result (text.new.items ≡ text.old.items ++ expected_text limits kind.now fields) }
+{
+    match kind {
+        RowFaultKind::FieldCount => push_stands(text, RECORD),
+        RowFaultKind::BadSession | RowFaultKind::BadKey => push_stands(text, NAME),
+        RowFaultKind::UnknownWord => push_stands(text, word_stands(fields)),
+        RowFaultKind::BadValue => push_stands(
+            text,
+            "a whole number up to 18446744073709551615, in digits without a leading 0",
         ),
-        RowFaultKind::NoMemory => Mending::Input("out of memory"),
+        RowFaultKind::WriteOfZero => push_stands(text, "a value other than the initial 0"),
+        RowFaultKind::SessionEnded => push_stands(
+            text,
+            "another session, since this one ended by a transaction of unknown outcome",
+        ),
+        RowFaultKind::NotBegun => push_stands(
+            text,
+            "begin first, since no transaction of the session is begun",
+        ),
+        RowFaultKind::AlreadyBegun => push_stands(
+            text,
+            "commit or abort first, since a transaction of the session is begun",
+        ),
+        RowFaultKind::Unfinished { .. } => push(
+            text,
+            &[b"the input ends: expected commit or abort of the session"],
+        ),
+        RowFaultKind::NoMemory => push(text, &[b"out of memory"]),
+        RowFaultKind::TooManyOps
+        | RowFaultKind::TooManySessions
+        | RowFaultKind::TooManyTransactions
+        | RowFaultKind::TooManyKeys
+        | RowFaultKind::TooManySeals
+        | RowFaultKind::Read => push_limit(alloc, text, limits, kind),
     }
 }

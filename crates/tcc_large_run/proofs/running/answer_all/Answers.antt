@@ -43,7 +43,7 @@ returns-in-Err-clause-answers g c text recording within fresh =
     ends-fault g.R.Read.remaining (course c.args.run.now.options.now) text
     c.moments.recording c.read_on.new.recording _ _ c.moments.last (c.moments.invariant.way text recording)
     c.in-Err.fault _ c.stop.result c.in-Err.ensures.moment (c.moments.invariant.within (records_of text) within)
-    (c.in-Err.ensures.failed (c.moments.invariant.going fresh)) c.stop.ensures
+    (c.in-Err.ensures.failed (c.moments.invariant.going fresh)) c.stop.ensures.printed
 
 pub returns-clause-answers : goal.returns-clause-answers
 returns-clause-answers g c text recording within fresh =

@@ -12,4 +12,4 @@ returns-in-Ok g c bytes recording within fresh =
 pub returns-in-Err : goal.returns-in-Err
 returns-in-Err g c bytes recording within fresh =
     stopped c.args.options.now bytes g.B.Bounds.limits c.in-Err.fault _ _ c.stop.result c.requires.limits
-    (c.in-Err.ensures bytes recording within fresh) c.stop.ensures
+    (c.in-Err.ensures bytes recording within fresh) c.stop.ensures.printed
