@@ -22,7 +22,6 @@ use Rattle.tcc_least.specs.Shapes.{NoneBelow}
 use Rattle.tcc_least.proofs.LeadingBack.{init_reason}
 use Rattle.tcc_lanes.specs.Among.{HasCheaperAmong, HasCheaperIntoInit, IsAmong}
 use Rattle.tcc_lanes.specs.Contradicted.{IsSpannedAside}
-use Rattle.tcc_lanes.specs.Nearness.{IsNear}
 use Rattle.tcc_lanes.proofs.BackLemmas.{spanned_aside}
 use Rattle.tcc_lanes.proofs.NearLemmas.{near_ends}
 use Rattle.tcc_clocks.specs.Clocks.{LeadsOnward}
@@ -49,8 +48,7 @@ comes_or_never (l ∷ links) = go (cases_eq (link_to l) 0) (comes_or_never links
     go (inr other) (inr all) = inr (All-cons (λ l. link_to l ≢ 0) l links other all)
 
 -- ---- cycles that cost less
-module _ (j : Judged) (rank : ℕ → ℕ) (rises : Rises j.history rank) (none : NoneIntoInit j.history) (most : ℕ) (members key_indices : List ℕ)
-    (has_members : (v : ℕ) → IsSpannedAside j rank v → IsNear j rank most v → Contains members v)
+module _ (j : Judged) (none : NoneIntoInit j.history) (most : ℕ) (key_indices : List ℕ)
     (has_keys : (b : ℕ) (x : List ℕ) (c : ℕ) (walk : List Step) → IsReason j b 0 x c walk → (k : ℕ) × Contains key_indices k × (key_at j.history k ≡ x)) where
   -- a cycle that comes to `init` may as well begin there
   from_init : (s : ℕ) (links : List Link) → IsCycle j s links → ComesToInit links → (others : List Link) × IsCycle j 0 others × (cost others ≡ cost links)
@@ -69,62 +67,34 @@ module _ (j : Judged) (rank : ℕ → ℕ) (rises : Rises j.history rank) (none 
       comes : LinksLead j s 0 (w.front ++ w.last ∷ [])
       comes = lead_append j s split.0 0 w.front (w.last ∷ []) split.1 (split.2.0, split.2.1, w.to)
 
-  -- a cycle that costs less is among the members, or one into `init` does
-  pub among_or_into : (s : ℕ) (links : List Link) → IsCycle j s links → cost links < most → All (IsAmong members) links ⊎ HasCheaperIntoInit j key_indices most
-  among_or_into s links cycle few = go (comes_or_never links)
+  some_into : (n : ℕ) (others : List Link) → IsCycle j 0 others → cost others ≤ n + 2 → n + 2 < most → HasCheaperIntoInit j key_indices most
+  some_into n others circle low high = by (init_reason j none n others circle low)
     where
-      some : (n : ℕ) (others : List Link) → IsCycle j 0 others → cost others ≤ n + 2 → n + 2 < most → HasCheaperIntoInit j key_indices most
-      some n others circle low high = by (init_reason j none n others circle low)
-        where
-          by : HasReasonAgainstInit j n → HasCheaperIntoInit j key_indices most
-          by (b, x, c, walk, reason, short) =
-              let key = has_keys b x c walk reason in
-              (b, (key.0, c, walk, key.1, subst (λ (y : List ℕ). IsReason j b 0 y c walk) (sym key.2) reason, omega (arith, short, high)))
+      by : HasReasonAgainstInit j n → HasCheaperIntoInit j key_indices most
+      by (b, x, c, walk, reason, short) =
+          let key = has_keys b x c walk reason in
+          (b, (key.0, c, walk, key.1, subst (λ (y : List ℕ). IsReason j b 0 y c walk) (sym key.2) reason, omega (arith, short, high)))
 
-      never_two : (others : List Link) → IsCycle j 0 others → cost others ≤ 2 → ⊥
-      never_two others circle low = by (init_reason j none 0 others circle low)
-        where
-          by : HasReasonAgainstInit j 0 → ⊥
-          by (b, x, c, walk, reason, short) = omega (arith, short, reason.1.0.0)
+  never_two : (others : List Link) → IsCycle j 0 others → cost others ≤ 2 → ⊥
+  never_two others circle low = by (init_reason j none 0 others circle low)
+    where
+      by : HasReasonAgainstInit j 0 → ⊥
+      by (b, x, c, walk, reason, short) = omega (arith, short, reason.1.0.0)
 
-      go : ComesToInit links ⊎ All (λ l. link_to l ≢ 0) links → All (IsAmong members) links ⊎ HasCheaperIntoInit j key_indices most
+  -- a cycle that costs less never comes to `init`, where none does by one of the keys
+  pub never_comes : (s : ℕ) (links : List Link) → IsCycle j s links → cost links < most → (HasCheaperIntoInit j key_indices most → ⊥) → All (λ l. link_to l ≢ 0) links
+  never_comes s links cycle few into = go (comes_or_never links)
+    where
+      go : ComesToInit links ⊎ All (λ l. link_to l ≢ 0) links → All (λ l. link_to l ≢ 0) links
+      go (inr never) = never
       go (inl w) = by (from_init s links cycle w)
         where
-          by : (others : List Link) × IsCycle j 0 others × (cost others ≡ cost links) → All (IsAmong members) links ⊎ HasCheaperIntoInit j key_indices most
+          by : (others : List Link) × IsCycle j 0 others × (cost others ≡ cost links) → All (λ l. link_to l ≢ 0) links
           by (others, circle, same) = at (cases_lt 2 (cost others))
             where
-              at : (2 < cost others) ⊎ (cost others ≤ 2) → All (IsAmong members) links ⊎ HasCheaperIntoInit j key_indices most
-              at (inl more) = inr (some (cost others - 2) others circle (omega arith) (omega (arith, few, same, more)))
+              at : (2 < cost others) ⊎ (cost others ≤ 2) → All (λ l. link_to l ≢ 0) links
+              at (inl more) = absurd (into (some_into (cost others - 2) others circle (omega arith) (omega (arith, few, same, more))))
               at (inr low) = absurd (never_two others circle low)
-      go (inr never) = inl (λ i d l. among (get_or links i d) (i, l, get_or_default links i (get_or links i d) d l))
-        where
-          never_to : (d : Link) → Contains links d → link_to d ≢ 0
-          never_to d listed = subst (λ (m : Link). link_to m ≢ 0) listed.2 (never listed.0 d listed.1)
-
-          among : (l : Link) → Contains links l → IsAmong members l
-          among l there =
-              let both = spanned_aside j rank rises s links cycle never_to l there in
-              let near = near_ends j rank rises most s links cycle never_to few l there in
-              (has_members (link_from l) both.0 near.0, has_members (link_to l) both.1 near.1)
-
-  cheaper : (s : ℕ) (links : List Link) → IsCycle j s links → cost links < most → HasCheaperAmong j members most ⊎ HasCheaperIntoInit j key_indices most
-  cheaper s links cycle few = go (among_or_into s links cycle few)
-    where
-      go : All (IsAmong members) links ⊎ HasCheaperIntoInit j key_indices most → HasCheaperAmong j members most ⊎ HasCheaperIntoInit j key_indices most
-      go (inl among) = inl (s, links, cycle, among, few)
-      go (inr into) = inr into
-
-  -- no cycle costs less where neither does
-  pub none_below : (HasCheaperAmong j members most → ⊥) → (HasCheaperIntoInit j key_indices most → ⊥) → NoneBelow j most
-  none_below among into s links cycle = go (cases_lt (cost links) most)
-    where
-      by : HasCheaperAmong j members most ⊎ HasCheaperIntoInit j key_indices most → ⊥
-      by (inl is) = among is
-      by (inr is) = into is
-
-      go : (cost links < most) ⊎ (most ≤ cost links) → most ≤ cost links
-      go (inl few) = absurd (by (cheaper s links cycle few))
-      go (inr much) = much
 
 -- and each of them is a cycle that costs less
 pub below_among : (j : Judged) (members : List ℕ) (most : ℕ) → NoneBelow j most → HasCheaperAmong j members most → ⊥
@@ -208,24 +178,22 @@ module _ (h : History) (level : Level) (order positions : List ℕ) (numbering :
   -- with lists of who is spanned and near, and of the keys
   module _ (most : ℕ) (members key_indices : List ℕ) (all : (v : ℕ) → IsMember (judged h level) order positions most v → Contains members v)
       (of_keys : (k : ℕ) → IsStaleKey h k → Contains key_indices k) (there : 0 < count h) where
-    pub none_costs_less : (HasCheaperAmong (judged h level) members most → ⊥) → (HasCheaperIntoInit (judged h level) key_indices most → ⊥)
-        → NoneBelow (judged h level) most
-    none_costs_less among into =
-        none_below (judged h level) rank rises (never_into there) most members key_indices (λ v is near. all v (is_spanned there v is, near)) has_keys among into
-      where
-        has_keys : (b : ℕ) (x : List ℕ) (c : ℕ) (walk : List Step) → IsReason (judged h level) b 0 x c walk → (k : ℕ) × Contains key_indices k × (key_at h k ≡ x)
-        has_keys b x c walk reason = let key = is_stale b x c walk reason in (key.0, of_keys key.0 key.1, key.2)
+    pub named : (b : ℕ) (x : List ℕ) (c : ℕ) (walk : List Step) → IsReason (judged h level) b 0 x c walk → (k : ℕ) × Contains key_indices k × (key_at h k ≡ x)
+    named b x c walk reason = let key = is_stale b x c walk reason in (key.0, of_keys key.0 key.1, key.2)
 
-    -- and where none comes to `init`, each is among them
-    pub all_among : (HasCheaperIntoInit (judged h level) key_indices most → ⊥) → (s : ℕ) (links : List Link) → IsCycle (judged h level) s links
-        → cost links < most → All (IsAmong members) links
-    all_among into s links cycle few =
-        by (among_or_into (judged h level) rank rises (never_into there) most members key_indices (λ v is near. all v (is_spanned there v is, near)) has_keys s links
-        cycle few)
+    -- where none comes to `init`, each is among them
+    pub all_among : (s : ℕ) (links : List Link) → IsCycle (judged h level) s links → cost links < most
+        → (HasCheaperIntoInit (judged h level) key_indices most → ⊥) → All (IsAmong members) links
+    all_among s links cycle few into i d l = among (get_or links i d) (i, l, get_or_default links i (get_or links i d) d l)
       where
-        has_keys : (b : ℕ) (x : List ℕ) (c : ℕ) (walk : List Step) → IsReason (judged h level) b 0 x c walk → (k : ℕ) × Contains key_indices k × (key_at h k ≡ x)
-        has_keys b x c walk reason = let key = is_stale b x c walk reason in (key.0, of_keys key.0 key.1, key.2)
+        never : All (λ l. link_to l ≢ 0) links
+        never = never_comes (judged h level) (never_into there) most key_indices named s links cycle few into
 
-        by : All (IsAmong members) links ⊎ HasCheaperIntoInit (judged h level) key_indices most → All (IsAmong members) links
-        by (inl among) = among
-        by (inr is) = absurd (into is)
+        never_to : (d : Link) → Contains links d → link_to d ≢ 0
+        never_to d listed = subst (λ (m : Link). link_to m ≢ 0) listed.2 (never listed.0 d listed.1)
+
+        among : (l : Link) → Contains links l → IsAmong members l
+        among l listed =
+            let both = spanned_aside (judged h level) rank rises s links cycle never_to l listed in
+            let near = near_ends (judged h level) rank rises most s links cycle never_to few l listed in
+            (all (link_from l) (is_spanned there (link_from l) both.0, near.0), all (link_to l) (is_spanned there (link_to l) both.1, near.1))

@@ -1,14 +1,12 @@
 -- What the rules with an order say of a claim that no cycle costs less.
 use Rattle.std.proofs.Common.{◌≡◌, ◌≢◌, ◌<◌, ◌≤◌, ◌+◌, ◌⊎◌, ◌↔◌, ◌∙◌, inl, inr, ℕ, Bool, Option, Some, List, [], ◌∷◌, length, get_or, sym, ap, subst, arith}
 use Rattle.std.specs.Prelude.{IsTrue, false}
-use Rattle.std.specs.List.{All, AllPairs, Contains}
-use Rattle.std.proofs.lemmas.List.{get_or_default}
-use Rattle.std.proofs.lemmas.Bool.{cases_eq, false≢true}
+use Rattle.std.specs.List.{All}
+use Rattle.std.proofs.lemmas.Bool.{cases_eq, cases_lt, false≢true}
 use Rattle.tcc_reads.specs.History.{History, count}
-use Rattle.tcc_graph.specs.Keys.{keys, key_at}
-use Rattle.tcc_graph.specs.Levels.{judged}
-use Rattle.tcc_graph.specs.Links.{IsReason}
-use Rattle.tcc_graph.specs.declared.step.Step.{Step}
+use Rattle.tcc_graph.specs.Keys.{keys}
+use Rattle.tcc_graph.specs.Levels.{Judged, judged}
+use Rattle.tcc_graph.specs.Links.{cost}
 use Rattle.tcc_graph.specs.Orders.{Before}
 use Rattle.tcc_graph.specs.declared.level.Level.{Level}
 use Rattle.tcc_cert.specs.declared.large.LinksClaim.{LinksClaim}
@@ -26,16 +24,17 @@ use Rattle.tcc_check.proofs.Asked.{answer_later}
 use Rattle.tcc_check.specs.declared.verdict.Verdict.TheVariants as verdict
 use Rattle.tcc_judge.specs.private.Decoding.{IsOrdered}
 use Rattle.tcc_judge.specs.private.Contradicted.{AreContradicted}
-use Rattle.tcc_judge.specs.private.Members.{AreThose, IsMarked}
-use Rattle.tcc_judge.specs.private.Onward.{AreNarrowed, onward_rules}
+use Rattle.tcc_judge.specs.private.Members.{AreListed, AreThose, IsMarked}
+use Rattle.tcc_judge.specs.private.Onward.{HasAllBelow, onward_rules}
 use Rattle.tcc_judge.specs.private.Positions.{KeepsPairs}
 use Rattle.tcc_graph.proofs.Numberings.{has_index}
 use Rattle.tcc_lanes.specs.Among.{HasCheaperAmong, HasCheaperIntoInit, IsLowestIntoInit}
 use Rattle.tcc_lanes.specs.declared.limits.TheConstants.{MOST_MEMBERS, MOST_STEPS}
 use Rattle.tcc_lanes.specs.Picked.{HasAllAmong, IsPickedAround}
-use Rattle.tcc_judge.proofs.Cheaper.{all_among, below_among, below_into, is_stale, never_into, none_costs_less}
+use Rattle.tcc_judge.proofs.Cheaper.{all_among, below_among, below_into, named}
+use Rattle.tcc_judge.proofs.Everything.{never_read}
 use Rattle.tcc_judge.proofs.PickingLemmas.{picked_into}
-use Rattle.tcc_judge.proofs.MemberLemmas.{few_same, marked_stale, stale_marked, those_all, those_few, those_same}
+use Rattle.tcc_judge.proofs.MemberLemmas.{few_same, listed_all, listed_ascend, stale_keys, those_few, those_same}
 
 by_order : (h : History) (level : Level) (most : ℕ) (runs : List Run) → 4 < most → (rule : Rule) (at : ℕ × ℕ)
     → IsFirstBroken (onward_rules (judged h level) (order_of h runs) most) rule at
@@ -77,7 +76,7 @@ either_found Among Into into among none first second = ((λ is. inl (second.0 is
 module _ (h : History) (level : Level) (order positions : List ℕ) (lasts : List ℕ) (stale : List Bool) (w : AreContradicted h order positions lasts stale) (most : ℕ) where
   pub too_many_keys : (AreFew MOST_MEMBERS (IsMarked stale) → ⊥) → IsBounded (judged h level) order most → ⊥
   too_many_keys none bounded =
-      none (few_same MOST_MEMBERS (IsStaleKey h) (IsMarked stale) (λ k is. marked_stale h order positions lasts stale w k is) bounded.keys)
+      none (few_same MOST_MEMBERS (IsStaleKey h) (IsMarked stale) (λ k. (stale_keys h order positions lasts stale w k).0) bounded.keys)
 
   pub narrowed : (members key_indices : List ℕ) → most ≤ MOST_STEPS
       → HasFewMembers (judged h level) order most × AreThose MOST_MEMBERS (IsMember (judged h level) order positions most) members
@@ -86,21 +85,16 @@ module _ (h : History) (level : Level) (order positions : List ℕ) (lasts : Lis
       × (AreThose MOST_MEMBERS (IsMember (judged h level) order positions most) members × AreThose MOST_MEMBERS (IsStaleKey h) key_indices)
   narrowed members key_indices low these keys =
       let keys_are : AreThose MOST_MEMBERS (IsStaleKey h) key_indices
-      = those_same MOST_MEMBERS (IsMarked stale) (IsStaleKey h) key_indices (λ k is. marked_stale h order positions lasts stale w k is)
-      (λ k is. stale_marked h order positions lasts stale w k is) keys in (
+      = those_same MOST_MEMBERS (IsMarked stale) (IsStaleKey h) key_indices (stale_keys h order positions lasts stale w) keys in (
         record { steps = low; members = these.0; keys = those_few MOST_MEMBERS (IsStaleKey h) key_indices keys_are },
         (these.1, keys_are),
       )
 
--- ---- and what is found there
-module _ (h : History) (level : Level) (order positions : List ℕ) (ordered : IsOrdered h order) (most : ℕ)
-    (members key_indices : List ℕ) (these : AreThose MOST_MEMBERS (IsMember (judged h level) order positions most) members)
-    (keys_are : AreThose MOST_MEMBERS (IsStaleKey h) key_indices) where
+-- ---- and who is there
+module _ (h : History) (level : Level) (order positions : List ℕ) (ordered : IsOrdered h order) (kept : KeepsPairs h order positions) (most : ℕ)
+    (members key_indices : List ℕ) (these : AreListed (IsMember (judged h level) order positions most) members) (keys_are : AreListed (IsStaleKey h) key_indices) where
   abbrev Member : ℕ → Type 0
   Member v = IsMember (judged h level) order positions most v
-
-  members_inside : All (λ v. v < count h) members
-  members_inside = those_all MOST_MEMBERS Member (λ v. v < count h) members these (λ v is. is.0.7)
 
   -- `init` stands before all others
   never_init : (v : ℕ) → IsSpanned h order v → 0 < v
@@ -117,52 +111,41 @@ module _ (h : History) (level : Level) (order positions : List ℕ) (ordered : I
       go (inl none) = absurd (late (before (has_index ordered.numbering a reason.0.1.0) none))
       go (inr other) = omega arith
 
-  members_aside : All (λ v. 0 < v) members
-  members_aside = those_all MOST_MEMBERS Member (λ v. 0 < v) members these (λ v is. never_init v is.0)
-
-  members_ascend : AllPairs (λ u v. u < v) members
-  members_ascend i j d less l =
-      omega (arith, get_or_default members i d 0 (omega arith), get_or_default members j d 0 l, these.ascend i j less l)
-
-  keys_inside : All (λ k. k < length (keys h)) key_indices
-  keys_inside = those_all MOST_MEMBERS (IsStaleKey h) (λ k. k < length (keys h)) key_indices keys_are (λ k is. is.0)
-
-  pub are_narrowed : AreNarrowed h members key_indices
-  are_narrowed = record { inside = members_inside; aside = members_aside; ascend = members_ascend; few = these.few; keys = keys_inside }
-
   there : 0 < count h
   there = omega (arith, ordered.numbering.below 0 0 ordered.some)
 
-  pub some_cheaper : HasCheaperAmong (judged h level) members most ⊎ HasCheaperIntoInit (judged h level) key_indices most
-      → NoneBelow (judged h level) most → ⊥
-  some_cheaper (inl is) none = below_among (judged h level) members most none is
-  some_cheaper (inr is) none = below_into (judged h level) key_indices most there none is
-
-  pub none_cheaper : KeepsPairs h order positions
-      → (HasCheaperAmong (judged h level) members most ⊎ HasCheaperIntoInit (judged h level) key_indices most → ⊥) → NoneBelow (judged h level) most
-  none_cheaper kept none =
-      none_costs_less h level order positions ordered.numbering ordered.some ordered.init kept.positions_are kept.onward most members key_indices
-      (λ v is. (these.each v).1 is) (λ k is. (keys_are.each k).1 is) there (λ is. none (inl is)) (λ is. none (inr is))
-
-  -- where none comes to `init`, all those of so many steps are among them
-  pub has_all : (n : ℕ) → most ≡ n + 1 → KeepsPairs h order positions → NoneBelow (judged h level) n
-      → (HasCheaperIntoInit (judged h level) key_indices most → ⊥) → HasAllAmong (judged h level) members n
-  has_all n limit kept none into = record {
-    none = none;
-    all = λ s links cycle costs.
-        all_among h level order positions ordered.numbering ordered.some ordered.init kept.positions_are kept.onward most members key_indices
-        (λ v is. (these.each v).1 is) (λ k is. (keys_are.each k).1 is) there into s links cycle (omega (arith, costs, limit));
+  pub has_all_below : HasAllBelow (judged h level) most members key_indices
+  has_all_below = record {
+    there = there;
+    inside = listed_all Member (λ v. v < count h) members these (λ v is. is.0.7);
+    aside = listed_all Member (λ v. 0 < v) members these (λ v is. never_init v is.0);
+    ascend = listed_ascend Member members these;
+    keys = listed_all (IsStaleKey h) (λ k. k < length (keys h)) key_indices keys_are (λ k is. is.0);
+    all = all_among h level order positions ordered.numbering ordered.some ordered.init kept.positions_are kept.onward most members key_indices
+        (λ v. (these.each v).1) (λ k. (keys_are.each k).1) there;
+    named = named h level order positions ordered.numbering ordered.some ordered.init kept.positions_are kept.onward most members key_indices
+        (λ v. (these.each v).1) (λ k. (keys_are.each k).1) there;
   }
 
-  -- the lowest that comes to `init` is in the first of those of so many steps
-  pub into_picked : (n : ℕ) → most ≡ n + 1 → KeepsPairs h order positions → NoneBelow (judged h level) n → (b : ℕ)
-      → IsLowestIntoInit (judged h level) key_indices most b
-      → All (λ v. v < count h) (0 ∷ b ∷ []) × IsPickedAround (judged h level) n (0 ∷ b ∷ [])
-  into_picked n limit kept none b is =
-      picked_into (judged h level) n none (never_into h level order positions ordered.numbering ordered.some ordered.init kept.positions_are kept.onward there) there
-      key_indices has_keys b (subst (λ (z : ℕ). IsLowestIntoInit (judged h level) key_indices z b) limit is)
+-- ---- and what is found there
+module _ (j : Judged) (most : ℕ) (members key_indices : List ℕ) (w : HasAllBelow j most members key_indices) where
+  pub some_cheaper : HasCheaperAmong j members most ⊎ HasCheaperIntoInit j key_indices most → NoneBelow j most → ⊥
+  some_cheaper (inl is) none = below_among j members most none is
+  some_cheaper (inr is) none = below_into j key_indices most w.there none is
+
+  pub none_cheaper : (HasCheaperAmong j members most ⊎ HasCheaperIntoInit j key_indices most → ⊥) → NoneBelow j most
+  none_cheaper none s links cycle = go (cases_lt (cost links) most)
     where
-      has_keys : (b : ℕ) (x : List ℕ) (c : ℕ) (walk : List Step) → IsReason (judged h level) b 0 x c walk → (k : ℕ) × Contains key_indices k × (key_at h k ≡ x)
-      has_keys b x c walk reason =
-          let key = is_stale h level order positions ordered.numbering ordered.some ordered.init kept.positions_are kept.onward b x c walk reason in
-          (key.0, (keys_are.each key.0).1 key.1, key.2)
+      go : (cost links < most) ⊎ (most ≤ cost links) → most ≤ cost links
+      go (inl few) = absurd (none (inl (s, links, cycle, w.all s links cycle few (λ into. none (inr into)), few)))
+      go (inr much) = much
+
+  -- where none comes to `init`, all those of so many steps are among them
+  pub all_of_cost : (n : ℕ) → most ≡ n + 1 → NoneBelow j n → (HasCheaperIntoInit j key_indices most → ⊥) → HasAllAmong j members n
+  all_of_cost n limit none into = record { none = none; all = λ s links cycle costs. w.all s links cycle (omega (arith, costs, limit)) into }
+
+  -- the lowest that comes to `init` is in the first of those of so many steps
+  pub into_picked : NoneBelow j 4 → (n : ℕ) → most ≡ n + 1 → NoneBelow j n → (b : ℕ) → IsLowestIntoInit j key_indices most b
+      → All (λ v. v < count j.history) (0 ∷ b ∷ []) × IsPickedAround j n (0 ∷ b ∷ [])
+  into_picked four n limit none b is =
+      picked_into j n none (never_read j four w.there) w.there key_indices w.named b (subst (λ (z : ℕ). IsLowestIntoInit j key_indices z b) limit is)

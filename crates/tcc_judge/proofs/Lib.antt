@@ -22,5 +22,7 @@ pub mod Followed
 pub mod Own
 pub mod Cheaper
 pub mod PickingLemmas
+pub mod Everything
+pub mod Between
 pub mod Leastness
 pub mod TakenLemmas

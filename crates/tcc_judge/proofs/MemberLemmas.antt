@@ -1,7 +1,7 @@
 -- The transactions over which a derived link leads back; and lists of what is marked.
 use Rattle.std.proofs.Common.{◌≡◌, ◌≢◌, ◌<◌, ◌≤◌, ◌+◌, ◌-◌, ◌⊎◌, ◌↔◌, ◌++◌, ◌∷◌, [], inl, inr, ℕ, zero, suc, Bool, true, false, List, length, length-append, get_or, set, replicate, refl, sym, ap, subst, ◌∙◌, arith}
 use Rattle.std.specs.Prelude.{max, nat_lt}
-use Rattle.std.specs.List.{All, Contains}
+use Rattle.std.specs.List.{All, AllPairs, Contains}
 use Rattle.std.proofs.lemmas.Bool.{cases_eq, cases_lt, cases_order, false≢true, lt-ltb, ltb-true}
 use Rattle.std.proofs.lemmas.List.{get_or-set_same, get_or-set_other, get_or_default, length-set, length-replicate, get_or_append_left, get_or-append_right}
 use Rattle.std.proofs.lemmas.List.Elements.{Contains-append_left, Contains-push, Contains-push_cases}
@@ -11,7 +11,7 @@ use Rattle.tcc_graph.proofs.Numberings.{below_in, one_index}
 use Rattle.tcc_lanes.proofs.PassLemmas.{told_long, told_more}
 use Rattle.tcc_judge.specs.Spanned.{AreFew, IsSpanned, IsStaleKey}
 use Rattle.tcc_judge.specs.private.Contradicted.{AreContradicted, IsLedBackTo}
-use Rattle.tcc_judge.specs.private.Members.{AreMarkedBoth, AreMarkedLed, AreMarkedUnder, AreThose, DoAscend, IsFar, IsMarked, IsUnder}
+use Rattle.tcc_judge.specs.private.Members.{AreListed, AreMarkedBoth, AreMarkedLed, AreMarkedUnder, AreThose, DoAscend, IsFar, IsMarked, IsUnder}
 use Rattle.tcc_judge.specs.private.Positions.{ArePositions}
 use Rattle.tcc_judge.proofs.PositionLemmas.{at_before, before_at}
 
@@ -321,34 +321,48 @@ module _ (most : ℕ) (marks : List Bool) (i : ℕ) (list : List ℕ) (w : AreMa
 pub marked_all : (most : ℕ) (marks : List Bool) (i : ℕ) (list : List ℕ) → i ≡ length marks → AreMarkedTo most marks i list
     → AreThose most (IsMarked marks) list
 marked_all most marks i list all w = record {
-  ascend = w.ascend;
+  listed = record {
+    ascend = w.ascend;
+    each = λ n. ((λ is. let old = (w.each n).0 is in (omega (arith, old.0, all), old.1)), (λ is. (w.each n).1 (omega (arith, is.0, all), is.1)));
+  };
   few = w.few;
-  each = λ n. ((λ is. let old = (w.each n).0 is in (omega (arith, old.0, all), old.1)), (λ is. (w.each n).1 (omega (arith, is.0, all), is.1)));
 }
+
+-- as many as were looked at are enough
+pub marked_further : (marks : List Bool) (i : ℕ) (list : List ℕ) → AreMarkedTo i marks i list → AreMarkedTo (i + 1) marks i list
+marked_further marks i list w = record { ascend = w.ascend; few = omega (arith, w.few); each = w.each }
 
 -- few where as many are meant
 pub few_same : (most : ℕ) (Is Other : ℕ → Type 0) → ((n : ℕ) → Other n → Is n) → AreFew most Is → AreFew most Other
 few_same most Is Other back (list, few, all) = (list, few, λ n is. all n (back n is))
 
 pub those_few : (most : ℕ) (Is : ℕ → Type 0) (list : List ℕ) → AreThose most Is list → AreFew most Is
-those_few most Is list w = (list, w.few, λ n is. (w.each n).1 is)
+those_few most Is list w = (list, w.few, λ n is. (w.listed.each n).1 is)
 
-pub those_same : (most : ℕ) (Is Other : ℕ → Type 0) (list : List ℕ) → ((n : ℕ) → Is n → Other n) → ((n : ℕ) → Other n → Is n) → AreThose most Is list
-    → AreThose most Other list
-those_same most Is Other list there back w = record {
+pub listed_same : (Is Other : ℕ → Type 0) (list : List ℕ) → ((n : ℕ) → Is n ↔ Other n) → AreListed Is list → AreListed Other list
+listed_same Is Other list same w = record {
   ascend = w.ascend;
-  few = w.few;
-  each = λ n. ((λ is. there n ((w.each n).0 is)), (λ is. (w.each n).1 (back n is)));
+  each = λ n. ((λ is. (same n).0 ((w.each n).0 is)), (λ is. (w.each n).1 ((same n).1 is)));
 }
 
+pub those_same : (most : ℕ) (Is Other : ℕ → Type 0) (list : List ℕ) → ((n : ℕ) → Is n ↔ Other n) → AreThose most Is list → AreThose most Other list
+those_same most Is Other list same w = record { listed = listed_same Is Other list same w.listed; few = w.few }
+
 -- those of a list have what all have that are meant
-pub those_all : (most : ℕ) (Is Has : ℕ → Type 0) (list : List ℕ) → AreThose most Is list → ((n : ℕ) → Is n → Has n) → All Has list
-those_all most Is Has list w has i d l = has (get_or list i d) ((w.each (get_or list i d)).0 (i, l, get_or_default list i (get_or list i d) d l))
+pub listed_all : (Is Has : ℕ → Type 0) (list : List ℕ) → AreListed Is list → ((n : ℕ) → Is n → Has n) → All Has list
+listed_all Is Has list w has i d l = has (get_or list i d) ((w.each (get_or list i d)).0 (i, l, get_or_default list i (get_or list i d) d l))
+
+pub listed_ascend : (Is : ℕ → Type 0) (list : List ℕ) → AreListed Is list → AllPairs (λ u v. u < v) list
+listed_ascend Is list w i j d less l =
+    omega (arith, get_or_default list i d 0 (omega (arith, less, l)), get_or_default list j d 0 l, w.ascend i j less l)
 
 -- the keys that are marked
 module _ (h : History) (order positions lasts : List ℕ) (stale : List Bool) (w : AreContradicted h order positions lasts stale) where
-  pub marked_stale : (k : ℕ) → IsMarked stale k → IsStaleKey h k
+  marked_stale : (k : ℕ) → IsMarked stale k → IsStaleKey h k
   marked_stale k (l, is) = (w.of_key k (omega (arith, l, w.keys_long))).0 is
 
-  pub stale_marked : (k : ℕ) → IsStaleKey h k → IsMarked stale k
+  stale_marked : (k : ℕ) → IsStaleKey h k → IsMarked stale k
   stale_marked k is = (omega (arith, is.0, w.keys_long), (w.of_key k is.0).1 is)
+
+  pub stale_keys : (k : ℕ) → IsMarked stale k ↔ IsStaleKey h k
+  stale_keys k = (marked_stale k, stale_marked k)

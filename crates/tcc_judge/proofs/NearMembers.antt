@@ -2,7 +2,7 @@
 use Rattle.std.proofs.Common.{◌≡◌, ◌≢◌, ◌<◌, ◌≤◌, ◌/◌, ◌⊎◌, ◌↔◌, ◌∙◌, inl, inr, ℕ, Bool, true, false, List, length, get_or, refl, sym, ap, subst, arith}
 use Rattle.std.specs.List.{All, AllPairs}
 use Rattle.std.proofs.lemmas.Bool.{cases_eq, cases_lt}
-use Rattle.std.proofs.lemmas.List.{ext_get_or, get_or_default}
+use Rattle.std.proofs.lemmas.List.{ext_get_or}
 use Rattle.tcc_reads.specs.History.{History, count}
 use Rattle.tcc_graph.specs.Levels.{Judged, causally, judged}
 use Rattle.tcc_graph.specs.Links.{IsReason}
@@ -14,10 +14,10 @@ use Rattle.tcc_lanes.specs.declared.limits.TheConstants.{MOST_MEMBERS, MOST_SWEP
 use Rattle.tcc_judge.specs.Spanned.{AreFew, HasFewMembers, IsLeadingBack, IsLedBack, IsMember, IsSpanned}
 use Rattle.tcc_judge.specs.private.Contradicted.{AreContradicted, IsLedBackTo}
 use Rattle.tcc_judge.specs.private.Decoding.{IsOrdered}
-use Rattle.tcc_judge.specs.private.Members.{AreMarkedBoth, AreMarkedLed, AreMarkedUnder, AreThose, IsMarked}
+use Rattle.tcc_judge.specs.private.Members.{AreListed, AreMarkedBoth, AreMarkedLed, AreMarkedUnder, AreThose, IsMarked}
 use Rattle.tcc_judge.specs.private.Positions.{ArePositions}
 use Rattle.tcc_judge.specs.private.Sources.{AreSources}
-use Rattle.tcc_judge.proofs.MemberLemmas.{few_same, marked_spanned, spanned_marked, those_all, those_few, those_same}
+use Rattle.tcc_judge.proofs.MemberLemmas.{few_same, listed_all, listed_ascend, marked_spanned, spanned_marked, those_few, those_same}
 use Rattle.tcc_judge.proofs.PositionLemmas.{at_before, before_at}
 
 -- positions of an order are one list
@@ -70,7 +70,7 @@ module _ (h : History) (order positions : List ℕ) (ordered : IsOrdered h order
       last_of a below =
           subst (λ (z : ℕ). (get_or led z false ≡ true) ↔ (0 < get_or lasts (get_or positions a 0) 0)) (are.here a below) (m.each (get_or positions a 0) (are.within a below))
 
-      pub led_back : (a : ℕ) → IsMarked led a → IsLedBack h order a
+      led_back : (a : ℕ) → IsMarked led a → IsLedBack h order a
       led_back a (l, is) = go ((last_of a below).0 is)
         where
           below : a < count h
@@ -101,7 +101,7 @@ module _ (h : History) (order positions : List ℕ) (ordered : IsOrdered h order
                     subst (λ (z : ℕ). Before order b z → ⊥) (are.here a below) apart,
                   )
 
-      pub back_led : (a : ℕ) → IsLedBack h order a → IsMarked led a
+      back_led : (a : ℕ) → IsLedBack h order a → IsMarked led a
       back_led a (b, x, c, walk, reason, some, apart) = (omega (arith, below, m.long), (last_of a below).1 has)
         where
           below : a < count h
@@ -118,15 +118,8 @@ module _ (h : History) (order positions : List ℕ) (ordered : IsOrdered h order
           has : 0 < get_or lasts (get_or positions a 0) 0
           has = omega (arith, behind_first a below some, up, highest)
 
-      pub targets_inside : (targets : List ℕ) → AreThose MOST_MEMBERS (IsMarked led) targets → All (λ a. a < count h) targets
-      targets_inside targets to = those_all MOST_MEMBERS (IsMarked led) (λ a. a < count h) targets to (λ a is. omega (arith, is.0, m.long))
-
-      pub targets_some : (targets : List ℕ) → AreThose MOST_MEMBERS (IsMarked led) targets → All (λ a. 0 < a) targets
-      targets_some targets to = those_all MOST_MEMBERS (IsMarked led) (λ a. 0 < a) targets to (λ a is. (led_back a is).5)
-
-      pub targets_ascend : (targets : List ℕ) → AreThose MOST_MEMBERS (IsMarked led) targets → AllPairs (λ u v. u < v) targets
-      targets_ascend targets to i j d less l =
-          omega (arith, get_or_default targets i d 0 (omega (arith, less, l)), get_or_default targets j d 0 l, to.ascend i j less l)
+      pub marked_led_back : (a : ℕ) → IsMarked led a ↔ IsLedBack h order a
+      marked_led_back a = (led_back a, back_led a)
 
     module _ (level : Level) (most : ℕ) where
       abbrev j : Judged
@@ -155,72 +148,88 @@ module _ (h : History) (order positions : List ℕ) (ordered : IsOrdered h order
       leading_some b (a, x, c, walk, reason, some, apart) =
           spanned_some b (b, a, x, c, walk, reason, some, reason.0.2.0, apart, no_earlier b b (omega arith))
 
+      module _ (sources targets : List ℕ) (from : AreListed (IsLeadingBack h order) sources) (to : AreListed (IsLedBack h order) targets) where
+        pub sources_inside : All (λ b. b < count h) sources
+        sources_inside = listed_all (IsLeadingBack h order) (λ b. b < count h) sources from (λ b is. is.4.0.2.0)
+
+        pub sources_some : All (λ b. 0 < b) sources
+        sources_some = listed_all (IsLeadingBack h order) (λ b. 0 < b) sources from leading_some
+
+        pub targets_inside : All (λ a. a < count h) targets
+        targets_inside = listed_all (IsLedBack h order) (λ a. a < count h) targets to (λ a is. is.4.0.1.0)
+
+        pub targets_some : All (λ a. 0 < a) targets
+        targets_some = listed_all (IsLedBack h order) (λ a. 0 < a) targets to (λ a is. is.5)
+
+        pub targets_ascend : AllPairs (λ u v. u < v) targets
+        targets_ascend = listed_ascend (IsLedBack h order) targets to
+
+        pub all_ends : AreEndsOfAll j rank most sources targets
+        all_ends b a price is = ((from.each b).1 (source_leads b a price is), (to.each a).1 (target_led b a price is))
+
+      module _ (marks near both : List Bool) (n : AreMarkedUnder (count h) order lasts (length order) marks) (all : AreNear j rank most near)
+          (joined : AreMarkedBoth marks near (length marks) both) where
+        spanned : (v : ℕ) → IsMarked marks v → IsSpanned h order v
+        spanned v is = marked_spanned h order positions lasts stale ordered.numbering ordered.init ordered.some are w marks n v is
+
+        is_marked : (v : ℕ) → IsSpanned h order v → IsMarked marks v
+        is_marked v is = spanned_marked h order positions lasts stale ordered.numbering ordered.init ordered.some are w marks n v is
+
+        member : (v : ℕ) → IsMarked both v → IsMember j order positions most v
+        member v (l, is) =
+            let inside : v < length marks = omega (arith, l, joined.long) in
+            let two = (joined.each v inside).0 is in
+            let below : v < count h = omega (arith, inside, n.long) in
+            (spanned v (inside, two.0), (all.each v below).0 two.1)
+
+        is_both : (v : ℕ) → IsMember j order positions most v → IsMarked both v
+        is_both v (over, near_v) =
+            let (inside, marked_v) = is_marked v over in
+            let below : v < count h = omega (arith, inside, n.long) in
+            (omega (arith, inside, joined.long), (joined.each v inside).1 (marked_v, (all.each v below).1 near_v))
+
+        pub marked_members : (v : ℕ) → IsMarked both v ↔ IsMember j order positions most v
+        marked_members v = (member v, is_both v)
+
+    -- ---- the limits
+    module _ (level : Level) (most : ℕ) where
+      abbrev k : Judged
+      k = judged h level
+
       module _ (leading : List Bool) (s : AreSources h order leading) where
-        leads : (b : ℕ) → IsMarked leading b → IsLeadingBack h order b
-        leads b (l, is) = (s.each b (omega (arith, l, s.long))).0 is
+        pub marked_leading : (b : ℕ) → IsMarked leading b ↔ IsLeadingBack h order b
+        marked_leading b = (
+          (λ is. (s.each b (omega (arith, is.0, s.long))).0 is.1),
+          (λ is. let below : b < count h = is.4.0.2.0 in (omega (arith, below, s.long), (s.each b below).1 is)),
+        )
 
-        is_leading : (b : ℕ) → IsLeadingBack h order b → IsMarked leading b
-        is_leading b is = let below : b < count h = is.4.0.2.0 in (omega (arith, below, s.long), (s.each b below).1 is)
+        pub too_many_sources : (AreFew (MOST_SWEPT / most) (IsMarked leading) → ⊥) → HasFewMembers k order most → ⊥
+        too_many_sources none few = none (few_same (MOST_SWEPT / most) (IsLeadingBack h order) (IsMarked leading) (λ b. (marked_leading b).0) few.sources)
 
-        pub sources_inside : (sources : List ℕ) (k : ℕ) → AreThose k (IsMarked leading) sources → All (λ b. b < count h) sources
-        sources_inside sources k from = those_all k (IsMarked leading) (λ b. b < count h) sources from (λ b is. omega (arith, is.0, s.long))
+      module _ (led : List Bool) (m : AreMarkedLed (count h) order lasts (length order) led) where
+        pub too_many_targets : (AreFew MOST_MEMBERS (IsMarked led) → ⊥) → HasFewMembers k order most → ⊥
+        too_many_targets none few = none (few_same MOST_MEMBERS (IsLedBack h order) (IsMarked led) (λ a. (marked_led_back led m a).0) few.targets)
 
-        pub sources_some : (sources : List ℕ) (k : ℕ) → AreThose k (IsMarked leading) sources → All (λ b. 0 < b) sources
-        sources_some sources k from = those_all k (IsMarked leading) (λ b. 0 < b) sources from (λ b is. leading_some b (leads b is))
+      module _ (both : List Bool) (same : (v : ℕ) → IsMarked both v ↔ IsMember k order positions most v) where
+        pub too_many_members : (AreFew MOST_MEMBERS (IsMarked both) → ⊥) → HasFewMembers k order most → ⊥
+        too_many_members none few =
+            let one : few.positions ≡ positions = one_positions (count h) order few.positions positions few.places places in
+            let mine : AreFew MOST_MEMBERS (IsMember k order positions most)
+            = subst (λ (z : List ℕ). AreFew MOST_MEMBERS (IsMember k order z most)) one few.members in
+            none (few_same MOST_MEMBERS (IsMember k order positions most) (IsMarked both) (λ v. (same v).0) mine)
 
-        pub too_many_sources : (AreFew (MOST_SWEPT / most) (IsMarked leading) → ⊥) → HasFewMembers j order most → ⊥
-        too_many_sources none few = none (few_same (MOST_SWEPT / most) (IsLeadingBack h order) (IsMarked leading) leads few.sources)
-
-        module _ (led : List Bool) (m : AreMarkedLed (count h) order lasts (length order) led) where
-          pub all_ends : (sources targets : List ℕ) (k : ℕ) → AreThose k (IsMarked leading) sources → AreThose MOST_MEMBERS (IsMarked led) targets
-              → AreEndsOfAll j rank most sources targets
-          all_ends sources targets k from to b a price is =
-              ((from.each b).1 (is_leading b (source_leads b a price is)), (to.each a).1 (back_led led m a (target_led b a price is)))
-
-          pub too_many_targets : (AreFew MOST_MEMBERS (IsMarked led) → ⊥) → HasFewMembers j order most → ⊥
-          too_many_targets none few = none (few_same MOST_MEMBERS (IsLedBack h order) (IsMarked led) (led_back led m) few.targets)
-
-          module _ (marks near both : List Bool) (n : AreMarkedUnder (count h) order lasts (length order) marks) (all : AreNear j rank most near)
-              (joined : AreMarkedBoth marks near (length marks) both) where
-            spanned : (v : ℕ) → IsMarked marks v → IsSpanned h order v
-            spanned v is = marked_spanned h order positions lasts stale ordered.numbering ordered.init ordered.some are w marks n v is
-
-            is_marked : (v : ℕ) → IsSpanned h order v → IsMarked marks v
-            is_marked v is = spanned_marked h order positions lasts stale ordered.numbering ordered.init ordered.some are w marks n v is
-
-            member : (v : ℕ) → IsMarked both v → IsMember j order positions most v
-            member v (l, is) =
-                let inside : v < length marks = omega (arith, l, joined.long) in
-                let two = (joined.each v inside).0 is in
-                let below : v < count h = omega (arith, inside, n.long) in
-                (spanned v (inside, two.0), (all.each v below).0 two.1)
-
-            is_both : (v : ℕ) → IsMember j order positions most v → IsMarked both v
-            is_both v (over, near_v) =
-                let (inside, marked_v) = is_marked v over in
-                let below : v < count h = omega (arith, inside, n.long) in
-                (omega (arith, inside, joined.long), (joined.each v inside).1 (marked_v, (all.each v below).1 near_v))
-
-            pub too_many_members : (AreFew MOST_MEMBERS (IsMarked both) → ⊥) → HasFewMembers j order most → ⊥
-            too_many_members none few =
-                let same : few.positions ≡ positions = one_positions (count h) order few.positions positions few.places places in
-                let mine : AreFew MOST_MEMBERS (IsMember j order positions most)
-                = subst (λ (z : List ℕ). AreFew MOST_MEMBERS (IsMember j order z most)) same few.members in
-                none (few_same MOST_MEMBERS (IsMember j order positions most) (IsMarked both) member mine)
-
-            pub few_members : (sources targets members : List ℕ) → AreThose (MOST_SWEPT / most) (IsMarked leading) sources
-                → AreThose MOST_MEMBERS (IsMarked led) targets → AreThose MOST_MEMBERS (IsMarked both) members
-                → HasFewMembers j order most × AreThose MOST_MEMBERS (IsMember j order positions most) members
-            few_members sources targets members from to these =
-                let members_are : AreThose MOST_MEMBERS (IsMember j order positions most) members
-                = those_same MOST_MEMBERS (IsMarked both) (IsMember j order positions most) members member is_both these in (
-                  record {
-                    sources = few_same (MOST_SWEPT / most) (IsMarked leading) (IsLeadingBack h order) is_leading
-                        (those_few (MOST_SWEPT / most) (IsMarked leading) sources from);
-                    targets = few_same MOST_MEMBERS (IsMarked led) (IsLedBack h order) (back_led led m) (those_few MOST_MEMBERS (IsMarked led) targets to);
-                    positions = positions;
-                    places = places;
-                    members = those_few MOST_MEMBERS (IsMember j order positions most) members members_are;
-                  },
-                  members_are,
-                )
+        pub few_members : (sources targets members : List ℕ) → AreThose (MOST_SWEPT / most) (IsLeadingBack h order) sources
+            → AreThose MOST_MEMBERS (IsLedBack h order) targets → AreThose MOST_MEMBERS (IsMarked both) members
+            → HasFewMembers k order most × AreThose MOST_MEMBERS (IsMember k order positions most) members
+        few_members sources targets members from to these =
+            let members_are : AreThose MOST_MEMBERS (IsMember k order positions most) members
+            = those_same MOST_MEMBERS (IsMarked both) (IsMember k order positions most) members same these in (
+              record {
+                sources = those_few (MOST_SWEPT / most) (IsLeadingBack h order) sources from;
+                targets = those_few MOST_MEMBERS (IsLedBack h order) targets to;
+                positions = positions;
+                places = places;
+                members = those_few MOST_MEMBERS (IsMember k order positions most) members members_are;
+              },
+              members_are,
+            )

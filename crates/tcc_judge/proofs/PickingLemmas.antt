@@ -7,7 +7,7 @@ use Rattle.tcc_graph.specs.Keys.{key_at}
 use Rattle.tcc_graph.specs.Levels.{Judged}
 use Rattle.tcc_graph.specs.Links.{IsLink, IsReason, cost, link_cost, link_from, link_to}
 use Rattle.tcc_graph.specs.Relations.{IsCausalPair, IsSessionPair}
-use Rattle.tcc_graph.specs.Routes.{IsCycle, LinksLead}
+use Rattle.tcc_graph.specs.Routes.{LinksLead}
 use Rattle.tcc_graph.specs.declared.link.Link.{Link}
 use Rattle.tcc_graph.specs.declared.link.Link.TheVariants as link
 use Rattle.tcc_graph.specs.declared.step.Step.{Step}

@@ -97,12 +97,12 @@ fn end_of_run(decoder: &Decoder, run: Run) -> Option<u32>
 }
 
 /// Adds the numbers from one to before another.
-fn push_all(order: &mut Vec<u32>, from: u32, end: u32) -> Result<(), NoMemory>
+pub(crate) fn push_all(numbers: &mut Vec<u32>, from: u32, end: u32) -> Result<(), NoMemory>
     requires { from ≤ end }
-    ensures { OnOk result (order.new.items ≡ order.old.items ++ range_with_len from (end - from)) }
+    ensures { OnOk result (numbers.new.items ≡ numbers.old.items ++ range_with_len from (end - from)) }
 {
     for number in from..end {
-        order.push(number)?;
+        numbers.push(number)?;
     }
     Ok(())
 }

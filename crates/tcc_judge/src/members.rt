@@ -3,7 +3,7 @@
 ghost use Rattle.std.specs.Prelude.{◌≡◌, ◌<◌, ◌≤◌, ◌↔◌, length, IfOk, IsTrue, MatchOption};
 ghost use Rattle.tcc_graph.specs.Orders.{IsNumbering};
 ghost use Rattle.tcc_judge.specs.Spanned.{AreFew};
-ghost use Rattle.tcc_judge.specs.private.Members.{AreMarkedBoth, AreMarkedLed, AreMarkedUnder, AreThose, IsMarked};
+ghost use Rattle.tcc_judge.specs.private.Members.{AreListed, AreMarkedBoth, AreMarkedLed, AreMarkedUnder, AreThose, IsMarked};
 
 use std::alloc::Global;
 use tcc_txn::NoMemory;
@@ -92,4 +92,20 @@ pub(crate) fn marked(
         }
     }
     Ok(Some(found))
+}
+
+/// The indices that are marked, ascending.
+pub(crate) fn all_marked(alloc: Global, marks: &[bool]) -> Result<Vec<u32>, NoMemory>
+    ensures { IfOk result (λ list. AreListed (IsMarked marks.now) list.items) }
+{
+    let mut found = Vec::new(alloc);
+    for (index, mark) in marks.iter().enumerate() {
+        if *mark {
+            let Ok(number) = u32::try_from(index) else {
+                return Err(NoMemory);
+            };
+            found.push(number)?;
+        }
+    }
+    Ok(found)
 }

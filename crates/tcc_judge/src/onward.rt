@@ -1,16 +1,16 @@
 //! The rules on that no cycle costs less, past a cost of 4. Where the order that runs tell keeps all pairs, a cycle that costs less
 //! goes through `init`, or else a derived link leads back in the order over each of its transactions, and each of them is near to such
 //! links; so it is looked for there.
-ghost use Rattle.std.specs.Prelude.{◌<◌, ◌≤◌, ◌⊎◌, ◌↔◌, IfOk, IsTrue, MatchOption};
+ghost use Rattle.std.specs.Prelude.{◌<◌, ◌≤◌, ◌⊎◌, ◌↔◌, ℕ, IfOk, IsTrue, MatchOption};
 ghost use Rattle.tcc_graph.specs.Levels.{judged};
 ghost use Rattle.tcc_lanes.specs.{Among.HasCheaperAmong, Among.HasCheaperIntoInit, declared.limits.TheConstants.MOST_MEMBERS, declared.limits.TheConstants.MOST_STEPS};
-ghost use Rattle.tcc_judge.specs.{private.Contradicted.AreContradicted, private.Members.AreThose, private.Onward.AreNarrowed, private.Onward.onward_rules, private.Positions.ArePositions, private.Positions.KeepsPairs, private.Decoding.IsOrdered, private.Sources.AreSources};
+ghost use Rattle.tcc_judge.specs.{private.Contradicted.AreContradicted, private.Members.AreListed, private.Members.AreThose, private.Members.IsMarked, private.Onward.HasAllBelow, private.Onward.onward_rules, private.Positions.ArePositions, private.Positions.KeepsPairs, private.Decoding.IsOrdered, private.Sources.AreSources};
 ghost use Rattle.tcc_reads.specs.History.{count};
-ghost use Rattle.tcc_judge.specs.Spanned.{HasFewMembers, IsBounded, IsMember, IsStaleKey};
+ghost use Rattle.tcc_judge.specs.Spanned.{HasFewMembers, IsBounded, IsLeadingBack, IsLedBack, IsMember, IsStaleKey};
 ghost use Rattle.tcc_check.specs.Asked.{IsVerdictOf};
 
 use crate::contradicted::{Contradicted, contradicted_along};
-use crate::members::{both_marked, marked, marked_led, marked_under};
+use crate::members::{all_marked, both_marked, marked, marked_led, marked_under};
 use crate::turned::kept_positions;
 use crate::verdict::{rejected, rejected_at};
 use crate::{Judging, Rule, Verdict};
@@ -31,8 +31,35 @@ pub(crate) struct Narrowed {
     pub(crate) key_indices: Vec<u32>,
 }
 
-/// The transactions that a cycle which costs less can have, ascending: a derived link leads back over each of them, and they are near;
-/// nothing where there is too much of what is looked at.
+/// Marks the transactions that a cycle which costs less can have: a derived link leads back over each of them, and they are near. Such
+/// links begin at these sources and end at these targets.
+fn member_marks(
+    alloc: Global,
+    graph: &LargeGraph,
+    level: Level,
+    order: &[u32],
+    positions: &[u32],
+    found: &Contradicted,
+    most: u32,
+    sources: &[u32],
+    targets: &[u32],
+) -> Result<Vec<bool>, NoMemory>
+    requires ordered { IsOrdered graph.now order.now }
+    requires positions { ArePositions (count graph.now) order.now positions.now }
+    requires found { AreContradicted graph.now order.now positions.now found.now.lasts.items found.now.stale.items }
+    requires sources { AreListed (IsLeadingBack graph.now order.now) sources.now }
+    requires targets { AreListed (IsLedBack graph.now order.now) targets.now }
+    ensures { IfOk result (λ marks. (v : ℕ) → IsMarked marks.items v ↔ IsMember (judged graph.now level) order.now positions.now most v) }
+{
+    let near = near(
+        alloc, graph, level, most, order, positions, sources, targets,
+    )?;
+    let marks = marked_under(alloc, graph.count(), order, &found.lasts)?;
+    let both = both_marked(alloc, &marks, &near)?;
+    Ok(both)
+}
+
+/// The transactions that a cycle which costs less can have, ascending; nothing where there is too much of what is looked at.
 fn members(
     alloc: Global,
     graph: &LargeGraph,
@@ -47,7 +74,6 @@ fn members(
     requires found { AreContradicted graph.now order.now positions.now found.now.lasts.items found.now.stale.items }
     requires leading { AreSources graph.now order.now found.now.sources.items }
     requires some { 0 < most }
-    requires most { most ≤ MOST_STEPS }
     ensures { IfOk result (λ found. MatchOption found
         (HasFewMembers (judged graph.now level) order.now most → ⊥)
         (λ members. HasFewMembers (judged graph.now level) order.now most
@@ -60,19 +86,47 @@ fn members(
     let Some(targets) = marked(alloc, &led, MOST_MEMBERS)? else {
         return Ok(None);
     };
-    let near = near(
-        alloc, graph, level, most, order, positions, &sources, &targets,
+    let marks = member_marks(
+        alloc, graph, level, order, positions, found, most, &sources, &targets,
     )?;
-    let marks = marked_under(alloc, graph.count(), order, &found.lasts)?;
-    let both = both_marked(alloc, &marks, &near)?;
-    let Some(members) = marked(alloc, &both, MOST_MEMBERS)? else {
+    let Some(members) = marked(alloc, &marks, MOST_MEMBERS)? else {
         return Ok(None);
     };
     Ok(Some(members))
 }
 
+/// Where a cycle that costs less can be, by what the order contradicts, however much that is.
+pub(crate) fn narrow_on(
+    alloc: Global,
+    graph: &LargeGraph,
+    level: Level,
+    order: &[u32],
+    positions: &[u32],
+    found: &Contradicted,
+    most: u32,
+) -> Result<Narrowed, NoMemory>
+    requires ordered { IsOrdered graph.now order.now }
+    requires kept { KeepsPairs graph.now order.now positions.now }
+    requires found { AreContradicted graph.now order.now positions.now found.now.lasts.items found.now.stale.items }
+    requires leading { AreSources graph.now order.now found.now.sources.items }
+    ensures { IfOk result (λ there. HasAllBelow (judged graph.now level) most there.members.items there.key_indices.items) }
+{
+    let sources = all_marked(alloc, &found.sources)?;
+    let led = marked_led(alloc, graph.count(), order, &found.lasts)?;
+    let targets = all_marked(alloc, &led)?;
+    let marks = member_marks(
+        alloc, graph, level, order, positions, found, most, &sources, &targets,
+    )?;
+    let members = all_marked(alloc, &marks)?;
+    let key_indices = all_marked(alloc, &found.stale)?;
+    Ok(Narrowed {
+        members,
+        key_indices,
+    })
+}
+
 /// Where a cycle that costs less can be, by what the order contradicts; nothing where that is past the limits.
-pub(crate) fn narrow(
+fn narrow(
     alloc: Global,
     graph: &LargeGraph,
     level: Level,
@@ -139,8 +193,7 @@ fn has_cheaper(
     narrowed: &Narrowed,
     most: u32,
 ) -> Result<bool, NoMemory>
-    requires narrowed { AreNarrowed graph.now narrowed.now.members.items narrowed.now.key_indices.items }
-    requires steps { most ≤ MOST_STEPS }
+    requires { HasAllBelow (judged graph.now level) most narrowed.now.members.items narrowed.now.key_indices.items }
     ensures { IfOk result (λ found. IsTrue found
         ↔ (HasCheaperAmong (judged graph.now level) narrowed.now.members.items most
         ⊎ HasCheaperIntoInit (judged graph.now level) narrowed.now.key_indices.items most)) }

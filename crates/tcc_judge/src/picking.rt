@@ -1,21 +1,25 @@
-//! Where the first of the least cycles goes, where it costs more than the shapes of short cycles tell: the judge's own searches, asked at
-//! each cost from 4 on, so that the first one that finds a cycle finds a least one. What it finds is picked by the rule of ties, from the
-//! last link backwards. Each search costs what the judge takes for a claim of one step more.
-ghost use Rattle.std.specs.Prelude.{◌<◌, ◌≡◌, [], ◌∷◌, IfOk, MatchOption};
+//! Where the first of the least cycles goes, where it costs more than the shapes of short cycles tell: by the searches of rule 7, at one
+//! cost after the other, until none costs less and one costs as much. From 8 steps on the cost is doubled while nothing is found, and
+//! halved in between where something is. What is found is picked by the rule of ties, from the last link backwards.
+//!
+//! It is looked for near to what an order of all transactions contradicts; where there is no order that keeps all pairs, at all
+//! transactions. No limit refuses a history. A search at L steps takes what `near` and `cheaper_among` of `tcc_lanes` do: for S sources
+//! and T targets of links back, M transactions near to them, N in all and R reads some L (S + M) (N + R) / 64 + S T steps, and then for
+//! each start what the links among the M are.
+ghost use Rattle.std.specs.Prelude.{◌<◌, ◌≤◌, ◌≡◌, ◌+◌, ◌⊎◌, ℕ, [], ◌∷◌, IfOk, IfSome, MatchOption};
 ghost use Rattle.tcc_graph.specs.Levels.{judged};
 ghost use Rattle.tcc_least.specs.Shapes.{NoneBelow};
-ghost use Rattle.tcc_lanes.specs.{declared.limits.TheConstants.MOST_STEPS};
-ghost use Rattle.tcc_judge.specs.{Picking.IsFirstAround, private.Contradicted.AreContradicted, private.Decoding.IsOrdered, private.Picking.IsKnownAt, private.Positions.KeepsPairs, private.Sources.AreSources};
+ghost use Rattle.tcc_judge.specs.{Picking.IsFirstAround, private.Onward.HasAllBelow, private.Picking.IsCircleBelow, private.Picking.IsOrderKept};
 
 use crate::contradicted::{Contradicted, contradicted_along};
-use crate::decoding::told;
-use crate::onward::narrow;
+use crate::decoding::{push_all, told};
+use crate::onward::{Narrowed, narrow_on};
 use crate::turned::kept_positions;
 use std::alloc::Global;
 use tcc_base::Unwatched;
 use tcc_cert::Run;
 use tcc_graph::{LargeGraph, Level};
-use tcc_lanes::{MOST_STEPS, cheaper_among, lowest_into_init};
+use tcc_lanes::{cheaper_among, lowest_into_init};
 use tcc_txn::NoMemory;
 
 /// The first of the least cycles by the rule of ties.
@@ -27,15 +31,82 @@ pub struct FirstAround {
     pub circle: Vec<u32>,
 }
 
-/// What is known of the cycles of so many steps.
+/// An order that keeps all pairs.
 #[derive(Drop)]
-pub(crate) enum AtCost {
-    /// The first of them begins its links at these transactions.
-    First(Vec<u32>),
-    /// There is none.
-    Nothing,
-    /// The limits of the judge end before that is known.
-    Unknown,
+pub(crate) struct OrderKept {
+    /// The transactions in this order.
+    pub(crate) order: Vec<u32>,
+    /// The position of each of them.
+    pub(crate) positions: Vec<u32>,
+    /// What it contradicts.
+    pub(crate) found: Contradicted,
+}
+
+/// The order that runs tell, where it keeps all pairs.
+fn order_kept(
+    alloc: Global,
+    graph: &LargeGraph,
+    runs: &[Run],
+) -> Result<Option<OrderKept>, NoMemory>
+    ensures { IfOk result (λ kept. IfSome kept (IsOrderKept graph.now)) }
+{
+    let Some(order) = told(alloc, graph, runs)? else {
+        return Ok(None);
+    };
+    let Ok(positions) = kept_positions(alloc, graph, &order)? else {
+        return Ok(None);
+    };
+    let found = contradicted_along(alloc, graph, &order, &positions, &Unwatched)?;
+    Ok(Some(OrderKept {
+        order,
+        positions,
+        found,
+    }))
+}
+
+/// All transactions but `init`, and all keys.
+fn everything(alloc: Global, graph: &LargeGraph) -> Result<Narrowed, NoMemory>
+    ensures { (level : Level) (most : ℕ) → NoneBelow (judged graph.now level) 4
+        → IfOk result (λ all. HasAllBelow (judged graph.now level) most all.members.items all.key_indices.items) }
+{
+    // So many keys are held by no memory.
+    let Ok(key_count) = u32::try_from(graph.keys().len()) else {
+        return Err(NoMemory);
+    };
+    let mut members = Vec::new(alloc);
+    push_all(&mut members, 1, graph.count())?;
+    let mut key_indices = Vec::new(alloc);
+    push_all(&mut key_indices, 0, key_count)?;
+    Ok(Narrowed {
+        members,
+        key_indices,
+    })
+}
+
+/// Where a cycle of fewer than `most` steps can be: near to what an order contradicts, if there is one, and else anywhere.
+fn where_below(
+    alloc: Global,
+    graph: &LargeGraph,
+    level: Level,
+    by: &Option<OrderKept>,
+    most: u32,
+) -> Result<Narrowed, NoMemory>
+    requires by { IfSome by.now (IsOrderKept graph.now) }
+    requires none { NoneBelow (judged graph.now level) 4 }
+    ensures { IfOk result (λ there. HasAllBelow (judged graph.now level) most there.members.items there.key_indices.items) }
+{
+    match by {
+        Some(kept) => narrow_on(
+            alloc,
+            graph,
+            level,
+            &kept.order,
+            &kept.positions,
+            &kept.found,
+            most,
+        ),
+        None => everything(alloc, graph),
+    }
 }
 
 /// The transactions of the cycle from `init` to this one and back.
@@ -48,64 +119,76 @@ fn around_init(alloc: Global, writer: u32) -> Result<Vec<u32>, NoMemory>
     Ok(circle)
 }
 
-/// What is known of the cycles of so many steps, where none costs less, by an order that keeps all pairs and what it contradicts.
-fn known_at(
+/// The transactions of a cycle of fewer than `most` steps; of the first one, where none has fewer than `most - 1`.
+fn circle_below(
     alloc: Global,
     graph: &LargeGraph,
     level: Level,
-    order: &[u32],
-    positions: &[u32],
-    found: &Contradicted,
-    steps: u32,
-) -> Result<AtCost, NoMemory>
-    requires ordered { IsOrdered graph.now order.now }
-    requires kept { KeepsPairs graph.now order.now positions.now }
-    requires found { AreContradicted graph.now order.now positions.now found.now.lasts.items found.now.stale.items }
-    requires leading { AreSources graph.now order.now found.now.sources.items }
-    requires few { steps < MOST_STEPS }
-    requires none { NoneBelow (judged graph.now level) steps }
-    ensures { IfOk result (IsKnownAt (judged graph.now level) steps) }
+    there: &Narrowed,
+    most: u32,
+) -> Result<Option<Vec<u32>>, NoMemory>
+    requires all { HasAllBelow (judged graph.now level) most there.now.members.items there.now.key_indices.items }
+    requires none { NoneBelow (judged graph.now level) 4 }
+    ensures { IfOk result (IsCircleBelow (judged graph.now level) most) }
 {
-    let Some(there) = narrow(alloc, graph, level, order, positions, found, steps + 1)? else {
-        return Ok(AtCost::Unknown);
-    };
-    if let Some(writer) = lowest_into_init(alloc, graph, level, &there.key_indices, steps + 1)? {
-        return Ok(AtCost::First(around_init(alloc, writer)?));
+    if let Some(writer) = lowest_into_init(alloc, graph, level, &there.key_indices, most)? {
+        return Ok(Some(around_init(alloc, writer)?));
     }
-    match cheaper_among(alloc, graph, level, &there.members, steps + 1)? {
-        Some(circle) => Ok(AtCost::First(circle)),
-        None => Ok(AtCost::Nothing),
+    match cheaper_among(alloc, graph, level, &there.members, most)? {
+        Some(circle) => Ok(Some(circle)),
+        None => Ok(None),
     }
 }
 
-/// The first of the least cycles, if it costs so many steps at most, by an order that keeps all pairs.
-fn first_by_order(
+/// The cost up to which cycles are looked for next, where none costs less than one number, and less than the other is left.
+fn next_cost(none: u32, end: u32) -> u32
+    requires { none < end }
+    ensures from { none ≤ result }
+    ensures to { result < end }
+    ensures nearer { (result ≡ none) ⊎ (result + 1 < end) }
+{
+    if none < 8 {
+        return none;
+    }
+    let half = (end - none - 1) / 2;
+    none + half.min(none)
+}
+
+/// The first of the least cycles, if it costs less than `most`.
+fn first_below(
     alloc: Global,
     graph: &LargeGraph,
     level: Level,
-    order: &[u32],
-    positions: &[u32],
+    by: &Option<OrderKept>,
     most: u32,
 ) -> Result<Option<FirstAround>, NoMemory>
-    requires ordered { IsOrdered graph.now order.now }
-    requires kept { KeepsPairs graph.now order.now positions.now }
+    requires by { IfSome by.now (IsOrderKept graph.now) }
     requires none { NoneBelow (judged graph.now level) 4 }
-    ensures { IfOk result (λ found. MatchOption found (Unit {0}) (IsFirstAround (judged graph.now level))) }
+    ensures { IfOk result (λ found. MatchOption found (NoneBelow (judged graph.now level) most) (IsFirstAround (judged graph.now level))) }
 {
-    let found = contradicted_along(alloc, graph, order, positions, &Unwatched)?;
-    for steps in 4..most.min(MOST_STEPS - 1) + 1 {
-        match known_at(alloc, graph, level, order, positions, &found, steps)? {
-            AtCost::First(circle) => return Ok(Some(FirstAround { steps, circle })),
-            AtCost::Nothing => {}
-            AtCost::Unknown => break,
+    let mut none = 4;
+    let mut end = most;
+    for _turn in 4..most {
+        if none >= end {
+            return Ok(None);
+        }
+        let steps = next_cost(none, end);
+        let there = where_below(alloc, graph, level, by, steps + 1)?;
+        match circle_below(alloc, graph, level, &there, steps + 1)? {
+            Some(circle) => {
+                if steps == none {
+                    return Ok(Some(FirstAround { steps, circle }));
+                }
+                end = steps + 1;
+            }
+            None => none = steps + 1,
         }
     }
     Ok(None)
 }
 
-/// The first of the least cycles, if it costs so many steps at most; none where it costs more, or the limits of the judge end before it is
-/// known. The runs are those of an order that keeps all pairs, as beside a claim of leastness; by others nothing is found. No clause says
-/// when one is found.
+/// The first of the least cycles, if it costs so many steps at most; none only where each costs more. The runs are those of an order
+/// that keeps all pairs, which nobody has to trust: by others, or by none, it is looked for at all transactions, and that takes longer.
 pub fn first_around(
     alloc: Global,
     graph: &LargeGraph,
@@ -114,13 +197,12 @@ pub fn first_around(
     most: u32,
 ) -> Result<Option<FirstAround>, NoMemory>
     requires none { NoneBelow (judged graph.now level) 4 }
-    ensures { IfOk result (λ found. MatchOption found (Unit {0}) (IsFirstAround (judged graph.now level))) }
+    ensures { IfOk result (λ found. MatchOption found (NoneBelow (judged graph.now level) (most + 1)) (IsFirstAround (judged graph.now level))) }
 {
-    let Some(order) = told(alloc, graph, runs)? else {
-        return Ok(None);
+    // So many links are held by no memory.
+    let Some(end) = most.checked_add(1) else {
+        return Err(NoMemory);
     };
-    let Ok(positions) = kept_positions(alloc, graph, &order)? else {
-        return Ok(None);
-    };
-    first_by_order(alloc, graph, level, &order, &positions, most)
+    let by = order_kept(alloc, graph, runs)?;
+    first_below(alloc, graph, level, &by, end)
 }

@@ -23,11 +23,15 @@ pub record AreMarkedUnder (count : ℕ) (order : List ℕ) (lasts : List ℕ) (e
 abbrev pub DoAscend : List ℕ → Type 0
 DoAscend list = (i j : ℕ) → i < j → j < length list → slice_index list i < slice_index list j
 
--- the list has exactly those that are meant, ascending, and no more than so many
-pub record AreThose (most : ℕ) (Is : ℕ → Type 0) (list : List ℕ) : Type 0 where
+-- the list has exactly those that are meant, ascending
+pub record AreListed (Is : ℕ → Type 0) (list : List ℕ) : Type 0 where
   pub ascend : DoAscend list
-  pub few : length list ≤ most
   pub each : (n : ℕ) → Contains list n ↔ Is n
+
+-- and no more than so many
+pub record AreThose (most : ℕ) (Is : ℕ → Type 0) (list : List ℕ) : Type 0 where
+  pub listed : AreListed Is list
+  pub few : length list ≤ most
 
 -- of the transactions at the first places those are marked to which something leads back
 pub record AreMarkedLed (count : ℕ) (order : List ℕ) (lasts : List ℕ) (end : ℕ) (marks : List Bool) : Type 0 where

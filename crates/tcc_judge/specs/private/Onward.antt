@@ -1,23 +1,31 @@
 -- The rules on that no cycle costs less, past a cost of 4.
-use Rattle.std.specs.Prelude.{ℕ, ◌<◌, ◌≤◌, List, [], ◌∷◌, All, AllPairs, length}
-use Rattle.tcc_reads.specs.History.{History, count}
-use Rattle.tcc_graph.specs.Keys.{keys}
+use Rattle.std.specs.Prelude.{ℕ, ◌<◌, ◌≡◌, List, [], ◌∷◌, All, AllPairs, Contains, length}
+use Rattle.tcc_reads.specs.History.{count}
+use Rattle.tcc_graph.specs.Keys.{key_at, keys}
 use Rattle.tcc_graph.specs.Levels.{Judged}
+use Rattle.tcc_graph.specs.Links.{IsReason, cost}
+use Rattle.tcc_graph.specs.Routes.{IsCycle}
+use Rattle.tcc_graph.specs.declared.link.Link.{Link}
+use Rattle.tcc_graph.specs.declared.step.Step.{Step}
 use Rattle.tcc_least.specs.Shapes.{NoneBelow}
-use Rattle.tcc_lanes.specs.declared.limits.TheConstants.{MOST_MEMBERS}
+use Rattle.tcc_lanes.specs.Among.{HasCheaperIntoInit, IsAmong}
 use Rattle.tcc_judge.specs.Orders.{BreaksPair}
 use Rattle.tcc_judge.specs.Spanned.{IsBounded}
 use Rattle.tcc_check.specs.Asked.{Asked, as_whole, at_each}
 use Rattle.tcc_judge.specs.declared.verdict.Rule.{Rule}
 use Rattle.tcc_judge.specs.declared.verdict.Rule.TheVariants.{Onward, Limits, Cheaper}
 
--- these are committed transactions, ascending and few enough, and indices of keys
-pub record AreNarrowed (h : History) (members : List ℕ) (key_indices : List ℕ) : Type 0 where
-  pub inside : All (λ v. v < count h) members
+-- these are committed transactions, ascending, and indices of keys: a cycle that costs less than `most` is among the transactions, or else
+-- some transaction comes into `init` by one of the keys; and each derived link into `init` does
+pub record HasAllBelow (j : Judged) (most : ℕ) (members : List ℕ) (key_indices : List ℕ) : Type 0 where
+  pub there : 0 < count j.history
+  pub inside : All (λ v. v < count j.history) members
   pub aside : All (λ v. 0 < v) members
   pub ascend : AllPairs (λ u v. u < v) members
-  pub few : length members ≤ MOST_MEMBERS
-  pub keys : All (λ k. k < length (keys h)) key_indices
+  pub keys : All (λ k. k < length (keys j.history)) key_indices
+  pub all : (s : ℕ) (links : List Link) → IsCycle j s links → cost links < most → (HasCheaperIntoInit j key_indices most → ⊥) → All (IsAmong members) links
+  pub named : (b : ℕ) (x : List ℕ) (c : ℕ) (walk : List Step) → IsReason j b 0 x c walk
+      → (k : ℕ) × Contains key_indices k × (key_at j.history k ≡ x)
 
 -- in turn, with an order
 abbrev pub onward_rules : Judged → List ℕ → ℕ → List (Asked Rule)

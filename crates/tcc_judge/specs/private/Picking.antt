@@ -1,14 +1,34 @@
--- What is known of the cycles of one cost.
-use Rattle.std.specs.Prelude.{ℕ, ◌<◌, ◌+◌, All}
-use Rattle.tcc_reads.specs.History.{count}
+-- What is known of the cycles below a cost.
+use Rattle.std.specs.Global.{Vec}
+use Rattle.std.specs.Prelude.{ℕ, ◌<◌, ◌≤◌, ◌≡◌, ◌+◌, ◌⊎◌, All, Option, None, Some}
+use Rattle.tcc_reads.specs.History.{History, count}
 use Rattle.tcc_graph.specs.Levels.{Judged}
 use Rattle.tcc_least.specs.Shapes.{NoneBelow}
 use Rattle.tcc_lanes.specs.Picked.{IsPickedAround}
-use Rattle.tcc_judge.specs.declared.picking.AtCost.{AtCost}
-use Rattle.tcc_judge.specs.declared.picking.AtCost.TheVariants as known
+use Rattle.tcc_judge.specs.declared.picking.OrderKept.{OrderKept}
+use Rattle.tcc_judge.specs.private.Contradicted.{AreContradicted}
+use Rattle.tcc_judge.specs.private.Decoding.{IsOrdered}
+use Rattle.tcc_judge.specs.private.Positions.{KeepsPairs}
+use Rattle.tcc_judge.specs.private.Sources.{AreSources}
 
--- where the first cycle of so many steps goes, or that there is none
-abbrev pub IsKnownAt : Judged → ℕ → AtCost → Type 0
-IsKnownAt j steps (known.First circle) = All (λ v. v < count j.history) circle.items × IsPickedAround j steps circle.items
-IsKnownAt j steps known.Nothing = NoneBelow j (steps + 1)
-IsKnownAt j steps known.Unknown = Unit {0}
+-- an order of all transactions that keeps all pairs, and what it contradicts
+pub record IsOrderKept (h : History) (kept : OrderKept) : Type 0 where
+  pub ordered : IsOrdered h kept.order.items
+  pub pairs : KeepsPairs h kept.order.items kept.positions.items
+  pub found : AreContradicted h kept.order.items kept.positions.items kept.found.lasts.items kept.found.stale.items
+  pub leading : AreSources h kept.order.items kept.found.sources.items
+
+-- some cycle costs less than `most`; and where none costs less than one step less, the links of the first of those begin at these
+abbrev pub IsCircleBelow : Judged → ℕ → Option (Vec ℕ) → Type 0
+IsCircleBelow j most None = NoneBelow j most
+IsCircleBelow j most (Some circle) =
+    (NoneBelow j most → ⊥)
+    × ((n : ℕ) → most ≡ n + 1 → NoneBelow j n → All (λ v. v < count j.history) circle.items × IsPickedAround j n circle.items)
+
+-- no cycle costs less than `none`; one costs less than `end`, or that is the most that is asked of; and each turn brought the two nearer
+pub record IsBetween (j : Judged) (most : ℕ) (turn : ℕ) (none : ℕ) (end : ℕ) : Type 0 where
+  pub below : NoneBelow j none
+  pub some : (end ≡ most) ⊎ (NoneBelow j end → ⊥)
+  pub low : 4 ≤ none
+  pub high : end ≤ most
+  pub nearer : end + turn ≤ none + most

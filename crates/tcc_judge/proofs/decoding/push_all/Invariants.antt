@@ -3,4 +3,4 @@ use Rattle.std.specs.List.{range_with_len}
 use Rattle.tcc_judge.proofs.decoding.push_all.Given as goal
 
 abbrev pub invariant-loop-number : goal.invariant-loop-number
-invariant-loop-number l = l.order.items ≡ l.initial.order.items ++ range_with_len l.from (l.number - l.from)
+invariant-loop-number l = l.numbers.items ≡ l.initial.numbers.items ++ range_with_len l.from (l.number - l.from)

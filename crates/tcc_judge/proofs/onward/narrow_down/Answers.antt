@@ -1,4 +1,4 @@
-use Rattle.std.proofs.Common.{length, arith}
+use Rattle.std.proofs.Common.{arith}
 use Rattle.tcc_judge.proofs.onward.narrow_down.Goals as goal
 
 pub returns-then-most-gt-MOST_STEPS : goal.returns-then-most-gt-MOST_STEPS
