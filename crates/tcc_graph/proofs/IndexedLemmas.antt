@@ -1,24 +1,23 @@
 -- What the indices of keys say of their names.
-use Rattle.std.proofs.Common.{ℕ, zero, suc, ◌+◌, ◌<◌, ◌≤◌, ◌≡◌, ◌⊎◌, Bool, true, false, List, [], ◌∷◌, ◌++◌}
-use Rattle.std.proofs.Common.{length, get_or, refl, sym, ap, ◌∙◌, arith, inl, inr, length-append}
-use Rattle.std.proofs.Common.{Option, None, Some}
-use Rattle.std.specs.Prelude.{All, map, ◌==◌, ◌||◌, bytes_eq, MatchOption, IsSome}
+use Rattle.std.proofs.Common.{ℕ, zero, suc, ◌<◌, ◌≡◌, ◌⊎◌, Bool, true, false, List, [], ◌∷◌}
+use Rattle.std.proofs.Common.{length, get_or, refl, sym, ap, ◌∙◌, arith, inl, inr}
+use Rattle.std.specs.Prelude.{All, map, ◌==◌, ◌||◌, bytes_eq}
 use Rattle.std.specs.List.{list_any}
 use Rattle.std.specs.List.Sorted.{IsStrictlySortedBy}
-use Rattle.std.proofs.lemmas.Bool.{cases_eq, cases_lt, ne_eqb, eq-eqb, both_ways}
+use Rattle.std.proofs.lemmas.Bool.{cases_eq, ne_eqb, eq-eqb}
 use Rattle.std.proofs.Math.ListN as math
-use Rattle.std.proofs.lemmas.List.{get_or_default, get_or_read, get_or_push, get_or_append_left, get_or-map, length-map, same_lists}
+use Rattle.std.proofs.lemmas.List.{get_or_default, get_or_read, get_or-map, length-map, same_lists}
 use Rattle.std.proofs.lemmas.List.Elements.{All-append, All-map, All-contains, Contains-append_right}
 use Rattle.std.proofs.lemmas.List.Folds.{list_any_at}
 use Rattle.tcc_reads.specs.History.{Entry, initial, owner, place}
 use Rattle.tcc_reads.specs.Sources.{name_cmp}
 use Rattle.tcc_graph.specs.Keys.{has_name, keys, keys_of}
 use Rattle.tcc_graph.specs.private.Grouped.{as_group, groups}
-use Rattle.tcc_graph.specs.KeyIndices.{name_of, IsAbsent, StandsAt}
+use Rattle.tcc_graph.specs.KeyIndices.{name_of, StandsAt}
 use Rattle.tcc_reads.specs.Indexed.{Indexed, named, entry_of, entries_of}
 use Rattle.tcc_graph.specs.private.ReadTables.{over, values_from, indexed_of, unindexed, history_of, IsIndexed, AreIndexed, IsIndexTable, HasSources}
 use Rattle.tcc_graph.proofs.NameLemmas.{bytes_eq-same, bytes_eq-other, indices_differ, contains-has_name}
-use Rattle.tcc_graph.proofs.KeysLemmas.{has_name-keys, absent}
+use Rattle.tcc_graph.proofs.KeysLemmas.{has_name-keys}
 
 module _ (names : List (List ℕ)) (sorted : IsStrictlySortedBy name_cmp names) where
   -- names are equal where their indices are
@@ -88,11 +87,6 @@ sources_named names n (read ∷ reads) all =
         item (suc k) d h rest here = rest k d (omega arith)
 
 -- a name that is there has an index
-pub index_there : (names : List (List ℕ)) (x : List ℕ) (r : Option ℕ) → has_name names x ≡ true → MatchOption r (IsAbsent names x) (λ i. StandsAt names x i)
-    → IsSome r
-index_there names x None there none = absurd (both_ways (has_name names x) (absent names x none) there)
-index_there names x (Some i) there at = refl
-
 -- what holds of the values of all groups
 pub values_in_groups : (P : ℕ → Type 0) (values : ℕ → List ℕ) (m : ℕ) → ((b : ℕ) → b < m → All P (values b)) → All (λ p. P p.1) (groups values m)
 values_in_groups P values zero all = λ k d h. absurd (omega arith)
@@ -119,23 +113,6 @@ keys_read P e all k d h =
     (k, omega (arith, length-map e.reads (λ read. read.0)), get_or-map (λ read. read.0) e.reads k d (get_or e.reads k d).0 h))
 
 -- ---- all transactions
-
-pub none_indexed : (names : List (List ℕ)) → AreIndexed names [] []
-none_indexed names = record { long = refl; each = λ n h. absurd (omega (arith, h)) }
-
-pub more_indexed : (names : List (List ℕ)) (entries : List Entry) (indexed : List Indexed) (e : Entry) (p : Indexed) → AreIndexed names entries indexed
-    → IsIndexed names e p → AreIndexed names (entries ++ e ∷ []) (indexed ++ p ∷ [])
-more_indexed names entries indexed e p before here = record {
-  long = omega (arith, length-append indexed (p ∷ []), length-append entries (e ∷ []), before.long);
-  each = λ n h. go n (cases_lt n (length entries)) (omega (arith, h, length-append entries (e ∷ [])));
-}
-  where
-    go : (n : ℕ) → (n < length entries) ⊎ (length entries ≤ n) → n < length entries + 1
-        → IsIndexed names (get_or (entries ++ e ∷ []) n initial) (indexed_of (indexed ++ p ∷ []) n)
-    go n (inl early) low =
-        rw (get_or_append_left indexed (p ∷ []) unindexed n (omega (arith, before.long)), get_or_append_left entries (e ∷ []) initial n early) (before.each n early)
-    go n (inr late) low =
-        rw (get_or_push indexed p unindexed n (omega (arith, before.long)), get_or_push entries e initial n (omega arith)) here
 
 pub count_is : (names : List (List ℕ)) (indexed : List Indexed) → length (entries_of names indexed) ≡ length indexed
 count_is names indexed = length-map indexed (entry_of names)

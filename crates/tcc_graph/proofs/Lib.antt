@@ -11,7 +11,7 @@
 --   Sessions     who stands between two of a session, and right before one
 --   KeysLemmas   which names are keys
 --   SortedKeys   the keys are in byte order
---   NotedKeys    names that are noted once, and then put in order
+--   OwnKeys      names in order of which each is used are the keys
 --   WriterLemmas what is read is a key and stands among them, and who its writers are
 --   NamedReadings readings by the indices of keys are readings by their names
 --   Worked       small histories worked out by hand
@@ -36,8 +36,8 @@ pub mod Numberings
 pub mod Pairs
 pub mod RouteLemmas
 pub mod Sessions
-pub mod NotedKeys
 pub mod OwnKeys
+pub mod KeptKeys
 pub mod SortedKeys
 pub mod TableLemmas
 pub mod Tied

@@ -1,5 +1,5 @@
 -- Names in order, of which a history's transactions write or read each, are its keys.
-use Rattle.std.proofs.Common.{ℕ, zero, suc, ◌<◌, ◌≡◌, ◌⊎◌, Bool, true, false, ◌||◌, List, [], ◌∷◌, ◌++◌, length, get_or, refl, sym, ap, subst, ◌∙◌, arith, inl, inr}
+use Rattle.std.proofs.Common.{ℕ, ◌<◌, ◌≡◌, ◌⊎◌, Bool, true, false, ◌||◌, List, [], ◌∷◌, ◌++◌, length, get_or, refl, sym, ap, subst, ◌∙◌, arith, inl, inr}
 use Rattle.std.proofs.Common.{length-append, replicate, set}
 use Rattle.std.specs.Prelude.{All, map, bytes_eq}
 use Rattle.std.specs.List.{list_any}
@@ -11,7 +11,7 @@ use Rattle.std.proofs.lemmas.List.{get_or_default, get_or_append_left, get_or-ma
 use Rattle.std.proofs.lemmas.List.Elements.{All-append, All-contains, All-head, All-map, All-tail}
 use Rattle.std.proofs.lemmas.List.Folds.{list_any_at}
 use Rattle.std.proofs.lemmas.Map.Lookups.{btree_set_from_contains, exact_bytes}
-use Rattle.tcc_reads.specs.History.{Entry, initial}
+use Rattle.tcc_reads.specs.History.{Entry}
 use Rattle.tcc_reads.specs.Indexed.{Indexed, IsWithin, entry_of, entries_of, named}
 use Rattle.tcc_reads.specs.Sources.{name_cmp}
 use Rattle.tcc_reads.proofs.Ties.{names_tie}
@@ -22,6 +22,8 @@ use Rattle.tcc_graph.proofs.IndexedLemmas.{all_keyed, entry_is, keys_read}
 use Rattle.tcc_graph.proofs.KeysLemmas.{has_name-keys}
 use Rattle.tcc_graph.proofs.NameLemmas.{bytes_eq-same, has_name-contains}
 use Rattle.tcc_graph.proofs.SortedKeys.{keys_sorted}
+use Rattle.tcc_graph.specs.private.Marks.{is_marked, kept_of, moved_by, ranks_from}
+use Rattle.tcc_graph.proofs.KeptKeys.{all_kept, kept_sorted, moved_same, moved_within}
 
 -- what holds of what a function gives holds of it at each item
 unmapped : {X Y : Type 0} (f : X → Y) (P : Y → Type 0) (xs : List X) → All P (map f xs) → All (λ x. P (f x)) xs
@@ -132,3 +134,29 @@ none_marked passes count k h at = absurd (false≢true (sym (get_or-replicate co
 -- where all are marked, all pass
 pub each_passes : (passes : ℕ → Bool) (marks : List Bool) → MarksOnly passes marks → All (λ mark. mark ≡ true) marks → (k : ℕ) → k < length marks → passes k ≡ true
 each_passes passes marks only all k h = only k h (all k false h)
+
+-- ---- where some names are no keys, those that are marked are kept
+
+module _ (names : List (List ℕ)) (sorted : IsStrictlySortedBy name_cmp names) (ps : List Indexed) (within : All (IsWithin (length names)) ps) (marks : List Bool)
+    (long : length marks ≡ length names) (used : All (UsesOnly (is_marked marks)) ps) (only : MarksOnly (is_own names ps within) marks) where
+  abbrev kept : List (List ℕ)
+  kept = kept_of names marks
+
+  abbrev moved : List Indexed
+  moved = map (moved_by (ranks_from 0 marks)) ps
+
+  as_before : entries_of kept moved ≡ entries_of names ps
+  as_before = moved_same names marks ps within used
+
+  inside : All (IsWithin (length kept)) moved
+  inside = moved_within names marks ps within used
+
+  pub kept_keys : kept ≡ keys (over (entries_of names ps))
+  kept_keys =
+      own_names kept moved inside (kept_sorted names marks sorted)
+      (λ k h. subst (λ (es : List Entry). has_name (keys (over es)) (name_of kept k) ≡ true) (sym as_before)
+      (all_kept (λ x. has_name (keys (over (entries_of names ps))) x ≡ true) names marks (λ j l at. only j (omega (arith, l, long)) at) k [] h))
+      ∙ ap (λ es. keys (over es)) as_before
+
+  pub kept_indexed : AreIndexed kept (entries_of names ps) moved
+  kept_indexed = subst (λ (es : List Entry). AreIndexed kept es moved) as_before (own_indexed kept moved inside)

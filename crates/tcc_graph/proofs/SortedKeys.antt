@@ -21,7 +21,7 @@ pub sorted_none : IsStrictlySortedBy name_cmp []
 unfolding IsStrictlySortedBy
 sorted_none = tt
 
-sorted_cons : (x : List ℕ) (xs : List (List ℕ)) → All (λ y. name_cmp x y ≡ Less) xs → IsStrictlySortedBy name_cmp xs → IsStrictlySortedBy name_cmp (x ∷ xs)
+pub sorted_cons : (x : List ℕ) (xs : List (List ℕ)) → All (λ y. name_cmp x y ≡ Less) xs → IsStrictlySortedBy name_cmp xs → IsStrictlySortedBy name_cmp (x ∷ xs)
 unfolding IsStrictlySortedBy
 sorted_cons x xs below sorted = (recursion_from_All (λ y. name_cmp x y ≡ Less) xs below, sorted)
 

@@ -4,10 +4,8 @@
 
 mod graph;
 mod grouped;
-mod indexed;
 mod key_row;
 mod key_table;
-mod keys;
 mod labels;
 mod large_graph;
 pub mod laws;

@@ -1,16 +1,16 @@
 //! The keys of a history, among the names that its resolver knows: one pass marks those that its transactions write or read.
-//! Mostly all are marked, and then the indices stay as they are; else the keys are put in order anew.
-ghost use Rattle.std.specs.Prelude.{◌≡◌, ◌<◌, ◌≤◌, ℕ, Bool, true, length, All, IfOk};
+//! Mostly all are marked, and then the indices stay as they are; else those that are marked are kept, and each index becomes a
+//! rank: how many before it are marked. With n operations and k names it takes n + k steps.
+ghost use Rattle.std.specs.Prelude.{◌≡◌, ◌<◌, ◌≤◌, ℕ, Bool, true, length, map, All, IfOk};
 ghost use Rattle.std.specs.List.Sorted.{IsStrictlySortedBy};
 ghost use Rattle.std.specs.Ordering.{nat_cmp};
 ghost use Rattle.std.specs.Cmp.Lexicographic.{slice_cmp};
 ghost use Rattle.tcc_reads.specs.Indexed.{IsWithin, entries_of};
+ghost use Rattle.tcc_graph.specs.private.Marks.{is_marked, kept_of, moved_by, rank_at, ranks_from};
 ghost use Rattle.tcc_graph.specs.{Keys.keys, private.ReadTables.AreIndexed, private.ReadTables.MarksOnly, private.ReadTables.UsesOnly, private.ReadTables.over};
 
-use crate::indexed::indexed_by;
-use crate::keys::sorted_keys;
 use std::alloc::Global;
-use tcc_reads::{Indexed, named_by};
+use tcc_reads::Indexed;
 use tcc_txn::{Name, NoMemory};
 
 /// Marks the keys at these indices.
@@ -18,6 +18,8 @@ fn mark_written(marks: &mut [bool], written: &[u32])
     requires { All (λ k. k < length marks.old) written.now }
     ensures long { length marks.new ≡ length marks.old }
     ensures only { (passes : ℕ → Bool) → All (λ k. passes k ≡ true) written.now → MarksOnly passes marks.old → MarksOnly passes marks.new }
+    ensures kept { (k : ℕ) → is_marked marks.old k ≡ true → is_marked marks.new k ≡ true }
+    ensures all { All (λ k. is_marked marks.new k ≡ true) written.now }
 {
     for key in written {
         marks[*key as usize] = true;
@@ -29,6 +31,8 @@ fn mark_read(marks: &mut [bool], reads: &[(u32, u32)])
     requires { All (λ read. read.0 < length marks.old) reads.now }
     ensures long { length marks.new ≡ length marks.old }
     ensures only { (passes : ℕ → Bool) → All (λ read. passes read.0 ≡ true) reads.now → MarksOnly passes marks.old → MarksOnly passes marks.new }
+    ensures kept { (k : ℕ) → is_marked marks.old k ≡ true → is_marked marks.new k ≡ true }
+    ensures all { All (λ read. is_marked marks.new read.0 ≡ true) reads.now }
 {
     for (key, _) in reads {
         marks[*key as usize] = true;
@@ -40,6 +44,7 @@ fn mark_all(marks: &mut [bool], transactions: &[Indexed])
     requires { All (IsWithin (length marks.old)) transactions.now }
     ensures long { length marks.new ≡ length marks.old }
     ensures only { (passes : ℕ → Bool) → All (UsesOnly passes) transactions.now → MarksOnly passes marks.old → MarksOnly passes marks.new }
+    ensures all { All (UsesOnly (is_marked marks.new)) transactions.now }
 {
     for transaction in transactions {
         mark_written(marks, transaction.writes());
@@ -52,6 +57,7 @@ fn marks_of(alloc: Global, count: usize, transactions: &[Indexed]) -> Result<Vec
     requires { All (IsWithin count) transactions.now }
     ensures long { IfOk result (λ marks. length marks.items ≡ count) }
     ensures only { IfOk result (λ marks. (passes : ℕ → Bool) → All (UsesOnly passes) transactions.now → MarksOnly passes marks.items) }
+    ensures all { IfOk result (λ marks. All (UsesOnly (is_marked marks.items)) transactions.now) }
 {
     let mut marks = vec![in alloc; false; count]?;
     mark_all(&mut marks, transactions);
@@ -70,6 +76,86 @@ fn all_marked(marks: &[bool]) -> bool
     true
 }
 
+/// Some names of a list, and for each name of the list how many of them stand before it.
+#[derive(Drop)]
+struct Kept {
+    names: Vec<Name>,
+    ranks: Vec<u32>,
+}
+
+/// The names that are marked.
+fn kept_names(alloc: Global, names: &[Name], marks: &[bool]) -> Result<Kept, NoMemory>
+    requires long { length marks.now ≡ length names.now }
+    requires few { length names.now ≤ u32.MAX }
+    ensures names { IfOk result (λ kept. kept.names.items ≡ kept_of names.now marks.now) }
+    ensures ranks { IfOk result (λ kept. kept.ranks.items ≡ ranks_from 0 marks.now) }
+{
+    let mut kept = Vec::new(alloc);
+    let mut ranks = Vec::with_capacity(alloc, names.len())?;
+    for (index, name) in names.iter().enumerate() {
+        ranks.push(kept.len() as u32)?;
+        if marks[index] {
+            kept.push(*name)?;
+        }
+    }
+    Ok(Kept { names: kept, ranks })
+}
+
+/// The ranks at these indices.
+fn ranks_at(alloc: Global, ranks: &[u32], indices: &[u32]) -> Result<Vec<u32>, NoMemory>
+    requires { All (λ k. k < length ranks.now) indices.now }
+    ensures { IfOk result (λ found. found.items ≡ map (rank_at ranks.now) indices.now) }
+{
+    let mut found = Vec::with_capacity(alloc, indices.len())?;
+    for index in indices {
+        found.push(ranks[*index as usize])?;
+    }
+    Ok(found)
+}
+
+/// Reads by the ranks at their indices, each with its source.
+fn reads_by_rank(
+    alloc: Global,
+    ranks: &[u32],
+    reads: &[(u32, u32)],
+) -> Result<Vec<(u32, u32)>, NoMemory>
+    requires { All (λ read. read.0 < length ranks.now) reads.now }
+    ensures { IfOk result (λ found. found.items ≡ map (λ read. (rank_at ranks.now read.0, read.1)) reads.now) }
+{
+    let mut found = Vec::with_capacity(alloc, reads.len())?;
+    for (index, source) in reads {
+        found.push((ranks[*index as usize], *source))?;
+    }
+    Ok(found)
+}
+
+/// The transaction by the ranks at its indices.
+fn renumbered(alloc: Global, ranks: &[u32], transaction: &Indexed) -> Result<Indexed, NoMemory>
+    requires { IsWithin (length ranks.now) transaction.now }
+    ensures { IfOk result (λ moved. moved ≡ moved_by ranks.now transaction.now) }
+{
+    let writes = ranks_at(alloc, ranks, transaction.writes())?;
+    let reads = reads_by_rank(alloc, ranks, transaction.reads())?;
+    let (owner, place) = (transaction.owner(), transaction.place());
+    Ok(Indexed::new(owner, place, writes, reads))
+}
+
+/// The transactions by the ranks at their indices.
+fn all_renumbered(
+    alloc: Global,
+    ranks: &[u32],
+    transactions: &[Indexed],
+) -> Result<Vec<Indexed>, NoMemory>
+    requires { All (IsWithin (length ranks.now)) transactions.now }
+    ensures { IfOk result (λ moved. moved.items ≡ map (moved_by ranks.now) transactions.now) }
+{
+    let mut moved = Vec::with_capacity(alloc, transactions.len())?;
+    for transaction in transactions {
+        moved.push(renumbered(alloc, ranks, transaction)?)?;
+    }
+    Ok(moved)
+}
+
 /// The keys of a history, in byte order, and its transactions by their indices.
 #[derive(Drop)]
 pub(crate) struct OwnKeys {
@@ -86,6 +172,7 @@ pub(crate) fn with_own_keys(
 ) -> Result<OwnKeys, NoMemory>
     requires within { All (IsWithin (length names.items)) transactions.items }
     requires sorted { IsStrictlySortedBy (slice_cmp nat_cmp) names.items }
+    requires few { length names.items ≤ u32.MAX }
     ensures value { IfOk result (λ own. own.keys.items ≡ keys (over (entries_of names.items transactions.items))) }
     ensures sorted { IfOk result (λ own. IsStrictlySortedBy (slice_cmp nat_cmp) own.keys.items) }
     ensures indexed { IfOk result (λ own. AreIndexed own.keys.items (entries_of names.items transactions.items) own.indexed.items) }
@@ -97,8 +184,10 @@ pub(crate) fn with_own_keys(
             indexed: transactions,
         });
     }
-    let named = named_by(alloc, &names, &transactions)?;
-    let keys = sorted_keys(alloc, &named)?;
-    let indexed = indexed_by(alloc, &keys, named)?;
-    Ok(OwnKeys { keys, indexed })
+    let kept = kept_names(alloc, &names, &marks)?;
+    let indexed = all_renumbered(alloc, &kept.ranks, &transactions)?;
+    Ok(OwnKeys {
+        keys: kept.names,
+        indexed,
+    })
 }

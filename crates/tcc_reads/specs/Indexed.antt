@@ -1,5 +1,5 @@
 -- Transactions of a resolved history by the indices of their keys.
-use Rattle.std.specs.Prelude.{ℕ, ◌<◌, List, [], map, slice_index_or, All}
+use Rattle.std.specs.Prelude.{ℕ, ◌<◌, List, map, All}
 use Rattle.tcc_txn.specs.KeyNumbers.{name_at}
 use Rattle.tcc_reads.specs.History.{Entry}
 

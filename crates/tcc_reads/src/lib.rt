@@ -17,7 +17,7 @@ mod writers;
 
 pub use fault::{ReadFault, ReadFaultKind, ResolveFault};
 pub use indexed::Indexed;
-pub use resolved::{HistoryParts, LargeResolved, Resolved, named_by};
+pub use resolved::{HistoryParts, LargeResolved, Resolved};
 pub use resolver::{resolve, resolve_large};
 pub use tracing::{Traced, resolve_traced};
 pub use transaction::Transaction;

@@ -100,7 +100,7 @@ impl LargeResolved {
 }
 
 /// Transactions by the names of these keys.
-pub fn named_by(
+fn named_by(
     alloc: Global,
     keys: &[Name],
     transactions: &[Indexed],

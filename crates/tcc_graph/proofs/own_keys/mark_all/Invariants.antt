@@ -1,5 +1,6 @@
-use Rattle.std.proofs.Common.{ℕ, ◌≡◌, Bool, length}
+use Rattle.std.proofs.Common.{ℕ, ◌≡◌, Bool, length, take}
 use Rattle.std.specs.Prelude.{All}
+use Rattle.tcc_graph.specs.private.Marks.{is_marked}
 use Rattle.tcc_graph.specs.private.ReadTables.{MarksOnly, UsesOnly}
 use Rattle.tcc_graph.proofs.own_keys.mark_all.Given as goal
 
@@ -7,4 +8,5 @@ abbrev pub invariant-loop-transaction : goal.invariant-loop-transaction
 invariant-loop-transaction l = record {
   long : length l.marks ≡ length l.initial.marks;
   only : (passes : ℕ → Bool) → All (UsesOnly passes) l.transactions → MarksOnly passes l.initial.marks → MarksOnly passes l.marks;
+  all : All (UsesOnly (is_marked l.marks)) (take l.transaction-index l.transactions);
 }

@@ -1,8 +1,5 @@
-use Rattle.std.proofs.Common.{ℕ, List, take, ap, sym, subst, ◌∙◌}
-use Rattle.std.proofs.lemmas.List.{take_all, take_more}
-use Rattle.tcc_txn.specs.KeyNumbers.{AreNumbers}
+use Rattle.std.proofs.Common.{ℕ, List, sym, subst, ◌∙◌}
 use Rattle.tcc_txn.specs.Symbols.{IsNumber}
-use Rattle.tcc_reads.specs.private.KeyIndices.{has_key}
 use Rattle.tcc_reads.proofs.KeyNumbers.{listed_there, one_behind}
 use Rattle.tcc_reads.proofs.Indices.{stands_at}
 use Rattle.tcc_reads.proofs.keys.ranks.Goals as goal

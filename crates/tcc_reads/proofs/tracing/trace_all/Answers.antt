@@ -1,4 +1,4 @@
-use Rattle.std.proofs.Common.{◌≡◌, ℕ, ◌++◌, List, length, drop, take, ap, ◌∙◌, arith}
+use Rattle.std.proofs.Common.{ℕ, ◌++◌, List, length, drop, take, ap, ◌∙◌, arith}
 use Rattle.tcc_reads.specs.History.{Entry}
 use Rattle.tcc_reads.specs.Indexed.{entries_of}
 use Rattle.tcc_reads.specs.private.Numbers.{Numbered, numbered}
