@@ -369,7 +369,7 @@ module _ (h : History) (numbered : IsBySession h.entries) (owners : List ℕ) (k
           told : b ≢ a - 1 → IsReadBefore h (row_of rows a) (length (row_of rows a)) c x ⊎ TellsNone h from table a c x → IsCovered h kept a b
           told other (inl t) =
               let w = other_reader c x t in
-              handed_on b (are (a - 1) b (prior_low, below, (w.0, x, w.1, writer, other, again w.0 w.1 w.2)) some (inr (less, less_one)))
+              handed_on b (are (a - 1) b (prior_low, below, (w.0, x, w.1, writer, other, again w.0 w.1 w.2)) some ((high, less), less_one))
           told other (inr tells) =
               held (tells k b l record { committed = some; below = below; owned = mine; meant = (writer, apart, reached) })
 
@@ -379,14 +379,12 @@ module _ (h : History) (numbered : IsBySession h.entries) (owners : List ℕ) (k
 
   -- nothing more is kept of it
   pub alike_enough : AreEnough h (Overwrites h) (IsUpTo h from (a + 1)) kept
-  alike_enough d b over some meant = go meant (cases_eq d a) (cases_lt (owner h b) from)
+  alike_enough d b over some (meant, small) = go (cases_eq d a)
     where
-      go : IsUpTo h from (a + 1) d b → (d ≡ a) ⊎ (d ≢ a) → (owner h b < from) ⊎ (from ≤ owner h b) → IsCovered h kept d b
-      go m kind (inl early) = are d b over some (inl early)
-      go (inl early) kind (inr high) = are d b over some (inl early)
-      go (inr w) (inl at) (inr high) =
-          subst (λ (z : ℕ). IsCovered h kept z b) (sym at) (alike_covers b (subst (λ (z : ℕ). Overwrites h z b) at over) some high w.0)
-      go (inr w) (inr other) (inr high) = are d b over some (inr (w.0, omega (arith, w.1, other)))
+      go : (d ≡ a) ⊎ (d ≢ a) → IsCovered h kept d b
+      go (inl at) =
+          subst (λ (z : ℕ). IsCovered h kept z b) (sym at) (alike_covers b (subst (λ (z : ℕ). Overwrites h z b) at over) some meant.0 meant.1)
+      go (inr other) = are d b over some (meant, omega (arith, small, other))
 
 -- a transaction that is passed over
 pub none_more : (h : History) → IsBySession h.entries → (owners : List ℕ) → AreOwners h owners → (from a : ℕ) → a < count h → (table : List (List ℕ))

@@ -20,12 +20,13 @@ use Rattle.tcc_graph.proofs.Linking.{link_route}
 use Rattle.tcc_graph.proofs.WriterLemmas.{writer_in, read_is_key}
 use Rattle.tcc_clocks.specs.Parents.{parents, previous, previous_one, sources}
 use Rattle.tcc_order.specs.private.Held.{holds}
-use Rattle.tcc_order.specs.private.CausalLinks.{IsCovered, IsKeptUpTo, AreDerived, AreEnough, AreLinks, Derives, Overwrites, HasNone}
+use Rattle.tcc_order.specs.private.CausalLinks.{IsCovered, IsKeptUpTo, AreDerived, AreEnough, AreLinks, AreStillKept, Derives, IsFrom, Overwrites, HasNone}
 use Rattle.tcc_clocks.specs.Clocks.{LeadsOnward}
 use Rattle.tcc_clocks.specs.Needed.{AreNeeded}
 use Rattle.tcc_order.specs.private.Numbering.{IsOrderOf, IsFirstOf, Joins, HasCircle}
 use Rattle.tcc_order.proofs.EmptyRows.{nothing_kept}
 use Rattle.tcc_order.proofs.Fronts.{holds_there, holds_parts}
+use Rattle.tcc_order.proofs.Needing.{covered_wider}
 use Rattle.tcc_order.proofs.Kept.{IsLinked, has_link, linked_before}
 use Rattle.tcc_order.proofs.Links.{linked_by}
 use Rattle.tcc_order.proofs.OrderOrCycle.{before_join}
@@ -168,17 +169,28 @@ causal_links h kept long derived enough = record {
     from a b (small, below, (c, x, pair, writer, apart, way)) = (small, below, (c, x, pair, writer, apart, (way.0, way.1.0)))
 
 -- a block none of whose writers may have to stand before another transaction
-pub block_passed : (h : History) (kept : List (List ℕ)) (needed : List Bool) → AreNeeded h needed → (number : ℕ) → get_or needed number false ≡ false
-    → AreEnough h (Overwrites h) (λ a b. owner h b < number * WIDE) kept → AreEnough h (Overwrites h) (λ a b. owner h b < (number + 1) * WIDE) kept
-block_passed h kept needed are number unmarked before a b over some less = go over (cases_lt (owner h b) (number * WIDE))
+pub block_passed : (h : History) (kept : List (List ℕ)) (needed : List Bool) → AreNeeded h needed → (first number : ℕ) → get_or needed number false ≡ false
+    → AreEnough h (Overwrites h) (IsFrom h (first * WIDE) (number * WIDE)) kept → AreEnough h (Overwrites h) (IsFrom h (first * WIDE) ((number + 1) * WIDE)) kept
+block_passed h kept needed are first number unmarked before a b over some (more, less) = go over (cases_lt (owner h b) (number * WIDE))
   where
     go : Overwrites h a b → (owner h b < number * WIDE) ⊎ (number * WIDE ≤ owner h b) → IsCovered h kept a b
-    go over (inl early) = before a b over some early
+    go over (inl early) = before a b over some (more, early)
     go (low, below, (c, x, pair, writer, apart, reached)) (inr late) =
         let block : owner h b / WIDE ≡ number = omega (arith, late, less) in
         let marked : get_or needed number false ≡ true
         = subst (λ (z : ℕ). get_or needed z false ≡ true) block (are a b c x pair writer some apart) in
         absurd (false≢true (sym unmarked ∙ marked))
+
+-- a block more
+pub block_kept : (h : History) (old new : List (List ℕ)) (first number : ℕ) → AreStillKept old new
+    → AreEnough h (Overwrites h) (IsFrom h (first * WIDE) (number * WIDE)) old
+    → AreEnough h (Overwrites h) (IsFrom h (number * WIDE) (number * WIDE + WIDE)) new
+    → AreEnough h (Overwrites h) (IsFrom h (first * WIDE) ((number + 1) * WIDE)) new
+block_kept h old new first number still before block a b over some (more, less) = go (cases_lt (owner h b) (number * WIDE))
+  where
+    go : (owner h b < number * WIDE) ⊎ (number * WIDE ≤ owner h b) → IsCovered h new a b
+    go (inl early) = covered_wider h old new a b still (before a b over some (more, early))
+    go (inr late) = block a b over some (late, omega (arith, less))
 
 -- so many blocks have room for all sessions
 pub blocks_cover : (sessions blocks : ℕ) → div_ceil sessions 64 ≤ blocks → sessions ≤ blocks * WIDE

@@ -19,6 +19,7 @@ pub mod NewsLemmas
 pub mod Needing
 pub mod ByKey
 pub mod Finding
+pub mod ShareLemmas
 pub mod LeftOver
 pub mod Stepped
 pub mod Rising

@@ -14,7 +14,7 @@ use Rattle.tcc_graph.proofs.Walking.{pair_walk}
 use Rattle.tcc_bits.proofs.Lists.{one_of_taken, still_taken, last_taken, nothing_in}
 use Rattle.tcc_clocks.specs.Clocks.{IsOneOf, IsBefore, AreOwners, AreLatestOf, AreClocks}
 use Rattle.tcc_order.specs.private.CausalLinks.{AreLatestPast, IsOverwritten, IsLiftable, IsLifted, lifted_by}
-use Rattle.tcc_order.specs.private.CausalLinks.{IsCovered, IsKeptEarlier, AreRuns, KeepsNews, IsBegun, AreDerived, AreEnough, Overwrites}
+use Rattle.tcc_order.specs.private.CausalLinks.{IsCovered, IsKeptEarlier, AreRuns, KeepsNews, IsBegun, AreDerived, AreEnough, IsFrom, Overwrites}
 use Rattle.tcc_order.specs.private.News.{IsOtherWriter, TellsNone}
 use Rattle.tcc_clocks.specs.declared.latest.TheConstants.{WIDE}
 use Rattle.tcc_clocks.proofs.EntryLemmas.{clock_reaches}
@@ -99,7 +99,7 @@ covered_wider h old new a b wider (d, way, inr reached) = (d, way, inr reached)
 
 -- one transaction more, whose links from this block are kept
 abbrev pub IsUpTo : History → ℕ → ℕ → ℕ → ℕ → Type 0
-IsUpTo h from n a b = (owner h b < from) ⊎ ((owner h b < from + WIDE) × (a < n))
+IsUpTo h from n a b = IsFrom h from (from + WIDE) a b × (a < n)
 
 -- ---- runs
 pub begun_on : (owners : List ℕ) (a before : ℕ) (run : List ℕ) → 0 < before
@@ -209,18 +209,13 @@ module _ (h : History) (numbered : IsBySession h.entries) (from a : ℕ) (low : 
             by (inl past) = past_clock past (keeps.enough k (omega (arith, l, needs.wide)))
 
     pub kept_enough : AreEnough h (Overwrites h) (IsUpTo h from a) kept → AreEnough h (Overwrites h) (IsUpTo h from (a + 1)) (set kept a new)
-    kept_enough are d b over some meant = go meant (cases_eq d a) (cases_lt (owner h b) from)
+    kept_enough are d b over some (meant, less) = go (cases_eq d a)
       where
-        old : IsUpTo h from a d b → IsCovered h (set kept a new) d b
-        old was = covered_wider h kept (set kept a new) d b wider (are d b over some was)
-
-        go : IsUpTo h from (a + 1) d b → (d ≡ a) ⊎ (d ≢ a) → (owner h b < from) ⊎ (from ≤ owner h b) → IsCovered h (set kept a new) d b
-        go m kind (inl early) = old (inl early)
-        go (inl early) kind (inr high) = old (inl early)
-        go (inr w) (inl same) (inr high) =
+        go : (d ≡ a) ⊎ (d ≢ a) → IsCovered h (set kept a new) d b
+        go (inl same) =
             subst (λ (z : ℕ). IsCovered h (set kept a new) z b) (sym same)
-            (row_covers b (subst (λ (z : ℕ). Overwrites h z b) same over) some high w.0)
-        go (inr w) (inr other) (inr high) = old (inr (w.0, omega (arith, w.1, other)))
+            (row_covers b (subst (λ (z : ℕ). Overwrites h z b) same over) some meant.0 meant.1)
+        go (inr other) = covered_wider h kept (set kept a new) d b wider (are d b over some (meant, omega (arith, less, other)))
 
     -- the runs behind it
     pub runs_kept : 1 < a + 1 → AreRuns h (set kept a new) from (a + 1) (owner h (a + 1 - 1)) after
@@ -266,7 +261,7 @@ module _ (h : History) (numbered : IsBySession h.entries) (from a : ℕ) (low : 
 pub passed_enough : (h : History) → IsBySession h.entries → (from a : ℕ) → a < count h → (table : List (List ℕ)) → AreClocks h from table
     → ((c : ℕ) (x : List ℕ) → IsReadsPair h a c x → TellsNone h from table a c x) → (kept : List (List ℕ)) → AreEnough h (Overwrites h) (IsUpTo h from a) kept
     → AreEnough h (Overwrites h) (IsUpTo h from (a + 1)) kept
-passed_enough h numbered from a low table clocks tells kept are d b over some meant = go meant (cases_eq d a) (cases_lt (owner h b) from)
+passed_enough h numbered from a low table clocks tells kept are d b over some (meant, small_d) = go (cases_eq d a)
   where
     by : (c : ℕ) (x : List ℕ) → IsReadsPair h a c x → IsOtherWriter h a c x b → b < count h → (k : ℕ) → k < WIDE → owner h b ≡ from + k → IsCovered h kept a b
     by c x pair other below k l mine =
@@ -276,11 +271,9 @@ passed_enough h numbered from a low table clocks tells kept are d b over some me
     covered : Overwrites h a b → from ≤ owner h b → owner h b < from + WIDE → IsCovered h kept a b
     covered (small, below, (c, x, pair, writer, apart, reached)) high less = by c x pair (writer, apart, reached) below (owner h b - from) (omega (arith, high, less)) (omega (arith, high))
 
-    go : IsUpTo h from (a + 1) d b → (d ≡ a) ⊎ (d ≢ a) → (owner h b < from) ⊎ (from ≤ owner h b) → IsCovered h kept d b
-    go m kind (inl early) = are d b over some (inl early)
-    go (inl early) kind (inr high) = are d b over some (inl early)
-    go (inr w) (inl at) (inr high) = subst (λ (z : ℕ). IsCovered h kept z b) (sym at) (covered (subst (λ (z : ℕ). Overwrites h z b) at over) high w.0)
-    go (inr w) (inr other) (inr high) = are d b over some (inr (w.0, omega (arith, w.1, other)))
+    go : (d ≡ a) ⊎ (d ≢ a) → IsCovered h kept d b
+    go (inl at) = subst (λ (z : ℕ). IsCovered h kept z b) (sym at) (covered (subst (λ (z : ℕ). Overwrites h z b) at over) meant.0 meant.1)
+    go (inr other) = are d b over some (meant, omega (arith, small_d, other))
 
 -- ---- one number of a row
 pub keeps_none : (need clock run old : List ℕ) → KeepsNews need clock run run old old 0

@@ -7,6 +7,7 @@ pub mod Placed
 pub mod Queued
 pub mod Chains
 pub mod CausalLinks
+pub mod Sweeps
 pub mod ByKey
 pub mod News
 pub mod Found

@@ -3,12 +3,13 @@
 //! session has too is kept there alone; and where the readers of both are alike, the later one isn't looked at. For N transactions
 //! of S sessions, R reads, of which P pairs of a source and a key have such readings, and W writers of a key that takes
 //! O(S (N + R + P log W)). A block of sessions none of which writes a key that is read from another transaction is passed over.
-ghost use Rattle.std.specs.Prelude.{◌≡◌, ◌≢◌, ◌<◌, ◌≤◌, ◌+◌, ◌-◌, ◌⊎◌, ◌↔◌, ℕ, length, slice_index, All, Contains, IfOk, OnOk};
+ghost use Rattle.std.specs.Prelude.{◌≡◌, ◌≢◌, ◌<◌, ◌≤◌, ◌+◌, ◌-◌, ◌*◌, ◌⊎◌, ◌↔◌, ℕ, length, slice_index, slice_index_or, All, Contains, IfOk, OnOk};
 ghost use Rattle.tcc_reads.specs.History.{IsBySession, count, owner};
 ghost use Rattle.tcc_graph.specs.{Relations.IsReadsPair, Levels.causally, Tables.row_of, Orders.IsNumbering};
 ghost use Rattle.tcc_clocks.specs.{Parents.ArePrevious, Spans.AreBounds, declared.latest.TheConstants.WIDE};
 ghost use Rattle.tcc_clocks.specs.Clocks.{AreOwners, AreClocks, LeadsOnward};
-ghost use Rattle.tcc_order.specs.private.CausalLinks.{IsOverwritten, IsLifted, AreDerived, AreEnough, AreLinks, Overwrites, lifted_by, AreOrdered, CanLift, IsLastUpTo, IsLastBut, AreLatestPast, KeepsNews, IsBegun};
+ghost use Rattle.tcc_order.specs.private.CausalLinks.{IsOverwritten, IsLifted, AreDerived, AreEnough, AreLinks, AreLinksFrom, AreStillKept, IsFrom, Overwrites, lifted_by, AreOrdered, CanLift, IsLastUpTo, IsLastBut, AreLatestPast, KeepsNews, IsBegun};
+ghost use Rattle.tcc_order.specs.private.Sweeps.{IsSweep};
 ghost use Rattle.tcc_order.specs.private.News.{AreNews, AreNewsOf};
 ghost use Rattle.tcc_order.specs.private.ByKey.{past_of, IsTop, AreAlike, IsLikeBefore, key_index_in, reader_in};
 ghost use Rattle.std.specs.List.Sorted.{IsNonDecreasing, IsPartitionPoint};
@@ -20,8 +21,8 @@ use crate::rows::{MadeRows, empty_rows};
 use std::alloc::Global;
 use tcc_bits::Row;
 use tcc_clocks::{
-    Clock, SharedRows, WIDE, between, block_bounds, find_clocks, needed_blocks, owners, raise_each,
-    span_of, steps_along,
+    Clock, SharedRows, Steps, WIDE, between, block_bounds, find_clocks, needed_blocks, owners,
+    raise_each, span_of, steps_along,
 };
 use tcc_graph::LargeGraph;
 use tcc_txn::NoMemory;
@@ -342,10 +343,10 @@ fn keep_block(
     requires readings { AreNews graph.now from table.now readings.now }
     requires long { length kept.old ≡ count graph.now }
     requires derived { AreDerived (Overwrites graph.now) kept.old }
-    requires enough { AreEnough graph.now (Overwrites graph.now) (λ a b. owner graph.now b < from) kept.old }
     ensures same { length kept.new ≡ length kept.old }
     ensures derived { OnOk result (AreDerived (Overwrites graph.now) kept.new) }
-    ensures enough { OnOk result (AreEnough graph.now (Overwrites graph.now) (λ a b. owner graph.now b < from + WIDE) kept.new) }
+    ensures still { OnOk result (AreStillKept kept.old kept.new) }
+    ensures enough { OnOk result (AreEnough graph.now (Overwrites graph.now) (IsFrom graph.now from (from + WIDE)) kept.new) }
 {
     let mut need = [0; WIDE];
     let mut run = [0; WIDE];
@@ -361,6 +362,72 @@ fn keep_block(
     Ok(())
 }
 
+/// By what the links from each block of sessions are found.
+#[derive(Clone, Copy)]
+pub(crate) struct Sweep<'a> {
+    pub(crate) graph: &'a LargeGraph,
+    /// The session of each transaction.
+    pub(crate) owners: &'a [u32],
+    /// An order in which causal pairs lead onward.
+    pub(crate) order: &'a [u32],
+    /// What stands right before each transaction of the order.
+    pub(crate) steps: &'a Steps,
+    /// Which blocks may have such links.
+    pub(crate) needed: &'a [bool],
+}
+
+/// Whether a block may have such links.
+fn is_needed(needed: &[bool], block: usize) -> bool
+    ensures { result ≡ false → slice_index_or needed.now block false ≡ false }
+{
+    match needed.get(block) {
+        Some(is_needed) => *is_needed,
+        None => true,
+    }
+}
+
+/// The links that are kept from the blocks of sessions from `first` to below `end`: no others are looked at.
+pub(crate) fn links_from(
+    alloc: Global,
+    sweep: &Sweep<'_>,
+    first: usize,
+    end: usize,
+) -> MadeRows<u32>
+    requires { IsSweep sweep.now }
+    ensures { IfOk result (λ kept. AreLinksFrom sweep.now.graph.now (first * WIDE) (end * WIDE) kept.items) }
+{
+    let graph = sweep.graph;
+    let blocks = graph.sessions().len().div_ceil(WIDE);
+    let mut kept = empty_rows(alloc, graph.count())?;
+    let mut table = SharedRows::new(alloc, graph.count())?;
+    let mut readings = no_readings(alloc, graph.count())?;
+    let mut last = no_writers(alloc, graph)?;
+    let mut heads = vec![in alloc; 0; last.len()]?;
+    for block in first..end.min(blocks) {
+        if !is_needed(sweep.needed, block) {
+            continue;
+        }
+        let from = (block * WIDE) as u32;
+        let owners = sweep.owners;
+        let order = sweep.order;
+        let steps = sweep.steps;
+        find_clocks(&mut table, graph, owners, from, order, steps)?;
+        find_news(
+            &mut readings,
+            &mut last,
+            &mut heads,
+            owners,
+            from,
+            graph,
+            &table,
+            order,
+            steps,
+        )?;
+        keep_block(&mut kept, graph, owners, from, &table, &readings)?;
+    }
+    Ok(kept)
+}
+
 /// The links at `Causal` that are kept, by an order in which causal pairs lead onward.
 pub(crate) fn causal_links(
     alloc: Global,
@@ -374,32 +441,14 @@ pub(crate) fn causal_links(
     ensures { IfOk result (λ kept. AreLinks (causally graph.now) kept.items) }
 {
     let owners = owners(alloc, graph)?;
-    let mut kept = empty_rows(alloc, graph.count())?;
-    let mut table = SharedRows::new(alloc, graph.count())?;
-    let mut readings = no_readings(alloc, graph.count())?;
-    let mut last = no_writers(alloc, graph)?;
-    let mut heads = vec![in alloc; 0; last.len()]?;
     let steps = steps_along(alloc, graph, parents, order)?;
     let needed = needed_blocks(alloc, graph, &owners)?;
-    let sessions = graph.sessions().len();
-    for block in 0..sessions.div_ceil(WIDE) {
-        if !needed[block] {
-            continue;
-        }
-        let from = (block * WIDE) as u32;
-        find_clocks(&mut table, graph, &owners, from, order, &steps)?;
-        find_news(
-            &mut readings,
-            &mut last,
-            &mut heads,
-            &owners,
-            from,
-            graph,
-            &table,
-            order,
-            &steps,
-        )?;
-        keep_block(&mut kept, graph, &owners, from, &table, &readings)?;
-    }
-    Ok(kept)
+    let sweep = Sweep {
+        graph,
+        owners: &owners,
+        order,
+        steps: &steps,
+        needed: &needed,
+    };
+    links_from(alloc, &sweep, 0, graph.sessions().len().div_ceil(WIDE))
 }

@@ -12,7 +12,9 @@ use crate::causal_links::causal_links;
 use crate::kahn::{Placed, first_placing};
 use crate::placement::{PairPlacement, Placement, Stuck};
 use crate::rows::empty_rows;
+use crate::shares::causal_links_by;
 use std::alloc::Global;
+use std::thread::Threads;
 use tcc_bits::Row;
 use tcc_clocks::previous_of_each;
 use tcc_graph::{LargeGraph, Level};
@@ -55,6 +57,47 @@ fn links_kept(
     }
 }
 
+/// The links at `Causal` that are kept, as `links_by_clocks` finds them, by so many workers at most.
+fn links_by_workers(
+    rt: &(impl Threads + Sync),
+    alloc: Global,
+    graph: &LargeGraph,
+    parents: &[u32],
+    workers: u32,
+) -> Result<Links, NoMemory>
+    requires numbered { IsBySession graph.now.entries }
+    requires parents { ArePrevious graph.now parents.now }
+    ensures { IfOk result (AreFound (causally graph.now)) }
+{
+    let none = empty_rows(alloc, graph.count())?;
+    match first_placing(alloc, graph, parents, &none)? {
+        Placed::Order(order) => {
+            let kept = causal_links_by(rt, alloc, graph, parents, &order, workers)?;
+            Ok(Links::Kept(kept))
+        }
+        Placed::Stuck(placed) => Ok(Links::Circle(Stuck { kept: none, placed })),
+    }
+}
+
+/// The links at a level that are kept, by so many workers at most.
+fn links_kept_by(
+    rt: &(impl Threads + Sync),
+    alloc: Global,
+    graph: &LargeGraph,
+    level: Level,
+    parents: &[u32],
+    workers: u32,
+) -> Result<Links, NoMemory>
+    requires numbered { IsBySession graph.now.entries }
+    requires parents { ArePrevious graph.now parents.now }
+    ensures { IfOk result (AreFound (judged graph.now level)) }
+{
+    match level {
+        Level::Atomic => links_kept(alloc, graph, level, parents),
+        Level::Causal => links_by_workers(rt, alloc, graph, parents, workers),
+    }
+}
+
 /// The first commit order of a history at a level, compared as lists of numbers; or where it stops: links of the level, and
 /// transactions of which each is held back by another, by causal pairs and these links.
 pub fn place(alloc: Global, graph: &LargeGraph, level: Level) -> Result<Placement, NoMemory>
@@ -69,6 +112,29 @@ pub fn place(alloc: Global, graph: &LargeGraph, level: Level) -> Result<Placemen
     match first_placing(alloc, graph, &parents, &kept)? {
         Placed::Order(order) => Ok(Placement::Order(order)),
         Placed::Stuck(placed) => Ok(Placement::Stuck(Stuck { kept, placed })),
+    }
+}
+
+/// What `place` answers, with its links at `Causal` worked out side by side, by so many workers at most: fewer where their tables
+/// would take too much. The order is the first one, whatever their number.
+pub fn place_by(
+    rt: &(impl Threads + Sync),
+    alloc: Global,
+    graph: &LargeGraph,
+    level: Level,
+    workers: u32,
+) -> Result<Placement, NoMemory>
+    ensures { IfOk result (IsPlacement (judged graph.now level)) }
+{
+    graph.numbered();
+    let parents = previous_of_each(alloc, graph)?;
+    let kept = match links_kept_by(rt, alloc, graph, level, &parents, workers)? {
+        Links::Kept(kept) => kept,
+        Links::Circle(stuck) => return Ok(Placement::Stuck(stuck)),
+    };
+    match first_placing(alloc, graph, &parents, &kept)? {
+        Placed::Order(order) => Ok(Placement::Order(order)),
+        Placed::Stuck(placed) => Ok(Placement::Stuck(Stuck { placed, kept })),
     }
 }
 

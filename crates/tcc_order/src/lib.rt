@@ -13,8 +13,9 @@ mod placement;
 mod reading_rows;
 mod ready;
 mod rows;
+mod shares;
 mod waiting;
 
 pub use clocks_along::clocks;
-pub use commit_order::{order, order_of_pairs, place, place_pairs};
+pub use commit_order::{order, order_of_pairs, place, place_by, place_pairs};
 pub use placement::{PairPlacement, Placement, Stuck};

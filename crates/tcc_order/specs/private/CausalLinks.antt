@@ -1,5 +1,5 @@
 -- The links that are kept, by the greatest numbers of the sessions of a block.
-use Rattle.std.specs.Prelude.{ℕ, ◌<◌, ◌≤◌, ◌+◌, ◌-◌, ◌≡◌, ◌≢◌, ◌⊎◌, ◌==◌, ◌&&◌, nat_lt, nat_le, not, if◌then◌else◌, max, List, [], length, slice_index, All, Contains}
+use Rattle.std.specs.Prelude.{ℕ, ◌<◌, ◌≤◌, ◌+◌, ◌-◌, ◌≡◌, ◌≢◌, ◌⊎◌, ◌==◌, ◌&&◌, nat_lt, nat_le, not, if◌then◌else◌, max, List, [], ◌++◌, length, slice_index, All, Contains}
 use Rattle.std.specs.List.Sorted.{IsNonDecreasing}
 use Rattle.tcc_reads.specs.History.{History, count, owner}
 use Rattle.tcc_graph.specs.Relations.{IsReadsPair, IsSessionPair}
@@ -80,6 +80,18 @@ AreDerived Derives kept = (a b : ℕ) → Contains (row_of kept a) b → Derives
 abbrev pub AreEnough : History → (ℕ → ℕ → Type 0) → (ℕ → ℕ → Type 0) → List (List ℕ) → Type 0
 AreEnough h Derives IsMeant kept = (a b : ℕ) → Derives a b → 0 < b → IsMeant a b → IsCovered h kept a b
 
+-- the session of b is one from `first` to below `end`
+abbrev pub IsFrom : History → ℕ → ℕ → ℕ → ℕ → Type 0
+IsFrom h first end a b = (first ≤ owner h b) × (owner h b < end)
+
+-- what was kept still is
+abbrev pub AreStillKept : List (List ℕ) → List (List ℕ) → Type 0
+AreStillKept old new = (a b : ℕ) → Contains (row_of old a) b → Contains (row_of new a) b
+
+-- behind the links of each row stand those of another table
+abbrev pub AreJoined : List (List ℕ) → List (List ℕ) → List (List ℕ) → Type 0
+AreJoined old more new = (a : ℕ) → row_of new a ≡ row_of old a ++ row_of more a
+
 -- the derived pairs at `Causal`
 abbrev pub Overwrites : History → ℕ → ℕ → Type 0
 Overwrites h a b = (a < count h) × (b < count h) × IsOverwritten h (IsReadsPair h a) a b
@@ -102,6 +114,12 @@ pub record AreLinks (j : Judged) (kept : List (List ℕ)) : Type 0 where
   pub long : length kept ≡ count j.history
   pub derived : AreDerived (Derives j) kept
   pub enough : AreEnough j.history (Derives j) (λ a b. Unit {0}) kept
+
+-- links that are kept from the sessions from `first` to below `end`: each is a derived pair, and all from these sessions are covered
+pub record AreLinksFrom (h : History) (first : ℕ) (end : ℕ) (kept : List (List ℕ)) : Type 0 where
+  pub long : length kept ≡ count h
+  pub derived : AreDerived (Overwrites h) kept
+  pub enough : AreEnough h (Overwrites h) (IsFrom h first end) kept
 
 -- the sessions' indices don't fall
 abbrev pub AreOrdered : List ℕ → Type 0

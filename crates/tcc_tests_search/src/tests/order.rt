@@ -2,8 +2,11 @@
 use crate::tests::histories::{LONG_WALK, MUTUAL, STALE_READ, TWO_WRITERS, graph_of};
 use std::alloc::Global;
 use std::process::Abort;
-use tcc_graph::Level;
-use tcc_order::{Placement, order, order_of_pairs, place};
+use std::thread::Threads;
+use tcc_graph::{LargeGraph, Level};
+use tcc_order::{Placement, order, order_of_pairs, place, place_by};
+use tcc_reads::resolve_large;
+use tcc_rows::large_snapshot_of;
 
 /// The first commit order of these records at a level has to be this, or there has to be none.
 fn assert_order(
@@ -127,4 +130,74 @@ fn orders_of_pairs(rt: HostRuntime) {
     let graph = graph_of(&rt, alloc, MUTUAL);
     let none = matches!(order_of_pairs(alloc, &graph), Ok(None));
     assert!(rt; none);
+}
+
+/// Records of sessions in four blocks. Each of 75 readers knows one of the writers by y, and then reads x from another, so that the
+/// one has to stand before the other.
+fn many_sessions(rt: &impl Abort, alloc: Global, last: &str) -> String {
+    let mut text = String::new(alloc);
+    for k in 100..250 {
+        let writer = format!(in alloc; "w{k},begin\nw{k},w,x,{k}\nw{k},w,y,{k}\nw{k},commit\n");
+        text.push_str(&writer.expect(rt, "no memory"))
+            .expect(rt, "no memory");
+    }
+    for k in 100..175 {
+        let known = k + 75;
+        let first = format!(in alloc; "r{k},begin\nr{k},r,y,{known}\nr{k},commit\n");
+        text.push_str(&first.expect(rt, "no memory"))
+            .expect(rt, "no memory");
+        let then = format!(in alloc; "r{k},begin\nr{k},r,x,{k}\nr{k},commit\n");
+        text.push_str(&then.expect(rt, "no memory"))
+            .expect(rt, "no memory");
+    }
+    text.push_str(last).expect(rt, "no memory");
+    text
+}
+
+/// So many workers have to find what one finds alone: the same order, or the same links and what is left.
+fn assert_same(
+    rt: &(impl Abort + Threads + Sync),
+    alloc: Global,
+    graph: &LargeGraph,
+    level: Level,
+    workers: u32,
+) {
+    let alone = place(alloc, graph, level).expect(rt, "no memory");
+    let by_workers = place_by(rt, alloc, graph, level, workers).expect(rt, "no memory");
+    match (alone, by_workers) {
+        (Placement::Order(order), Placement::Order(other)) => {
+            assert!(rt; order.as_slice() == other.as_slice(), "by {workers}");
+        }
+        (Placement::Stuck(stuck), Placement::Stuck(other)) => {
+            assert!(rt;
+                stuck.placed.as_slice() == other.placed.as_slice(),
+                "by {workers}"
+            );
+            assert!(rt; stuck.kept.len() == other.kept.len(), "by {workers}");
+            for (row, same) in stuck.kept.iter().zip(other.kept.iter()) {
+                assert!(rt; row.as_slice() == same.as_slice(), "by {workers}");
+            }
+        }
+        _ => panic!(rt; "another answer by {workers}"),
+    }
+}
+
+/// Whatever the number of workers, the order is the same, and so are the links by which one stops, where a session reads the initial
+/// value of a key that it wrote.
+#[test]
+fn by_workers(rt: HostRuntime) {
+    let alloc = rt.alloc();
+    for last in [
+        "",
+        "v,begin\nv,w,z,1\nv,commit\nv,begin\nv,r,z,0\nv,commit\n",
+    ] {
+        let records = many_sessions(&rt, alloc, last);
+        let snapshot = large_snapshot_of(alloc, records.as_bytes()).expect(&rt, "unlawful");
+        let resolved = resolve_large(alloc, &snapshot).expect(&rt, "faults");
+        let graph = LargeGraph::build(alloc, resolved).expect(&rt, "no memory");
+        for workers in [0, 1, 2, 4, 32] {
+            assert_same(&rt, alloc, &graph, Level::Causal, workers);
+            assert_same(&rt, alloc, &graph, Level::Atomic, workers);
+        }
+    }
 }

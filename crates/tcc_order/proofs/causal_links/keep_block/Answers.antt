@@ -1,12 +1,13 @@
-use Rattle.std.proofs.Common.{rules, ◌≡◌, ◌<◌, ◌∙◌, inl, inr, ℕ, [], length, get_or, refl, sym, arith}
+use Rattle.std.proofs.Common.{rules, ◌≡◌, ◌<◌, ◌∙◌, ℕ, [], length, get_or, refl, sym, arith}
 use Rattle.std.proofs.lemmas.List.{get_or_default, length-replicate, length-set}
-use Rattle.tcc_reads.specs.History.{History, count, owner}
+use Rattle.tcc_reads.specs.History.{count, owner}
 use Rattle.tcc_graph.specs.Relations.{IsReadsPair}
 use Rattle.tcc_graph.specs.Tables.{row_of}
 use Rattle.tcc_clocks.specs.Clocks.{IsBefore, AreLatestOf}
 use Rattle.tcc_clocks.specs.declared.latest.TheConstants.{WIDE}
 use Rattle.tcc_order.specs.private.CausalLinks.{AreLatestPast, AreRuns, IsOverwritten, KeepsNews}
-use Rattle.tcc_order.proofs.Needing.{IsUpTo, kept_derived, kept_enough, runs_begun, runs_kept, runs_passed}
+use Rattle.tcc_order.proofs.Needing.{kept_derived, kept_enough, runs_begun, runs_kept, runs_passed}
+use Rattle.tcc_order.proofs.KeptRows.{rows_wider}
 use Rattle.tcc_order.proofs.ByKey.{none_more}
 use Rattle.tcc_order.proofs.NewsLemmas.{news_readers}
 use Rattle.tcc_clocks.proofs.SpanLemmas.{owners_rise}
@@ -21,13 +22,10 @@ loop-a-init c =
       length-replicate {A = ℕ} WIDE 0,
       refl,
       c.requires.derived,
-      λ a b over some meant. c.requires.enough a b over some (first h from a b meant),
+      λ a b over some meant. absurd (omega (arith, meant.1)),
       λ more. absurd (omega (arith, more)),
+      λ a b there. there,
     )
-  where
-    first : (h : History) (from a b : ℕ) → IsUpTo h from 0 a b → owner h b < from
-    first h from a b (inl early) = early
-    first h from a b (inr w) = absurd (omega (arith, w.1))
 
 pub block_bounds-bounds-requires : goal.block_bounds-bounds-requires
 block_bounds-bounds-requires c = owners_rise c.args.graph.now c.requires.numbered c.args.owners.now c.requires.owners
@@ -82,6 +80,7 @@ loop-a-preserved c =
             kept_derived h numbered from a low kept all new need clock run after needs reaches keeps inv.3,
             kept_enough h numbered from a low kept all new need clock run after needs reaches keeps runs inv.4,
             runs_kept h numbered from a low kept all new need clock run after needs reaches keeps runs,
+            λ d b was. rows_wider kept a new (omega (arith, low, all)) keeps.wider d b (inv.6 d b was),
           )
           )
       | else-has_more w ↦ rw (w.need-is, w.run-is, w.kept-is) (
@@ -92,13 +91,14 @@ loop-a-preserved c =
         none_more h numbered c.args.owners.now c.requires.owners from a low c.args.table.now c.requires.clocks c.args.readings.now c.requires.readings
             (c.has_more.ensures w.if-has_more.false) kept inv.4,
         runs_passed h numbered kept from a run runs,
+        inv.6,
       )
     ]
 
 pub returns-clause-enough : goal.returns-clause-enough
-returns-clause-enough c = λ a b over some less.
+returns-clause-enough c = λ a b over some meant.
     let low : a < c.loop-a.a = omega (arith, over.0, c.loop-a-test.false, c.count-a-end.ensures.value) in
-    c.loop-a.invariant.4 a b over some (inr (less, low))
+    c.loop-a.invariant.4 a b over some (meant, low)
 
 pub has_more-requires-clause-long : goal.has_more-requires-clause-long
 has_more-requires-clause-long c = omega (arith, c.requires.readings.long, c.requires.owners.long)

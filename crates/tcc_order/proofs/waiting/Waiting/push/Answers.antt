@@ -1,7 +1,5 @@
-use Rattle.std.proofs.Common.{rules, ◌≡◌, ◌<◌, ◌≤◌, ◌+◌, ◌∷◌, ◌++◌, [], length, slice_index, arith}
+use Rattle.std.proofs.Common.{rules, ◌≡◌, ◌<◌, ◌≤◌, ◌+◌, ◌∷◌, ◌++◌, [], length, slice_index}
 use Rattle.std.proofs.lemmas.List.{get_or_read, length-map}
-use Rattle.tcc_graph.specs.Tables.{row_of}
-use Rattle.tcc_order.specs.private.Chains.{chain}
 use Rattle.tcc_order.proofs.ChainLemmas.{chain_pushed, chain_row}
 use Rattle.tcc_order.proofs.waiting.Waiting.push.Goals as goal
 

@@ -1,7 +1,5 @@
-use Rattle.std.proofs.Common.{rules, ◌≡◌, ◌<◌, ◌≤◌, ◌-◌, ◌∷◌, ◌++◌, ◌⊎◌, ◌∙◌, inl, inr, [], suc, length, get_or, sym, slice_index, arith}
-use Rattle.std.specs.Prelude.{Contains}
-use Rattle.std.proofs.lemmas.List.{get_or_read, get_or_default, length-map}
-use Rattle.tcc_order.specs.private.Chains.{chain}
+use Rattle.std.proofs.Common.{rules, ◌≡◌, ◌<◌, ◌-◌, ◌∷◌, ◌++◌, [], suc, length, get_or, sym, slice_index, arith}
+use Rattle.std.proofs.lemmas.List.{get_or_read, length-map}
 use Rattle.tcc_order.proofs.ChainLemmas.{chain_row, chain_woken, chain_rewoken, chain_ended}
 use Rattle.tcc_order.proofs.waiting.Waiting.wake.Goals as goal
 

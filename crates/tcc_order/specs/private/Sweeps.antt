@@ -1,0 +1,34 @@
+-- By what the links from each block of sessions are found, and in which shares.
+use Rattle.std.specs.Prelude.{ℕ, ◌<◌, ◌+◌, ◌*◌, ◌≡◌, List, length, min, slice_index_or}
+use Rattle.tcc_reads.specs.History.{History, IsBySession, count}
+use Rattle.tcc_graph.specs.Orders.{IsNumbering}
+use Rattle.tcc_clocks.specs.Clocks.{AreOwners, LeadsOnward}
+use Rattle.tcc_clocks.specs.Needed.{AreNeeded}
+use Rattle.tcc_clocks.specs.Parents.{AreSteps}
+use Rattle.tcc_clocks.specs.declared.latest.TheConstants.{WIDE}
+use Rattle.std.specs.Global.{Vec}
+use Rattle.tcc_order.specs.private.CausalLinks.{AreLinksFrom}
+use Rattle.tcc_order.specs.declared.causal_links.Sweep.{Sweep}
+use Rattle.tcc_order.specs.declared.shares.Shares.{Shares}
+
+-- a row for each transaction
+abbrev pub Links : Type 0
+Links = Vec (List ℕ)
+
+-- all of it is what it is called
+pub record IsSweep (s : Sweep) : Type 0 where
+  pub numbered : IsBySession s.graph.now.entries
+  pub owners : AreOwners s.graph.now s.owners.now
+  pub numbering : IsNumbering (count s.graph.now) s.order.now
+  pub onward : LeadsOnward s.graph.now s.order.now
+  pub steps : AreSteps s.graph.now s.order.now s.steps.now.spans.items s.steps.now.numbers.items (length s.order.now)
+  pub needed : AreNeeded s.graph.now s.needed.now
+
+-- where a share begins: at this block
+abbrev pub start_of : Shares → ℕ → ℕ
+start_of s share = min (s.size * share) s.blocks
+
+-- each share has the links from its sessions
+pub record HaveLinks (h : History) (s : Shares) (parts : List Links) : Type 0 where
+  pub long : length parts ≡ s.count
+  pub each : (share : ℕ) (d : Links) → share < s.count → AreLinksFrom h (start_of s share * WIDE) (start_of s (share + 1) * WIDE) (slice_index_or parts share d).items

@@ -1,0 +1,152 @@
+//! The links at `Causal` that are kept, worked out side by side: the blocks of sessions in shares, a thread for each. No block sees
+//! another. What the shares have is joined in the order of the blocks, as one thread adds it. Each share has tables of its own: a
+//! row of 64 numbers for each transaction at most, and 32 MiB for keys. So there are no more shares than fit into `ROWS_AT_ONCE`
+//! rows.
+ghost use Rattle.std.specs.Prelude.{◌≡◌, ◌<◌, ◌≤◌, ◌+◌, ◌*◌, ◌⊎◌, ◌++◌, ℕ, length, IfOk, OnOk};
+ghost use Rattle.tcc_reads.specs.History.{count};
+ghost use Rattle.tcc_graph.specs.{Levels.causally, Tables.row_of, Orders.IsNumbering};
+ghost use Rattle.tcc_clocks.specs.{Parents.ArePrevious, Clocks.LeadsOnward, declared.latest.TheConstants.WIDE};
+ghost use Rattle.tcc_order.specs.private.CausalLinks.{AreJoined, AreLinks, AreLinksFrom};
+ghost use Rattle.tcc_order.specs.private.Sweeps.{HaveLinks, IsSweep, start_of};
+
+use crate::causal_links::{Sweep, links_from};
+use crate::rows::{MadeRows, empty_rows};
+use rayon::prelude::*;
+use std::alloc::Global;
+use std::thread::Threads;
+use tcc_bits::Row;
+use tcc_clocks::{WIDE, needed_blocks, owners, steps_along};
+use tcc_graph::LargeGraph;
+use tcc_txn::NoMemory;
+
+/// How many rows the tables of all shares have at most, where there is more than one share: 1 GiB.
+const ROWS_AT_ONCE: u32 = 4_194_304;
+
+/// The blocks of sessions in shares.
+#[derive(Clone, Copy)]
+pub(crate) struct Shares {
+    pub(crate) count: u32,
+    /// How many blocks each share has, the last ones fewer.
+    pub(crate) size: usize,
+    pub(crate) blocks: usize,
+}
+
+/// In how many shares so many blocks are worked out: one for each worker, where there are as many blocks, and memory for so many.
+fn shares_for(workers: u32, blocks: u32, count: u32) -> u32
+    ensures some { 0 < result }
+    ensures few { (result ≡ 1) ⊎ ((result ≤ workers) × (result ≤ blocks)) }
+    ensures room { (result ≡ 1) ⊎ (result * count ≤ ROWS_AT_ONCE) }
+{
+    let room = ROWS_AT_ONCE / count.max(1);
+    workers.min(blocks).min(room).max(1)
+}
+
+impl Shares {
+    /// Where a share begins: at this block.
+    fn start(&self, share: usize) -> usize
+        ensures { result ≡ start_of self.now share }
+    {
+        self.size.saturating_mul(share).min(self.blocks)
+    }
+}
+
+/// The links of each share, a thread for each.
+fn all_shares(
+    rt: &(impl Threads + Sync),
+    alloc: Global,
+    sweep: &Sweep<'_>,
+    shares: &Shares,
+) -> Result<Vec<Vec<Row<u32>>>, NoMemory>
+    requires { IsSweep sweep.now }
+    ensures { IfOk result (λ parts. HaveLinks sweep.now.graph.now shares.now parts.items) }
+{
+    (0..shares.count)
+        .into_par_iter()
+        .map(
+            |share: u32| -> Result<Vec<Row<u32>>, NoMemory>
+                requires sweep { IsSweep sweep.now }
+                requires share { share < shares.now.count }
+                ensures { IfOk result (λ kept. AreLinksFrom sweep.entry.now.graph.now (start_of shares.entry.now share * WIDE) (start_of shares.entry.now (share + 1) * WIDE) kept.items) }
+            {
+                let first = shares.start(share as usize);
+                let end = shares.start(share as usize + 1);
+                links_from(alloc, sweep, first, end)
+            },
+        )
+        .with_min_len(1)
+        .collect::<Result<Vec<Vec<Row<u32>>>, NoMemory>>(rt, alloc)?
+}
+
+/// Puts these numbers behind those of a row.
+fn extend(row: &mut Row<u32>, numbers: &[u32]) -> Result<(), NoMemory>
+    ensures { OnOk result (row.new ≡ row.old ++ numbers.now) }
+{
+    for number in numbers {
+        row.push(*number)?;
+    }
+    Ok(())
+}
+
+/// Puts the links of a share behind those of the shares before it.
+fn join(kept: &mut [Row<u32>], part: &[Row<u32>]) -> Result<(), NoMemory>
+    requires { length part.now ≡ length kept.old }
+    ensures same { length kept.new ≡ length kept.old }
+    ensures joined { OnOk result (AreJoined kept.old part.now kept.new) }
+{
+    for (number, row) in part.iter().enumerate() {
+        extend(&mut kept[number], row.as_slice())?;
+    }
+    Ok(())
+}
+
+/// The links of all shares, in their order.
+fn joined(
+    alloc: Global,
+    graph: &LargeGraph,
+    shares: &Shares,
+    parts: &[Vec<Row<u32>>],
+) -> MadeRows<u32>
+    requires { HaveLinks graph.now shares.now parts.now }
+    ensures { IfOk result (λ kept. AreLinksFrom graph.now 0 (start_of shares.now (length parts.now) * WIDE) kept.items) }
+{
+    let mut kept = empty_rows(alloc, graph.count())?;
+    for part in parts {
+        join(&mut kept, part)?;
+    }
+    Ok(kept)
+}
+
+/// The links at `Causal` that are kept, by an order in which causal pairs lead onward and by so many workers at most.
+pub(crate) fn causal_links_by(
+    rt: &(impl Threads + Sync),
+    alloc: Global,
+    graph: &LargeGraph,
+    parents: &[u32],
+    order: &[u32],
+    workers: u32,
+) -> MadeRows<u32>
+    requires parents { ArePrevious graph.now parents.now }
+    requires numbering { IsNumbering (count graph.now) order.now }
+    requires onward { LeadsOnward graph.now order.now }
+    ensures { IfOk result (λ kept. AreLinks (causally graph.now) kept.items) }
+{
+    let owners = owners(alloc, graph)?;
+    let steps = steps_along(alloc, graph, parents, order)?;
+    let needed = needed_blocks(alloc, graph, &owners)?;
+    let sweep = Sweep {
+        graph,
+        owners: &owners,
+        order,
+        steps: &steps,
+        needed: &needed,
+    };
+    let blocks = graph.sessions().len().div_ceil(WIDE);
+    let count = shares_for(workers, blocks as u32, graph.count());
+    let shares = Shares {
+        count,
+        size: blocks.div_ceil(count as usize),
+        blocks,
+    };
+    let parts = all_shares(rt, alloc, &sweep, &shares)?;
+    joined(alloc, graph, &shares, &parts)
+}
