@@ -1,7 +1,7 @@
 # make run      prints the program's answer for a small history; where it isn't built yet, by a trial build that proves nothing,
 #               in a minute and a half on 4 processors
 # make build    proves what isn't proved yet and builds the program, crates/tcc/out/tcc
-# make checker  proves and builds the check alone, crates/tcc_checker/out/tcc_checker, and nothing of the searches
+# make checker  proves and builds the check alone, crates/tcc_checker/out/tcc_checker, and of the searches the judge's alone
 # make install  the same as make build, and copies it to PREFIX/bin (PREFIX=/usr/local), its man page and bash completion to PREFIX/share
 # make dist     builds it and packs it with man page, completion, recipes and what they need into out/tcc-VERSION-x86_64-linux.tar.gz,
 #               which runs wherever there is a C library of glibc 2.34 or later, as on Debian 12
