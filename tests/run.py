@@ -1,9 +1,9 @@
 #!/usr/bin/env python3
 """All tests: the merge gate, which proves everything from nothing, and then what asks something of what it built. First come the
 mutants, which the check must refuse, and the rows, by 32 workers, and those with an anomaly by two as well. Then come the seals of
-a history that grows, small histories decided as large ones, what a long run shows at a terminal, and random histories surveyed. So
-do the altered certificates, the refused allocations and the hostile records. Last come the scripts of recipes/ on stored inputs,
-the package of python/ as pip installs it, and what the documents name.
+a history that grows, random ones watched, small histories decided as large ones, what a long run shows at a terminal, and random
+histories surveyed. So do the altered certificates, the refused allocations and the hostile records. Last come the scripts of recipes/
+on stored inputs, the package of python/ as pip installs it, and what the documents name.
 
 The scripts run side by side, and the output of each is shown when it ends; those that measure time run last and alone.
 A table says where the time went (`spent.py`). What failed is shown once more after it, as a log may keep its end alone. The last
@@ -24,7 +24,8 @@ TOP = pathlib.Path(__file__).resolve().parent.parent
 GATE = ["rt", "ci"]
 ON_THE_PROGRAM = ("wrong/run.py --after-gate", "rows/run.py --workers 32", "certificates/run.py", "memory/run.py",
                   "rows/run.py --workers 2 --searched", "rows/run.py --checker", "recipes/run.py", "large/run.py", "survey/run.py",
-                  "python/run.py", "docs/run.py", "seals/run.py", "rows/numbers.py", "rows/filled.py", "rows/options.py", "wrong/trial.py")
+                  "python/run.py", "docs/run.py", "seals/run.py", "watch/run.py", "rows/numbers.py", "rows/filled.py", "rows/options.py",
+                  "wrong/trial.py")
 # (these go by time, and by a terminal)
 ALONE = ("large/watched.py", "hostile/run.py")
 CLOSING = re.compile(r"(\d+) passed, (\d+) failed$")

@@ -1,6 +1,6 @@
 -- How many committed transactions a snapshot has, and one with one transaction more.
 use Rattle.std.proofs.Common.{◌≡◌, ℕ, suc, ◌+◌, Bool, true, false, cond, T, List, [], ◌∷◌, ◌++◌, length, sum_by}
-use Rattle.std.proofs.Common.{refl, ap, sym, ◌∙◌, arith, length-append, Option, None, Some}
+use Rattle.std.proofs.Common.{refl, ap, sym, ◌∙◌, arith, length-append, None}
 use Rattle.std.specs.Prelude.{filter, unwrap_or}
 use Rattle.std.specs.FinMap as finite
 use Rattle.std.specs.FinMap.Entries.{find, is_sorted, put}

@@ -1,11 +1,10 @@
 -- What was taken of a snapshot that grows.
-use Rattle.std.proofs.Common.{ℕ, zero, suc, ◌+◌, ◌<◌, ◌≤◌, ◌≡◌, ◌≢◌, ◌⊎◌, inl, inr, Bool, true, false, cond, List, [], ◌∷◌, ◌++◌, length, drop, get_or, slice_get, Option, None, Some}
+use Rattle.std.proofs.Common.{ℕ, ◌+◌, ◌<◌, ◌≤◌, ◌≡◌, ◌≢◌, ◌⊎◌, inl, inr, Bool, true, false, cond, List, [], ◌∷◌, ◌++◌, length, drop, slice_get, Option, None, Some}
 use Rattle.std.proofs.Common.{append-nil, append_assoc, length-append, refl, sym, ap, subst, ◌∙◌, arith}
 use Rattle.std.specs.Prelude.{unwrap_or}
-use Rattle.std.specs.List.{Contains}
 use Rattle.std.specs.BTreeMap as tree
-use Rattle.std.specs.BTreeMap.{BTreeMap, is_at}
-use Rattle.std.specs.FinMap.{entries, get, get-empty, get-insert, len-entries, same_map, empty}
+use Rattle.std.specs.BTreeMap.{is_at}
+use Rattle.std.specs.FinMap.{entries, get, get-empty, get-insert, same_map, empty}
 use Rattle.std.specs.Map.{lookup}
 use Rattle.std.specs.Ordering.{eq_by_cmp, is_eq}
 use Rattle.std.specs.Cmp.Lexicographic.{nat_list_cmp_total}
@@ -20,7 +19,7 @@ use Rattle.tcc_txn.specs.Finished.{with_transaction}
 use Rattle.tcc_txn.specs.Nested.{IsNested, IsPrefix, list_of}
 use Rattle.tcc_txn.specs.Snapshots.{Sessions, finished_at}
 use Rattle.tcc_txn.specs.Transactions.{Transaction}
-use Rattle.tcc_txn.proofs.Nesting.{nested_itself, nested_on, nested_transaction}
+use Rattle.tcc_txn.proofs.Nesting.{nested_on, nested_transaction}
 use Rattle.tcc_txn.proofs.SessionEntries.{Named, entry_of_name, list_of_entry}
 use Rattle.tcc_txn.proofs.SortedParts.{name_cmp}
 use Rattle.tcc_reads.specs.History.{count}
@@ -28,7 +27,7 @@ use Rattle.tcc_reads.specs.Sources.{history}
 use Rattle.tcc_reads.proofs.Counting.{item_at}
 use Rattle.tcc_watch.proofs.LineLemmas.{list_here, list_other}
 use Rattle.tcc_watch_run.specs.declared.following.Follower.{Follower}
-use Rattle.tcc_watch_run.specs.private.Following.{GoesOn, HasAll, HasCaughtUp, HasTaken, IsFollowing, IsNamed, TakesSession}
+use Rattle.tcc_watch_run.specs.private.Following.{GoesOn, HasAll, HasTaken, IsFollowing, IsNamed, TakesSession}
 use Rattle.tcc_watch_run.proofs.Committed.{count_more, count_none}
 
 -- ---- lists that begin with others

@@ -1,4 +1,5 @@
 pub mod Committed
+pub mod Earlier
 pub mod FollowingLemmas
 pub mod Watched
 pub mod Runs

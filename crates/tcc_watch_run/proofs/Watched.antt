@@ -1,5 +1,5 @@
 -- What is said of a snapshot, by the verdict of the watch.
-use Rattle.std.proofs.Common.{◌≡◌, ◌+◌, ◌-◌, ◌∙◌, ℕ, List, None, ap, arith, inl, inr, length, subst, sym}
+use Rattle.std.proofs.Common.{◌≡◌, ◌+◌, ◌-◌, ◌∙◌, ℕ, Bool, true, false, List, None, ap, arith, inl, inr, length, subst, sym}
 use Rattle.std.specs.FinMap.{entries, len, len-entries}
 use Rattle.std.proofs.lemmas.List.{length-map}
 use Rattle.tcc_txn.specs.Snapshots.{Sessions}
@@ -8,14 +8,14 @@ use Rattle.tcc_reads.specs.History.{count}
 use Rattle.tcc_reads.specs.Sources.{history}
 use Rattle.tcc_watch.specs.Verdicts.{IsVerdict}
 use Rattle.tcc_watch.specs.declared.verdict.Verdict.TheVariants as verdict
-use Rattle.tcc_print.specs.Courses.{Said}
 use Rattle.tcc_print.specs.Saying.{IsTold}
 use Rattle.tcc_print.specs.Statuses.{order_status}
 use Rattle.tcc_print.specs.declared.options.Options.{Options}
 use Rattle.tcc_print.specs.declared.status.Status.{Status}
-use Rattle.tcc_watch_run.specs.Watching.{IsConsistent, consistent_line, consistent_said}
+use Rattle.tcc_print.specs.declared.status.Status.TheVariants.{Anomaly}
+use Rattle.tcc_watch_run.specs.Watching.{IsAnomaly, IsConsistent, consistent_line, consistent_said, still_line, still_said}
 use Rattle.tcc_watch_run.specs.declared.told.Told.{Told}
-use Rattle.tcc_watch_run.specs.private.Stages.{IsAsExplained, course, told_said}
+use Rattle.tcc_watch_run.specs.private.Stages.{IsAsExplained, Knows, KnowsNow, course, told_said}
 
 -- the line of a consistent history, by the counts of what was taken
 pub consistent_by : (options : Options) (s : Sessions) (text : List ℕ) (status : Status) (committed sessions : ℕ) → committed + 1 ≡ count (history s)
@@ -30,18 +30,54 @@ consistent_by options s text status committed sessions counted all is ends =
     let end : status ≡ order_status options.required (count (history s)) = ends ∙ ap (order_status options.required) counted in
     λ i. record { text = line i; status = end i; certificate = None }
 
-module _ (options : Options) (w s : Sessions) (same : w ≡ s) (told : Told) where
-  pub consistent_told : IsVerdict w options.level verdict.Consistent → told_said told ≡ consistent_said options (history s) → IsTold (course options) s told
-  consistent_told is text = (inl (subst (λ (z : Sessions). IsConsistent options z) same is, text), tt)
+-- the same of one that still has an anomaly
+pub still_by : (options : Options) (s : Sessions) (text : List ℕ) (status : Status) (committed sessions : ℕ) → committed + 1 ≡ count (history s)
+    → sessions ≡ len s → text ≡ still_line options.json committed sessions → status ≡ Anomaly
+    → record { text = text; status = status; certificate = None } ≡ still_said options (history s)
+still_by options s text status committed sessions counted all is ends =
+    let number : committed ≡ count (history s) - 1 = omega (arith, counted) in
+    let names : sessions ≡ length (history s).sessions
+    = all ∙ len-entries s ∙ sym (length-map (entries s) (λ (named : List ℕ × List Transaction). named.0)) in
+    let line : text ≡ still_line options.json (count (history s) - 1) (length (history s).sessions)
+    = is ∙ (λ i. still_line options.json (number i) (names i)) in
+    λ i. record { text = line i; status = ends i; certificate = None }
 
-  pub anomaly_told : IsVerdict w options.level verdict.Anomaly → IsAsExplained options s told → IsTold (course options) s told
-  anomaly_told is (explained, said, text) = (inr ((λ fine. fine.1 found.1), explained, said, text), tt)
-    where
-      found : IsVerdict s options.level verdict.Anomaly
-      found = subst (λ (z : Sessions). IsVerdict z options.level verdict.Anomaly) same is
+module _ (options : Options) (moments : List Sessions) (w s : Sessions) (same : w ≡ s) (told : Told) where
+  -- where there is no anomaly what was known stays
+  kept : (before after : Bool) → after ≡ before → (IsAnomaly options s → ⊥) → Knows options moments s before → KnowsNow options moments s after
+  kept true after is none knows = subst (λ (b : Bool). KnowsNow options moments s b) (sym is) (inr knows)
+  kept false after is none knows = subst (λ (b : Bool). KnowsNow options moments s b) (sym is) (none, knows)
 
-  pub unresolved_told : IsVerdict w options.level verdict.Unresolved → IsAsExplained options s told → IsTold (course options) s told
-  unresolved_told is (explained, said, text) = (inr ((λ fine. found fine.0), explained, said, text), tt)
-    where
-      found : IsVerdict s options.level verdict.Unresolved
-      found = subst (λ (z : Sessions). IsVerdict z options.level verdict.Unresolved) same is
+  told_now : (after : Bool) → after ≡ true → IsAnomaly options s → KnowsNow options moments s after
+  told_now after is found = subst (λ (b : Bool). KnowsNow options moments s b) (sym is) (inl found)
+
+  pub consistent_told : (before : Bool) → IsVerdict w options.level verdict.Consistent → told_said told ≡ consistent_said options (history s)
+      → told.has_told ≡ before → Knows options moments s before → IsTold (course options moments) s told
+  consistent_told before is text known knows =
+      let fine : IsConsistent options s = subst (λ (z : Sessions). IsConsistent options z) same is in
+      (inl (fine, text), kept before told.has_told known (λ found. fine.1 found.1) knows)
+
+  found_in : IsVerdict w options.level verdict.Anomaly → IsAnomaly options s
+  found_in is = subst (λ (z : Sessions). IsAnomaly options z) same is
+
+  -- an anomaly after the first
+  pub still_told : IsVerdict w options.level verdict.Anomaly → told_said told ≡ still_said options (history s) → told.has_told ≡ true
+      → Knows options moments s true → IsTold (course options moments) s told
+  still_told is text known knows =
+      let found = found_in is in
+      (inr (inl ((found, knows), text)), told_now told.has_told known found)
+
+  -- and the first
+  pub anomaly_told : IsVerdict w options.level verdict.Anomaly → IsAsExplained options s told → told.has_told ≡ true
+      → Knows options moments s false → IsTold (course options moments) s told
+  anomaly_told is (explained, said, text) known knows =
+      let found = found_in is in
+      (inr (inr ((λ fine. fine.1 found.1), (λ later. knows later.1), explained, said, text)), told_now told.has_told known found)
+
+  pub unresolved_told : (before : Bool) → IsVerdict w options.level verdict.Unresolved → IsAsExplained options s told
+      → told.has_told ≡ before → Knows options moments s before → IsTold (course options moments) s told
+  unresolved_told before is (explained, said, text) known knows =
+      let found : IsVerdict s options.level verdict.Unresolved = subst (λ (z : Sessions). IsVerdict z options.level verdict.Unresolved) same is in (
+        inr (inr ((λ fine. found fine.0), (λ later. found later.0.0), explained, said, text)),
+        kept before told.has_told known (λ anomaly. found anomaly.0) knows,
+      )

@@ -1,8 +1,8 @@
-//! The line of a consistent history.
+//! The lines of histories of which no more is said than how much they have.
 ghost use Rattle.std.specs.Prelude.{◌≡◌, IfOk};
 ghost use Rattle.serde_json.specs.View.{view};
 ghost use Rattle.tcc_answer.specs.Json.{json_line};
-ghost use Rattle.tcc_watch_run.specs.Watching.{consistent_json, consistent_line, consistent_text};
+ghost use Rattle.tcc_watch_run.specs.Watching.{consistent_json, consistent_line, consistent_text, still_json, still_line, still_text};
 
 use serde_json::{Value, json};
 use std::alloc::{AllocError, Global};
@@ -45,5 +45,47 @@ pub(crate) fn consistent_line(
         consistent_object(alloc, transactions, sessions)
     } else {
         consistent_text(alloc, transactions, sessions)
+    }
+}
+
+fn still_text(alloc: Global, transactions: usize, sessions: u32) -> Result<Vec<u8>, NoMemory>
+    ensures { IfOk result (λ text. text.items ≡ still_text transactions sessions) }
+{
+    let text = format!(in alloc;
+        "anomaly: still, {transactions} transactions, {sessions} sessions\n"
+    )?;
+    Ok(text.into_bytes())
+}
+
+fn still_json(alloc: Global, transactions: usize, sessions: u32) -> Result<Value, AllocError>
+    ensures { IfOk result (λ v. view v ≡ still_json transactions sessions) }
+{
+    json!(in alloc; {
+        "answer": "anomaly",
+        "sessions": sessions,
+        "still": true,
+        "transactions": transactions
+    })
+}
+
+fn still_object(alloc: Global, transactions: usize, sessions: u32) -> Result<Vec<u8>, NoMemory>
+    ensures { IfOk result (λ line. line.items ≡ json_line (still_json transactions sessions)) }
+{
+    object_line(alloc, &still_json(alloc, transactions, sessions)?)
+}
+
+/// The line of a history of so many committed transactions and sessions that still has an anomaly.
+pub(crate) fn still_line(
+    alloc: Global,
+    json: bool,
+    transactions: usize,
+    sessions: u32,
+) -> Result<Vec<u8>, NoMemory>
+    ensures { IfOk result (λ line. line.items ≡ still_line json transactions sessions) }
+{
+    if json {
+        still_object(alloc, transactions, sessions)
+    } else {
+        still_text(alloc, transactions, sessions)
     }
 }

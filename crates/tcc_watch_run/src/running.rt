@@ -1,38 +1,51 @@
 //! From the bytes of records to what is said at each seal, and at the end.
 ghost use Rattle.std.specs.Prelude.{◌≡◌, ◌≢◌, ℕ, List, [], None, IfOk, IfSome, MatchResult, OnOk};
 ghost use Rattle.tcc_rows.specs.{Ahead.fault_met, Reached.IsWithin, Recordings.IsRecording};
-ghost use Rattle.tcc_txn.specs.{Nested.IsNested, declared.limits.Limits.TheVariants.Large};
+ghost use Rattle.tcc_txn.specs.{Nested.IsNested, Snapshots.Sessions, declared.limits.Limits.TheVariants.Large};
 ghost use Rattle.tcc_large_run.specs.LargeRuns.{answers_of, records_of};
 ghost use Rattle.tcc_print.specs.{Saying.IsTold, Saying.SaysAt, private.Courses.AllAnswered, private.Courses.EndsEarly};
-ghost use Rattle.tcc_watch_run.specs.Watching.{IsWatchRun};
+ghost use Rattle.tcc_watch_run.specs.Watching.{IsWatchRun, moments_of};
 ghost use Rattle.tcc_watch_run.specs.private.Following.{HasCaughtUp, IsFollowing};
-ghost use Rattle.tcc_watch_run.specs.private.Stages.{course};
+ghost use Rattle.tcc_watch_run.specs.private.Stages.{Knows, KnowsLast, course, was_told};
 
 use crate::following::Follower;
+use crate::telling::{say_again, say_anew};
 use crate::told::Told;
 use std::alloc::Global;
 use std::io::{Read, Write};
 use std::thread::Threads;
 use tcc_large_run::Watcher;
 use tcc_print::printing::{print_endless, print_memory};
-use tcc_print::{Last, Options, RunContext, again, say_again, say_anew};
+use tcc_print::{Last, Options, RunContext, again};
 use tcc_rows::{LargeRecording, Moment};
 use tcc_txn::{LargeSnapshot, NoMemory};
 use tcc_verdict::stop;
 
-/// Takes what is new in the snapshot, and gives what is to be said of all that it has.
+/// Whether an anomaly was told so far.
+fn was_told(last: &Option<Last<Told>>) -> bool
+    ensures { result ≡ was_told last.now }
+{
+    match last {
+        Some(last) => last.outcome.has_told,
+        None => false,
+    }
+}
+
+/// Takes what is new in the snapshot, and gives what is to be said of all that it has, where an anomaly was told before or not.
 fn follow<T: Threads + Sync, G: Watcher>(
     run: &RunContext<T, G>,
     follower: &mut Follower,
     snapshot: &LargeSnapshot,
+    has_told: bool,
 ) -> Result<Told, NoMemory>
     requires following { IsFollowing follower.old }
     requires nested { IsNested follower.old.watch snapshot.now }
-    ensures told { IfOk result (IsTold (course run.now.options.now) snapshot.now) }
+    ensures told { (moments : List Sessions) → Knows run.now.options.now moments snapshot.now has_told
+        → IfOk result (IsTold (course run.now.options.now moments) snapshot.now) }
     ensures followed { OnOk result (HasCaughtUp follower.new snapshot.now) }
 {
     follower.catch_up(run.alloc, snapshot)?;
-    Told::of(run, follower, snapshot)
+    Told::of(run, follower, snapshot, has_told)
 }
 
 /// Says at a moment of the recording what is to be said of the snapshot, and keeps it: what was said last, if nothing was finished
@@ -48,15 +61,18 @@ fn say<T: Threads + Sync, W: Write, N: Write, G: Watcher>(
 ) -> Result<Last<Told>, u8>
     requires following { IsFollowing follower.old }
     requires nested { IsNested follower.old.watch snapshot.now }
-    ensures said { SaysAt (course run.now.options.now) moment snapshot.now last (W.contents out.old) (W.contents out.new) result }
+    ensures said { (moments : List Sessions) → KnowsLast run.now.options.now moments snapshot.now last
+        → SaysAt (course run.now.options.now moments) moment snapshot.now last (W.contents out.old) (W.contents out.new) result }
     ensures follows { OnOk result (IsFollowing follower.new) }
     ensures nests { OnOk result (IsNested follower.new.watch snapshot.now) }
 {
     match again(last, snapshot.transactions()) {
         Ok(last) => say_again(run, moment, snapshot, last, out, notes),
         Err(earlier) => {
+            let has_told = was_told(&earlier);
             drop(earlier);
-            say_anew(run, snapshot, follow(run, follower, snapshot), out, notes)
+            let found = follow(run, follower, snapshot, has_told);
+            say_anew(run, snapshot, found, out, notes)
         }
     }
 }
@@ -74,8 +90,8 @@ fn answer_all<R: Read + Drop, T: Threads + Sync, W: Write, N: Write, G: Watcher>
     requires nested { IsNested follower.old.watch recording.old.snapshot }
     ensures { (bytes : List ℕ) → IsRecording Large R.remaining recording.old [] (answers_of bytes) → IsWithin R.remaining recording.old.rows (records_of bytes)
         → fault_met recording.old.rows ≡ None
-        → MatchResult result (AllAnswered (course run.now.options.now) bytes (W.contents out.old) (W.contents out.new))
-        (EndsEarly (course run.now.options.now) bytes (W.contents out.old) (W.contents out.new)) }
+        → MatchResult result (AllAnswered (course run.now.options.now (moments_of bytes)) bytes (W.contents out.old) (W.contents out.new))
+        (EndsEarly (course run.now.options.now (moments_of bytes)) bytes (W.contents out.old) (W.contents out.new)) }
 {
     let mut last: Option<Last<Told>> = None;
     'moments: for _turn in 0..u64::MAX {
@@ -146,7 +162,8 @@ fn run_recording<R: Read + Drop, T: Threads + Sync, W: Write, N: Write, G: Watch
 /// Writes what is to be said, at the level, of all that was finished before each seal of the bytes of the reader, and before their end, as
 /// text or as lines of JSON, and gives the number that the run ends with. Records are taken up to the large limits, and each answer goes
 /// out before more of them are read. As long as the history is consistent an answer costs no more than what is new since the last one, and
-/// its line says how much there is; else it is what `run_large` says, at its cost. What a person may want to know besides goes to the notes.
+/// its line says how much there is. Of an anomaly after the first one it says that, too. Any other answer is what `run_large` says, at its
+/// cost. What a person may want to know besides goes to the notes.
 pub fn run_watch<R: Read + Drop, W: Write, N: Write, G: Watcher>(
     rt: &(impl Threads + Sync),
     alloc: Global,

@@ -1,19 +1,18 @@
 //! What a watch says of a snapshot.
-ghost use Rattle.std.specs.Prelude.{◌≡◌, ◌+◌, IfOk};
+ghost use Rattle.std.specs.Prelude.{◌≡◌, ◌+◌, true, IfOk, List};
 ghost use Rattle.tcc_print.specs.{Saying.IsTold, Statuses.order_status};
 ghost use Rattle.tcc_reads.specs.{History.count, Sources.history};
+ghost use Rattle.tcc_txn.specs.Snapshots.{Sessions};
 ghost use Rattle.tcc_watch_run.specs.private.Following.{HasCaughtUp};
-ghost use Rattle.tcc_watch_run.specs.private.Stages.{IsAsExplained, course, told_said};
-ghost use Rattle.tcc_watch_run.specs.Watching.{consistent_said};
+ghost use Rattle.tcc_watch_run.specs.private.Stages.{IsAsExplained, Knows, course, told_said};
+ghost use Rattle.tcc_watch_run.specs.Watching.{consistent_said, still_said};
 
 use crate::following::Follower;
-use crate::lines::consistent_line;
+use crate::lines::{consistent_line, still_line};
 use std::alloc::Global;
-use std::io::Write;
 use std::thread::Threads;
-use tcc_base::send;
 use tcc_large_run::{Explained, Watcher, explain_large_snapshot};
-use tcc_print::{Options, RunContext, Statement, Status};
+use tcc_print::{Options, RunContext, Status};
 use tcc_reads::ReadFault;
 use tcc_txn::{LargeSnapshot, NoMemory};
 use tcc_watch::Verdict;
@@ -25,6 +24,8 @@ pub(crate) struct Told {
     pub status: Status,
     /// The read faults that the text tells.
     pub faults: Vec<ReadFault>,
+    /// Whether an anomaly was told by this text, or by one before it.
+    pub has_told: bool,
 }
 
 /// How a run ends that found so many committed transactions to be consistent.
@@ -44,23 +45,44 @@ fn consistent(
     options: &Options,
     committed: usize,
     snapshot: &LargeSnapshot,
+    has_told: bool,
 ) -> Result<Told, NoMemory>
     requires { committed + 1 ≡ count (history snapshot.now) }
-    ensures { IfOk result (λ told. told_said told ≡ consistent_said options.now (history snapshot.now)) }
+    ensures { IfOk result (λ told. (told_said told ≡ consistent_said options.now (history snapshot.now)) × (told.has_told ≡ has_told)) }
 {
     Ok(Told {
         text: consistent_line(alloc, options.json, committed, snapshot.sessions())?,
         status: consistent_status(committed, options.required),
         faults: Vec::new(alloc),
+        has_told,
     })
 }
 
-/// What is said of any other.
+/// What is said of an anomaly where one was told before.
+fn still(
+    alloc: Global,
+    options: &Options,
+    committed: usize,
+    snapshot: &LargeSnapshot,
+) -> Result<Told, NoMemory>
+    requires { committed + 1 ≡ count (history snapshot.now) }
+    ensures { IfOk result (λ told. (told_said told ≡ still_said options.now (history snapshot.now)) × (told.has_told ≡ true)) }
+{
+    Ok(Told {
+        text: still_line(alloc, options.json, committed, snapshot.sessions())?,
+        status: Status::Anomaly,
+        faults: Vec::new(alloc),
+        has_told: true,
+    })
+}
+
+/// What is said of any other, with which an anomaly was told or not.
 fn explained<T: Threads + Sync, G: Watcher>(
     run: &RunContext<T, G>,
     snapshot: &LargeSnapshot,
+    has_told: bool,
 ) -> Result<Told, NoMemory>
-    ensures { IfOk result (IsAsExplained run.now.options.now snapshot.now) }
+    ensures { IfOk result (λ told. IsAsExplained run.now.options.now snapshot.now told × (told.has_told ≡ has_told)) }
 {
     let Explained {
         text,
@@ -71,45 +93,42 @@ fn explained<T: Threads + Sync, G: Watcher>(
         text,
         status,
         faults,
+        has_told,
     })
 }
 
 impl Told {
-    /// What is to be said of the snapshot that the watch has followed. Where its history is consistent the watch knows that; else all of
-    /// it is explained.
+    /// What is to be said of the snapshot that the watch has followed, where an anomaly was told before or not. That its history is
+    /// consistent the watch knows, and that an anomaly is still there; else all of it is explained.
     pub(crate) fn of<T: Threads + Sync, G: Watcher>(
         run: &RunContext<T, G>,
         follower: &Follower,
         snapshot: &LargeSnapshot,
+        has_told: bool,
     ) -> Result<Told, NoMemory>
         requires { HasCaughtUp follower.now snapshot.now }
-        ensures { IfOk result (IsTold (course run.now.options.now) snapshot.now) }
+        ensures { (moments : List Sessions) → Knows run.now.options.now moments snapshot.now has_told
+            → IfOk result (IsTold (course run.now.options.now moments) snapshot.now) }
     {
         let verdict = follower.watch.answer(run.alloc, run.options.level)?;
         match verdict {
-            Verdict::Consistent => consistent(run.alloc, run.options, follower.committed, snapshot),
-            Verdict::Anomaly => explained(run, snapshot),
-            Verdict::Unresolved => explained(run, snapshot),
+            Verdict::Consistent => {
+                consistent(
+                    run.alloc,
+                    run.options,
+                    follower.committed,
+                    snapshot,
+                    has_told,
+                )
+            }
+            Verdict::Anomaly => {
+                if has_told {
+                    still(run.alloc, run.options, follower.committed, snapshot)
+                } else {
+                    explained(run, snapshot, true)
+                }
+            }
+            Verdict::Unresolved => explained(run, snapshot, has_told),
         }
     }
-}
-
-impl Statement for Told {
-    ghost use Rattle.std.specs.Prelude.{refl};
-    ghost use Rattle.tcc_watch_run.specs.private.Stages.{course};
-
-    ghost course = { course };
-
-    fn send<W: Write>(&self, _alloc: Global, _options: &Options, out: &mut W) -> Result<(), u8> {
-        match send(out, &self.text) {
-            Ok(()) => Ok(()),
-            Err(_) => Err(Status::Device.code()),
-        }
-    }
-
-    fn read_faults(&self) -> &[ReadFault] {
-        &self.faults
-    }
-
-    ghost asked = { λ options. refl };
 }

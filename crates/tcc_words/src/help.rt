@@ -85,7 +85,8 @@ Statuses:
 pub const WATCH: &str =
     "The records are those that 'tcc explain --large' reads, while they come: each 'seal' is answered at once, for all
 that was finished so far, and so is the end. As long as the history is consistent an answer is one line, and
-costs what is new since the last one. Any other answer is that of 'tcc explain --large', at its cost.
+costs what is new since the last one. The first anomaly is what 'tcc explain --large' prints, at its cost, and so
+are read faults each time. Of a later anomaly one line says that there still is one.
 
 Example: a session writes x; after an answer, its next transaction reads the initial x.
   $ printf 'a,begin\\na,w,x,1\\na,commit\\nseal\\na,begin\\na,r,x,0\\na,commit\\n' | tcc watch

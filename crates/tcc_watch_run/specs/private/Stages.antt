@@ -1,12 +1,14 @@
 -- How the stages of a run follow one another.
-use Rattle.std.specs.Prelude.{◌≡◌, None}
+use Rattle.std.specs.Prelude.{◌≡◌, ◌≢◌, ◌⊎◌, Bool, true, false, List, Option, None, Some, IfSome}
+use Rattle.tcc_txn.specs.Finished.{transaction_count}
 use Rattle.tcc_txn.specs.Snapshots.{Sessions}
 use Rattle.tcc_txn.specs.declared.limits.Limits.TheVariants.{Large}
 use Rattle.tcc_large_run.specs.LargeRuns.{IsSaidWithLarge}
 use Rattle.tcc_print.specs.Courses.{Said}
 use Rattle.tcc_print.specs.Saying.{Course}
+use Rattle.tcc_print.specs.declared.last.Last.{Last}
 use Rattle.tcc_print.specs.declared.options.Options.{Options}
-use Rattle.tcc_watch_run.specs.Watching.{IsWatched}
+use Rattle.tcc_watch_run.specs.Watching.{IsAnomaly, IsWatched, WasAnomaly}
 use Rattle.tcc_watch_run.specs.declared.told.Told.{Told}
 
 -- what is said
@@ -17,7 +19,32 @@ told_said told = record { text = told.text.items; status = told.status; certific
 abbrev pub IsAsExplained : Options → Sessions → Told → Type 0
 IsAsExplained options s told = (explained : Said) × IsSaidWithLarge options s explained × (told_said told ≡ record explained { certificate = None })
 
--- the course of a run
-abbrev pub course : Options → Course Told
-course options =
-    record { limits = Large; options = options; is_said = IsWatched options; is_outcome = λ s told. Unit {0}; say = told_said }
+-- before the snapshot one of the others was an anomaly, or none was
+abbrev pub Knows : Options → List Sessions → Sessions → Bool → Type 0
+Knows options moments s true = WasAnomaly options moments s
+Knows options moments s false = WasAnomaly options moments s → ⊥
+
+-- and so with the snapshot itself
+abbrev pub KnowsNow : Options → List Sessions → Sessions → Bool → Type 0
+KnowsNow options moments s true = IsAnomaly options s ⊎ WasAnomaly options moments s
+KnowsNow options moments s false = (IsAnomaly options s → ⊥) × (WasAnomaly options moments s → ⊥)
+
+-- whether an anomaly was told so far
+abbrev pub was_told : Option (Last Told) → Bool
+was_told None = false
+was_told (Some last) = last.outcome.has_told
+
+-- what was told so far is known of the snapshot, if something was finished since
+abbrev pub KnowsLast : Options → List Sessions → Sessions → Option (Last Told) → Type 0
+KnowsLast options moments s last =
+    IfSome last (λ last. last.transactions ≢ transaction_count s) → Knows options moments s (was_told last)
+
+-- the course of a run that answers of these snapshots
+abbrev pub course : Options → List Sessions → Course Told
+course options moments = record {
+  limits = Large;
+  options = options;
+  is_said = IsWatched options moments;
+  is_outcome = λ s told. KnowsNow options moments s told.has_told;
+  say = told_said;
+}

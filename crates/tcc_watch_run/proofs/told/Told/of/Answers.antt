@@ -1,33 +1,46 @@
-use Rattle.std.proofs.Common.{◌∙◌, ap, subst}
+use Rattle.std.proofs.Common.{◌∙◌, Bool, ap, subst}
 use Rattle.std.proofs.lemmas.Result.{IfOk-weaker}
 use Rattle.tcc_txn.specs.Snapshots.{Sessions}
 use Rattle.tcc_reads.specs.History.{count}
 use Rattle.tcc_reads.specs.Sources.{history}
 use Rattle.tcc_watch.specs.Verdicts.{IsVerdict}
 use Rattle.tcc_watch.specs.declared.verdict.Verdict.{Verdict}
-use Rattle.tcc_watch_run.proofs.Watched.{anomaly_told, consistent_told, unresolved_told}
+use Rattle.tcc_watch_run.specs.private.Stages.{Knows}
+use Rattle.tcc_watch_run.proofs.Watched.{anomaly_told, consistent_told, still_told, unresolved_told}
 use Rattle.tcc_watch_run.proofs.told.Told.of.Goals as goal
 
 pub consistent-requires : goal.consistent-requires
 consistent-requires g c = c.requires.0.committed ∙ ap (λ (s : Sessions). count (history s)) c.requires.1
 
+pub still-requires : goal.still-requires
+still-requires g c = c.requires.0.committed ∙ ap (λ (s : Sessions). count (history s)) c.requires.1
+
 pub returns-in-Consistent : goal.returns-in-Consistent
-returns-in-Consistent g c =
+returns-in-Consistent g c moments knows =
     IfOk-weaker c.consistent.result _ _
-    (λ told text. consistent_told c.args.run.now.options.now c.args.follower.now.watch c.args.snapshot.now c.requires.1 told
-    (subst (λ (v : Verdict). IsVerdict c.args.follower.now.watch c.args.run.now.options.now.level v) c.in-Consistent.is c.in_ok-verdict.ensures) text)
+    (λ told is. consistent_told c.args.run.now.options.now moments c.args.follower.now.watch c.args.snapshot.now c.requires.1 told c.args.has_told
+    (subst (λ (v : Verdict). IsVerdict c.args.follower.now.watch c.args.run.now.options.now.level v) c.in-Consistent.is c.in_ok-verdict.ensures) is.0 is.1 knows)
     c.consistent.ensures
 
-pub returns-in-Anomaly : goal.returns-in-Anomaly
-returns-in-Anomaly g c =
+pub returns-then-has_told : goal.returns-then-has_told
+returns-then-has_told g c moments knows =
+    IfOk-weaker c.still.result _ _
+    (λ told is. still_told c.args.run.now.options.now moments c.args.follower.now.watch c.args.snapshot.now c.requires.1 told
+    (subst (λ (v : Verdict). IsVerdict c.args.follower.now.watch c.args.run.now.options.now.level v) c.in-Anomaly.is c.in_ok-verdict.ensures) is.0 is.1
+    (subst (λ (b : Bool). Knows c.args.run.now.options.now moments c.args.snapshot.now b) c.if-has_told.true knows))
+    c.still.ensures
+
+pub returns-else-has_told : goal.returns-else-has_told
+returns-else-has_told g c moments knows =
     IfOk-weaker c.explained.result _ _
-    (λ told said. anomaly_told c.args.run.now.options.now c.args.follower.now.watch c.args.snapshot.now c.requires.1 told
-    (subst (λ (v : Verdict). IsVerdict c.args.follower.now.watch c.args.run.now.options.now.level v) c.in-Anomaly.is c.in_ok-verdict.ensures) said)
+    (λ told is. anomaly_told c.args.run.now.options.now moments c.args.follower.now.watch c.args.snapshot.now c.requires.1 told
+    (subst (λ (v : Verdict). IsVerdict c.args.follower.now.watch c.args.run.now.options.now.level v) c.in-Anomaly.is c.in_ok-verdict.ensures) is.0 is.1
+    (subst (λ (b : Bool). Knows c.args.run.now.options.now moments c.args.snapshot.now b) c.if-has_told.false knows))
     c.explained.ensures
 
 pub returns-in-Unresolved : goal.returns-in-Unresolved
-returns-in-Unresolved g c =
+returns-in-Unresolved g c moments knows =
     IfOk-weaker c.explained-in-Unresolved.result _ _
-    (λ told said. unresolved_told c.args.run.now.options.now c.args.follower.now.watch c.args.snapshot.now c.requires.1 told
-    (subst (λ (v : Verdict). IsVerdict c.args.follower.now.watch c.args.run.now.options.now.level v) c.in-Unresolved.is c.in_ok-verdict.ensures) said)
+    (λ told is. unresolved_told c.args.run.now.options.now moments c.args.follower.now.watch c.args.snapshot.now c.requires.1 told c.args.has_told
+    (subst (λ (v : Verdict). IsVerdict c.args.follower.now.watch c.args.run.now.options.now.level v) c.in-Unresolved.is c.in_ok-verdict.ensures) is.0 is.1 knows)
     c.explained-in-Unresolved.ensures
