@@ -12,7 +12,6 @@ mod rows;
 mod running;
 mod telling;
 
-pub use finding::FullAnswer;
 pub use objects::Asked;
 pub use running::run_full;
 pub use tcc_print::RunContext;

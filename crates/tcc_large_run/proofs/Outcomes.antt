@@ -16,8 +16,6 @@ use Rattle.tcc_cert.specs.declared.large.Run.{Run}
 use Rattle.tcc_answer.specs.declared.answer.Answer.{Answer}
 use Rattle.tcc_answer.specs.declared.answer.Answer.TheVariants as answer
 use Rattle.tcc_large.specs.Decisions.{HasLinks, IsDecision}
-use Rattle.tcc_large.specs.Explained.{IsLargeAnswer}
-use Rattle.tcc_large.specs.declared.answer.LargeAnswer.{LargeAnswer}
 use Rattle.tcc_large.specs.declared.decision.Decision.{Decision}
 use Rattle.tcc_large.specs.declared.decision.Decision.TheVariants as decision
 use Rattle.tcc_print.specs.Courses.{Said, faults_said}
@@ -88,19 +86,16 @@ proved_outcome : (level : Level) (s : Sessions) (h : History) (links : List Link
 proved_outcome level s h links runs none past same is room =
     record { resolved = none; past = past; own = same; links = links; runs = runs; is = is; room = room; outcome = refl }
 
-pub large_outcome : (level : Level) (s : Sessions) (a : LargeAnswer) (o : Outcome) → (KeepsLimits s → ⊥) → IsLargeAnswer s level a
-    → IsFoundOf level a.graph a.decision o → IsOutcome level s o
-large_outcome level s a o past (none, same, is) (inl (said, short, room)) =
+pub large_outcome : (level : Level) (s : Sessions) (h : History) (d : Decision) (o : Outcome) → (KeepsLimits s → ⊥) → read_faults s ≡ [] → h ≡ history s
+    → IsDecision (judged h level) d → IsFoundOf level h d o → IsOutcome level s o
+large_outcome level s h d o past none same is (inl (said, short, room)) =
     subst (λ (o : Outcome). IsOutcome level s o) (sym said)
-    (decided_outcome level s a.graph a.decision none past same is short (subst (λ (h : History). HasLargeText (claim_of level h a.decision)) same room))
-large_outcome level s a o past (none, same, is) (inr (links, runs, proved, room, said)) =
+    (decided_outcome level s h d none past same (subst (λ (h : History). IsDecision (judged h level) d) same is) short
+    (subst (λ (h : History). HasLargeText (claim_of level h d)) same room))
+large_outcome level s h d o past none same is (inr (links, runs, proved, room, said)) =
     subst (λ (o : Outcome). IsOutcome level s o) (sym said)
-    (proved_outcome level s a.graph links runs none past same (subst (λ (h : History). IsProvedLeast level h links runs) same proved)
+    (proved_outcome level s h links runs none past same (subst (λ (h : History). IsProvedLeast level h links runs) same proved)
     (subst (λ (h : History). HasLargeText (proved_claim level h links runs)) same room))
-
--- what is answered for a large snapshot is decided of its graph
-pub decided_of : (level : Level) (s : Sessions) (a : LargeAnswer) → IsLargeAnswer s level a → IsDecision (judged a.graph level) a.decision
-decided_of level s a (none, same, is) = subst (λ (h : History). IsDecision (judged h level) a.decision) (sym same) is
 
 -- ---- the links of what was said
 

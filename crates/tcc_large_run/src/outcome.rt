@@ -9,7 +9,7 @@ ghost use Rattle.tcc_large.specs.Decisions.{IsDecision};
 ghost use Rattle.tcc_large.specs.declared.decision.Decision.TheVariants as decision;
 ghost use Rattle.tcc_print.specs.Saying.{IsTold};
 ghost use Rattle.tcc_large_run.specs.LargeRuns.{IsShort, bare_cycle, bare_order, claim_of};
-ghost use Rattle.tcc_large_run.specs.private.Stages.{IsFoundOf, IsOutcome, course, outcome_links, outcome_status};
+ghost use Rattle.tcc_large_run.specs.private.Stages.{IsFoundOf, course, outcome_links, outcome_status};
 
 use crate::room::check_room;
 use crate::short::short;
@@ -17,19 +17,19 @@ use std::alloc::Global;
 use std::io::Write;
 use std::thread::Threads;
 use tcc_answer::{Anomaly, Answer, CappedRows, Commit, Labels};
+use tcc_answering::{Answered, answer_of};
 use tcc_cert::{LargeCertificate, Links, Numbers, Table};
-use tcc_explain::{ExplainFault, Gate};
+use tcc_explain::Gate;
 use tcc_graph::{LargeGraph, Level, Link};
 use tcc_judge::laws::is_least;
-use tcc_large::{Decision, LargeAnswer, explain_large};
+use tcc_large::Decision;
 use tcc_print::large::send_unproved;
 use tcc_print::printing::{send_answer, send_unresolved};
 use tcc_print::status::answer_status;
 use tcc_print::{Options, RunContext, Statement, Status};
-use tcc_proving::{proved_claim, steps_of, with_first};
-use tcc_reads::{ReadFault, ResolveFault};
-use tcc_run::first_answer;
-use tcc_txn::{LargeSnapshot, NoMemory, Snapshot};
+use tcc_proving::{proved_claim, steps_of};
+use tcc_reads::ReadFault;
+use tcc_txn::{LargeSnapshot, NoMemory};
 
 /// What is said of a snapshot.
 #[derive(Drop)]
@@ -93,38 +93,7 @@ fn cycle_answer(
     )))
 }
 
-/// What is answered, with the first of the least cycles where the judge knows it by the order, and a least one of more than four steps
-/// as a cycle of which no more is known.
-fn settled(
-    alloc: Global,
-    level: Level,
-    answer: LargeAnswer,
-    order: &Option<Vec<u32>>,
-) -> Result<LargeAnswer, NoMemory>
-    requires { IsDecision (judged answer.graph level) answer.decision }
-    ensures { IfOk result (λ found. (found.graph ≡ answer.graph) × IsDecision (judged answer.graph level) found.decision × IsShort found.decision) }
-{
-    let LargeAnswer { graph, decision } = answer;
-    let found = with_first(alloc, &graph, level, decision, order)?;
-    let decision = short(found)?;
-    Ok(LargeAnswer { graph, decision })
-}
-
 impl Outcome {
-    /// What is said of a small snapshot.
-    fn of_small<T: Threads + Sync, G: Gate>(
-        run: &RunContext<T, G>,
-        snapshot: &Snapshot,
-    ) -> Result<Outcome, NoMemory>
-        ensures { IfOk result (IsOutcome run.now.options.now.level snapshot.now) }
-    {
-        match first_answer(run, snapshot, run.options.level) {
-            Ok(answer) => Ok(Outcome::Small(answer)),
-            Err(ExplainFault::Reads(faults)) => Ok(Outcome::Unresolved(faults)),
-            Err(ExplainFault::NoMemory) => Err(NoMemory),
-        }
-    }
-
     /// What is said of a cycle of more than four steps, of which no more is decided: that it is a least one, where the judge takes it for
     /// one by the order.
     fn of_cycle(
@@ -161,13 +130,12 @@ impl Outcome {
     fn of_decision(
         alloc: Global,
         level: Level,
-        answer: LargeAnswer,
+        graph: LargeGraph,
+        decision: Decision,
         order: Option<Vec<u32>>,
     ) -> Result<Outcome, NoMemory>
-        ensures { IsDecision (judged answer.graph level) answer.decision → IsShort answer.decision
-            → IfOk result (IsFoundOf level answer.graph answer.decision) }
+        ensures { IsDecision (judged graph level) decision → IsShort decision → IfOk result (IsFoundOf level graph decision) }
     {
-        let LargeAnswer { graph, decision } = answer;
         check_room(&graph, &decision)?;
         let labels = Labels::of_large(alloc, &graph)?;
         match decision {
@@ -192,17 +160,19 @@ impl Outcome {
     ) -> Result<Outcome, NoMemory>
         ensures { IfOk result (IsTold (course run.now.options.now) snapshot.now) }
     {
-        if let Some(small) = snapshot.small_copy(run.alloc)? {
-            return Outcome::of_small(run, &small);
-        }
         let level = run.options.level;
-        match explain_large(run.alloc, snapshot, level) {
-            Ok((answer, order)) => {
-                let answer = settled(run.alloc, level, answer, &order)?;
-                Outcome::of_decision(run.alloc, level, answer, order)
+        let answered = answer_of(run, snapshot, level)?;
+        match answered {
+            Answered::Unresolved(faults) => Ok(Outcome::Unresolved(faults)),
+            Answered::Small(answer) => Ok(Outcome::Small(answer)),
+            Answered::Large {
+                graph,
+                decision,
+                order,
+            } => {
+                let decision = short(decision)?;
+                Outcome::of_decision(run.alloc, level, graph, decision, order)
             }
-            Err(ResolveFault::Reads(faults)) => Ok(Outcome::Unresolved(faults)),
-            Err(ResolveFault::NoMemory) => Err(NoMemory),
         }
     }
 
