@@ -7,9 +7,9 @@ use std::thread::Threads;
 use tcc_answer::Answer;
 use tcc_explain::{ExplainFault, Gate, explain};
 use tcc_graph::{LargeGraph, Level};
-use tcc_large::{Decision, LargeAnswer, explain_large};
+use tcc_large::{LargeAnswer, explain_large};
 use tcc_print::RunContext;
-use tcc_proving::with_first;
+use tcc_proving::{First, first_of};
 use tcc_reads::{ReadFault, ResolveFault};
 use tcc_txn::{LargeSnapshot, NoMemory, Snapshot};
 
@@ -20,11 +20,11 @@ pub enum Answered {
     Unresolved(Vec<ReadFault>),
     /// Within the small limits: its first answer.
     Small(Answer),
-    /// Past them: its graph, and what is decided of it. With a cycle of four steps or more comes an order of all transactions, to judge
-    /// by. Nobody has to trust it.
+    /// Past them: its graph, and its first commit order or the first of its least cycles. With a cycle of four steps or more an order of
+    /// all transactions may come, to judge by. Nobody has to trust it.
     Large {
         graph: LargeGraph,
-        decision: Decision,
+        first: First,
         order: Option<Vec<u32>>,
     },
 }
@@ -61,10 +61,10 @@ pub fn answer_of<T: Threads + Sync, G: Gate>(
     match explain_large(alloc, snapshot, level) {
         Ok((answer, order)) => {
             let LargeAnswer { graph, decision } = answer;
-            let decision = with_first(alloc, &graph, level, decision, &order)?;
+            let first = first_of(alloc, &graph, level, decision, &order)?;
             Ok(Answered::Large {
                 graph,
-                decision,
+                first,
                 order,
             })
         }

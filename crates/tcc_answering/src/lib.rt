@@ -1,5 +1,5 @@
-//! The one answer of a snapshot: all its read faults; within the small limits its first answer; past them its graph, with what is
-//! decided of it.
+//! The one answer of a snapshot: all its read faults; within the small limits its first answer; past them its graph, with its
+//! first commit order or the first of its least cycles.
 #![tactic(auto)]
 
 mod answering;

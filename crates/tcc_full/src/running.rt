@@ -4,7 +4,6 @@ ghost use Rattle.tcc_rows.specs.Recordings.{IsRecorded};
 ghost use Rattle.tcc_answering.specs.Answered.{IsAnswered};
 ghost use Rattle.tcc_full.specs.{Runs.IsFullRun, private.Notes.AreNotesOf};
 
-use crate::finding::find;
 use crate::objects::Asked;
 use crate::reading::{Failed, within};
 use crate::telling::{tell_fault, tell_found, tell_memory};
@@ -12,11 +11,11 @@ use std::alloc::Global;
 use std::io::{ErrorKind, Read, Write};
 use std::thread::Threads;
 use tcc_answer::Answer;
-use tcc_answering::{Answered, small_answer};
+use tcc_answering::{Answered, answer_of, small_answer};
 use tcc_explain::Gate;
-use tcc_large::Decision;
 use tcc_print::RunContext;
 use tcc_print::notes::{note_order, note_reads};
+use tcc_proving::First;
 use tcc_rows::{LargeRecording, Recording, RowFault, RowFaultKind};
 use tcc_txn::{Bounds, LargeLimits, Limits, NoMemory, SmallLimits, SnapshotWithin};
 use tcc_verdict::recorded;
@@ -36,12 +35,12 @@ fn note<B: Bounds, N: Write>(
             note_order(alloc, commit.order(), required, notes)
         }
         Answered::Large {
-            decision: Decision::Order(order),
+            first: First::Order(order),
             ..
         } => note_order(alloc, order, required, notes),
         Answered::Small(Answer::Anomaly(_))
         | Answered::Large {
-            decision: Decision::Least(_) | Decision::Cycle(_),
+            first: First::Cycle(_),
             ..
         } => {}
         Answered::Unresolved(faults) => note_reads(alloc, snapshot, faults, notes),
@@ -94,7 +93,7 @@ fn run_lawful<T: Threads + Sync, G: Gate, W: Write, N: Write>(
         Limits::Large => {
             let recording: LargeRecording<&[u8]> = recorded(run.alloc, text, notes)?;
             let snapshot = recording.snapshot();
-            let found = find(run, snapshot, asked.level);
+            let found = answer_of(run, snapshot, asked.level);
             Ok(say(run, asked, text, snapshot, found, out, notes))
         }
     }

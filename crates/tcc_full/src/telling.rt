@@ -13,10 +13,10 @@ use std::io::Write;
 use tcc_answer::{Answer, Labels};
 use tcc_answering::Answered;
 use tcc_graph::LargeGraph;
-use tcc_large::Decision;
 use tcc_print::printing::{print_memory, print_text};
 use tcc_print::status::{order_status, row_status};
 use tcc_print::{RunContext, Status};
+use tcc_proving::First;
 use tcc_reads::{Traced, resolve_traced};
 use tcc_rows::{RowFault, RowFaultKind};
 use tcc_txn::{Bounds, NoMemory, SnapshotWithin};
@@ -42,19 +42,15 @@ fn found_line<B: Bounds>(
 {
     match found {
         Answered::Small(Answer::Commit(commit)) => order_line(report, required, commit.order()),
-        Answered::Small(Answer::Anomaly(anomaly)) => report.anomaly_line(anomaly.links(), true),
+        Answered::Small(Answer::Anomaly(anomaly)) => report.anomaly_line(anomaly.links()),
         Answered::Large {
-            decision: Decision::Order(order),
+            first: First::Order(order),
             ..
         } => order_line(report, required, order),
         Answered::Large {
-            decision: Decision::Least(links),
+            first: First::Cycle(links),
             ..
-        } => report.anomaly_line(links, true),
-        Answered::Large {
-            decision: Decision::Cycle(links),
-            ..
-        } => report.anomaly_line(links, false),
+        } => report.anomaly_line(links),
         Answered::Unresolved(faults) => report.unresolved_line(faults),
     }
 }
@@ -66,12 +62,12 @@ pub(crate) fn found_status(found: &Answered, required: u32) -> Status
     match found {
         Answered::Small(Answer::Commit(commit)) => order_status(commit.order(), required),
         Answered::Large {
-            decision: Decision::Order(order),
+            first: First::Order(order),
             ..
         } => order_status(order, required),
         Answered::Small(Answer::Anomaly(_))
         | Answered::Large {
-            decision: Decision::Least(_) | Decision::Cycle(_),
+            first: First::Cycle(_),
             ..
         } => Status::Anomaly,
         Answered::Unresolved(_) => Status::ReadFaults,

@@ -2,11 +2,13 @@
 //! first of the least ones, where the judge knows it.
 #![tactic(auto)]
 
+mod answers;
 mod claims;
 mod firsts;
 mod proving;
 mod room;
 
+pub use answers::{First, first_of};
 pub use claims::{copied, steps_of};
 pub use firsts::with_first;
 pub use proving::proved_claim;

@@ -8,15 +8,15 @@ use Rattle.tcc_large.specs.Decisions.{IsDecision}
 use Rattle.tcc_answering.proofs.answering.answer_of.Goals as goal
 
 -- what is answered for a large snapshot is decided of its graph
-pub with_first-requires : goal.with_first-requires
-with_first-requires g c = record {
+pub first_of-requires : goal.first_of-requires
+first_of-requires g c = record {
   decided = subst (λ (h : History). IsDecision (judged h c.args.level) c.in-Ok.answer.decision) (sym c.in-Ok.ensures.1) c.in-Ok.ensures.2;
 }
 
-pub returns-in_ok-decision-in-Ok : goal.returns-in_ok-decision-in-Ok
-returns-in_ok-decision-in-Ok g c =
+pub returns-in_ok-first-in-Ok : goal.returns-in_ok-first-in-Ok
+returns-in_ok-first-in-Ok g c =
     let past : KeepsLimits c.args.snapshot.now → ⊥ = search rules in
-    (c.in-Ok.ensures.0, past, c.in-Ok.ensures.1, c.in_ok-decision-in-Ok.ensures.0)
+    (c.in-Ok.ensures.0, past, c.in-Ok.ensures.1, c.in_ok-first-in-Ok.ensures)
 
 pub returns-in-Err-Reads : goal.returns-in-Err-Reads
 returns-in-Err-Reads g c =

@@ -21,4 +21,4 @@ returns-in_ok-recording-in-Large g c =
     c.say-in-Large.ensures
     (recorded _ _ _ c.in_ok-recording-in-Large.recording.snapshot _ c.in-Large.is c.snapshot-snapshot-in-Large.ensures.value
     c.in_ok-recording-in-Large.ensures)
-    c.find-found.ensures
+    c.answer_of-found.ensures

@@ -1,6 +1,6 @@
 use Rattle.std.proofs.Common.{◌≡◌, rules}
 use Rattle.tcc_answer.specs.declared.answer.Answer.TheVariants as answer
-use Rattle.tcc_large.specs.declared.decision.Decision.TheVariants as decision
+use Rattle.tcc_proving.specs.declared.answers.First.TheVariants as first
 use Rattle.tcc_answering.specs.declared.answering.Answered.TheVariants as found
 use Rattle.tcc_full.proofs.telling.found_line.Goals as goal
 
@@ -16,17 +16,12 @@ returns-in-Small-Anomaly g c =
 
 pub returns-in-Large-Order : goal.returns-in-Large-Order
 returns-in-Large-Order g c =
-    let is : c.args.found.now ≡ found.Large _ (decision.Order c.in-Large-Order.order) _ = search rules in
+    let is : c.args.found.now ≡ found.Large _ (first.Order c.in-Large-Order.order) _ = search rules in
     rw is (rw c.deref.ensures.value at c.order_line-in-Large-Order.ensures)
-
-pub returns-in-Large-Least : goal.returns-in-Large-Least
-returns-in-Large-Least g c =
-    let is : c.args.found.now ≡ found.Large _ (decision.Least c.in-Large-Least.links) _ = search rules in
-    rw is (rw c.deref-in-Large-Least.ensures.value at c.anomaly_line-in-Large-Least.ensures)
 
 pub returns-in-Large-Cycle : goal.returns-in-Large-Cycle
 returns-in-Large-Cycle g c =
-    let is : c.args.found.now ≡ found.Large _ (decision.Cycle c.in-Large-Cycle.links) _ = search rules in
+    let is : c.args.found.now ≡ found.Large _ (first.Cycle c.in-Large-Cycle.links) _ = search rules in
     rw is (rw c.deref-in-Large-Cycle.ensures.value at c.anomaly_line-in-Large-Cycle.ensures)
 
 pub returns-in-Unresolved : goal.returns-in-Unresolved

@@ -1,6 +1,5 @@
-use Rattle.tcc_large_run.specs.declared.outcome.Outcome.TheVariants as outcome
 use Rattle.std.proofs.lemmas.Result.{IfOk-weaker}
-use Rattle.tcc_graph.specs.Levels.{judged}
+use Rattle.tcc_large_run.specs.declared.outcome.Outcome.TheVariants as outcome
 use Rattle.tcc_large_run.proofs.Outcomes.{large_outcome}
 use Rattle.tcc_large_run.proofs.Runs.{told}
 use Rattle.tcc_large_run.proofs.outcome.Outcome.of.Goals as goal
@@ -13,12 +12,21 @@ pub returns-in-Small : goal.returns-in-Small
 returns-in-Small g c =
     told c.args.run.now.options.now c.args.snapshot.now (outcome.Small c.in-Small.answer) (rw c.in-Small.is at c.in_ok-answered.ensures)
 
-pub returns-in_ok-decision-in-Large : goal.returns-in_ok-decision-in-Large
-returns-in_ok-decision-in-Large g c =
+pub returns-in-Large-in-Order : goal.returns-in-Large-in-Order
+returns-in-Large-in-Order g c =
     let s = c.args.snapshot.now in
     let level = c.args.run.now.options.now.level in
     let answered = rw c.in-Large.is at c.in_ok-answered.ensures in
-    let is = c.in_ok-decision-in-Large.ensures.is (judged c.in-Large.graph level) answered.3 in
-    IfOk-weaker c.of_decision.result _ _
-    (λ outcome found. told c.args.run.now.options.now s outcome (large_outcome level s c.in-Large.graph c.in_ok-decision-in-Large.decision outcome answered.1 answered.0 answered.2 is found))
-    (c.of_decision.ensures is c.in_ok-decision-in-Large.ensures.short)
+    IfOk-weaker c.of_order.result _ _
+    (λ outcome found. told c.args.run.now.options.now s outcome (large_outcome level s c.in-Large.graph outcome answered.0 answered.1 answered.2 found))
+    (c.of_order.ensures (rw c.in-Large-in-Order.is at answered.3))
+
+pub returns-in-Large-in-Cycle : goal.returns-in-Large-in-Cycle
+returns-in-Large-in-Cycle g c =
+    let s = c.args.snapshot.now in
+    let level = c.args.run.now.options.now.level in
+    let answered = rw c.in-Large.is at c.in_ok-answered.ensures in
+    let is = rw c.in-Large-in-Cycle.is at answered.3 in
+    IfOk-weaker c.of_cycle.result _ _
+    (λ outcome found. told c.args.run.now.options.now s outcome (large_outcome level s c.in-Large.graph outcome answered.0 answered.1 answered.2 found))
+    (c.of_cycle.ensures is.0 is.1)
