@@ -9,6 +9,7 @@ mod outcome;
 
 pub use explain::run_explain;
 pub use headline::{explain_snapshot, explain_snapshot_next};
+pub use outcome::first_answer;
 pub use tcc_check::{Claim, Judgement};
 pub use tcc_explain::{Gate, OpenGate};
 pub use tcc_print::{Halt, Options, Status, json, printing, texts, verdict_text};
