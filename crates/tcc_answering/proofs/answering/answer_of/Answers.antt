@@ -21,4 +21,4 @@ returns-in_ok-first-in-Ok g c =
 pub returns-in-Err-Reads : goal.returns-in-Err-Reads
 returns-in-Err-Reads g c =
     let is = subst (IsRefusal c.args.snapshot.now) c.in-Err-Reads.field-0-is c.in-Err-Reads.ensures in
-    ((λ none. is.1 (is.0 ∙ none)), is.0)
+    rw c.in-Err-Reads.field-0-is ((λ none. is.1 (is.0 ∙ none)), is.0)
