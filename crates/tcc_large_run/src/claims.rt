@@ -1,5 +1,5 @@
 //! What the first cycle of a large history claims: its links, and that no cycle has fewer steps, as far as the judge takes that.
-ghost use Rattle.std.specs.Prelude.{◌≡◌, IfOk};
+ghost use Rattle.std.specs.Prelude.{◌≡◌, [], IfOk};
 ghost use Rattle.tcc_judge.specs.Claims.{links_claim_of};
 ghost use Rattle.tcc_large_run.specs.private.Stages.{IsCycleClaim, IsLongClaim};
 
@@ -12,6 +12,13 @@ use tcc_txn::NoMemory;
 
 /// Up to so many steps a cycle is claimed to be a least one without runs.
 const SHORT: u32 = 4;
+
+/// No runs.
+fn no_runs(alloc: Global) -> Runs
+    ensures { result ≡ [] }
+{
+    Runs::new(Vec::new(alloc))
+}
 
 /// The claim that links are a cycle of a history at a level; and that no cycle has fewer steps, where there are runs, which may be none.
 fn links_claim(
@@ -66,7 +73,7 @@ pub(crate) fn cycle_claim(
 {
     check_room(graph, links)?;
     if steps_of(links)? <= SHORT {
-        links_claim(alloc, graph, level, links, Some(Runs::new(Vec::new(alloc))))
+        links_claim(alloc, graph, level, links, Some(no_runs(alloc)))
     } else {
         long_claim(alloc, graph, level, links, order)
     }

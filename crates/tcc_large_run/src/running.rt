@@ -102,8 +102,15 @@ fn answer_all<R: Read + Drop, T: Threads + Sync, W: Write, N: Write, G: Watcher>
     'moments: for _turn in 0..u64::MAX {
         match read_on(run.alloc, recording, run.gate) {
             Ok(moment) => {
-                let snapshot = recording.snapshot();
-                let said = say(run, moment, snapshot, last, is_certified, out, notes)?;
+                let said = say(
+                    run,
+                    moment,
+                    recording.snapshot(),
+                    last,
+                    is_certified,
+                    out,
+                    notes,
+                )?;
                 match moment {
                     Moment::Seal => last = Some(said),
                     Moment::End => return Ok(said),

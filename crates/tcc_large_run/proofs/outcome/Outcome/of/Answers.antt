@@ -12,21 +12,21 @@ pub returns-in-Small : goal.returns-in-Small
 returns-in-Small g c =
     told c.args.run.now.options.now c.args.snapshot.now (outcome.Small c.in-Small.answer) (rw c.in-Small.is at c.in_ok-answered.ensures)
 
-pub returns-in-Large-in-Order : goal.returns-in-Large-in-Order
-returns-in-Large-in-Order g c =
+pub returns-in-Order : goal.returns-in-Order
+returns-in-Order g c =
     let s = c.args.snapshot.now in
     let level = c.args.run.now.options.now.level in
     let answered = rw c.in-Large.is at c.in_ok-answered.ensures in
     IfOk-weaker c.of_order.result _ _
     (λ outcome found. told c.args.run.now.options.now s outcome (large_outcome level s c.in-Large.graph outcome answered.0 answered.1 answered.2 found))
-    (c.of_order.ensures (rw c.in-Large-in-Order.is at answered.3))
+    (c.of_order.ensures (rw c.in-Order.is at answered.3))
 
-pub returns-in-Large-in-Cycle : goal.returns-in-Large-in-Cycle
-returns-in-Large-in-Cycle g c =
+pub returns-in-Cycle : goal.returns-in-Cycle
+returns-in-Cycle g c =
     let s = c.args.snapshot.now in
     let level = c.args.run.now.options.now.level in
     let answered = rw c.in-Large.is at c.in_ok-answered.ensures in
-    let is = rw c.in-Large-in-Cycle.is at answered.3 in
+    let is = rw c.in-Cycle.is at answered.3 in
     IfOk-weaker c.of_cycle.result _ _
     (λ outcome found. told c.args.run.now.options.now s outcome (large_outcome level s c.in-Large.graph outcome answered.0 answered.1 answered.2 found))
     (c.of_cycle.ensures is.0 is.1)

@@ -1,4 +1,4 @@
-use Rattle.std.proofs.Common.{ap, subst}
+use Rattle.std.proofs.Common.{rules}
 use Rattle.tcc_large_run.proofs.Outcomes.{found_order}
 use Rattle.tcc_large_run.proofs.outcome.Outcome.of_order.Goals as goal
 
