@@ -230,8 +230,7 @@ class Search:
         self.found += 1
         self.struck += sum(len(one.rows) for one in reads)
         self.names[name or "no usual name"] += 1
-        head = "%d: %d steps, %s%s" % (self.found, answer["steps"], answer["shape"],
-                                       ", least not proved" if answer.get("least") is False else "")
+        head = "%d: %d steps, %s" % (self.found, answer["steps"], answer["shape"])
         return "%s: %s" % (", ".join(filter(None, [head, name])), "; ".join(map(self.read_text, reads)))
 
     def end(self, answer: Json) -> Iterator[str]:

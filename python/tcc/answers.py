@@ -101,8 +101,7 @@ def transactions_of(cycle: List[Link]) -> List[str]:
 
 def anomaly_head(answer: Json) -> str:
     """The first line of an anomaly, as `tcc` prints it."""
-    least = ", least not proved" if answer.get("least") is False else ""
-    return "anomaly: %d steps, %s%s" % (answer["steps"], answer["shape"], least)
+    return "anomaly: %d steps, %s" % (answer["steps"], answer["shape"])
 
 
 def order_head(answer: Json) -> str:

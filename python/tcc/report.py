@@ -713,16 +713,12 @@ def anomalies(told: Findings, examples: Examples) -> Iterator[str]:
     if told.verdict == "anomaly":
         shown = told.terms.name(told.cycle) if isinstance(told.terms, ListTerms) else name_of(told.cycle)
         steps = steps_of(told.cycle)
-        is_least = told.answer.get("least") is not False
-        yield "<h2>%s: %s</h2>" % ("The least anomaly" if is_least and told.lists is None and not told.versioned else "An anomaly", text(shape_name(told)))
+        yield "<h2>%s: %s</h2>" % ("The least anomaly" if told.lists is None and not told.versioned else "An anomaly", text(shape_name(told)))
         if told.lists is not None:
-            yield ('<p class="faint">It was found in the records that the lists are judged by%s. Counted there a list has more steps than here.</p>' % (
-                ", where none has fewer steps" if is_least else ""))
+            yield ('<p class="faint">It was found in the records that the lists are judged by, where none has fewer steps. Counted there a list has '
+                   'more steps than here.</p>')
         elif told.versioned:
             yield '<p class="faint">It was found in the records with versions, where others count as steps too.</p>'
-        elif not is_least:
-            yield '<p class="faint"><code>least not proved</code>: of so large a history it isn\'t proved that no cycle has fewer steps%s.</p>' % (
-                ", only of the slice that this one is of" if told.is_of_slice else "")
         yield '<p class="faint">%s; no order of the transactions keeps all of these links. Each session is a column.</p>' % text(many(steps, "step"))
         yield legend(told)
         yield from examples.anomaly(told.cycle, "the anomaly of the answer, %d steps" % steps)

@@ -88,16 +88,15 @@ class Consistent:
 
 @dataclass(frozen=True)
 class Anomaly:
-    """A cycle of links, of which no order keeps all; `is_least` says whether it is proved that none has fewer steps."""
+    """A cycle of links, of which no order keeps all; no other has fewer steps."""
 
     shape: str
     steps: int
-    is_least: bool
     cycle: Tuple[Step, ...]
 
     def text(self) -> str:
         """The answer as `tcc` prints it."""
-        head = "anomaly: %d steps, %s%s" % (self.steps, self.shape, "" if self.is_least else ", least not proved")
+        head = "anomaly: %d steps, %s" % (self.steps, self.shape)
         return "".join(line + "\n" for line in (head, *(line for one in self.cycle for line in one.lines())))
 
 
@@ -193,7 +192,7 @@ def consistent(told: Mapping[str, Any]) -> Consistent:
 
 
 def anomaly(told: Mapping[str, Any]) -> Anomaly:
-    return Anomaly(told["shape"], told["steps"], told.get("least") is not False, tuple(map(step, told["cycle"])))
+    return Anomaly(told["shape"], told["steps"], tuple(map(step, told["cycle"])))
 
 
 def unresolved(told: Mapping[str, Any]) -> Unresolved:

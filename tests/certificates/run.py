@@ -173,8 +173,9 @@ def wrongly_written(tcc, judge, level, folder):
     if order is not None:
         return None if text == order_text(past.history, level, runs_of(past.history, order)) else "of an order: %r" % text
     wanted = outcome(past.history, text, ANY)
-    said = "least not claimed" if "least not proved" in answer else "%d steps\n" % least
-    return None if wanted[1] == 0 and said in wanted[0] and past.answer(text) == wanted else "of a cycle: %r" % text
+    claimed = ["accepted: cycle, %d steps\n" % least] + ["accepted: cycle, %d steps, least not claimed\n" % least] * (least > 4)
+    is_right = answer.startswith("anomaly: %d steps, " % least) and wanted[0] in claimed
+    return None if wanted[1] == 0 and is_right and past.answer(text) == wanted else "of a cycle: %r" % text
 
 
 def outcomes(tcc, count, seed):

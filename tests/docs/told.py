@@ -65,7 +65,6 @@ HELD = {
         "gave more than {MAX_INPUT_BYTES} bytes",
         "TooManySessions at a {LARGE_SESSIONS+1}th session, TooManyTransactions at transaction {LARGE_TRANSACTIONS+1}, TooManyKeys "
         "at a {LARGE_KEYS+1}th key, and Read after {LARGE_INPUT_BYTES} bytes",
-        "up to {MAX_SESSIONS} sessions with up to {MAX_TRANSACTIONS} transactions",
         "but a {MAX_SEALS+1}th is TooManySeals"),
     "docs/tcc.1": ("names: 1 to {MAX_NAME_BYTES} bytes", "N threads, 1 to {MAX_WORKERS}, search"),
     "docs/HEADLINE.md": ("`Workers`, a type of 1 to {MAX_WORKERS}",),

@@ -10,7 +10,7 @@ them as large ones (`large-answer`). The line before the last says of how many a
 as the least: of those sizes it has to be all, of others it may be fewer.
 
 `tcc explain --large` is given each history with an anomaly too, with so many sessions more that it is a large one. They neither read
-nor write, so it has to say the same, link for link: up to three steps always, and up to 63 where the causal pairs make no circle.
+nor write, so it has to say the same, link for link.
 
 Each difference is one line; the last line is `N passed, M failed`.
 """
@@ -29,11 +29,9 @@ LEVELS = ("causal", "atomic")
 SECONDS = 600
 # Of these sizes each cycle that is found is a least one.
 LEAST_SIZES = (255, 1023)
-# So many sessions are past the small limits, whatever others there are. Up to so many steps the anomaly is the first one, whatever the
-# history; and up to so many more it is looked for, by an order of the causal pairs.
+# So many sessions are past the small limits, whatever others there are. Up to so many steps what is decided is the first anomaly.
 MORE_SESSIONS = 65
 FIRST_STEPS = 3
-MOST_STEPS = 63
 
 
 def printed(words, history):
@@ -75,13 +73,6 @@ def large_answer(stages, history, level):
     return ("order", numbers) if word == "order" else ("cycle", (numbers or [0])[0], word == "least")
 
 
-def is_first(tcc, history, level, steps):
-    """Whether an anomaly of so many steps is the first one in a large history too."""
-    if steps <= FIRST_STEPS:
-        return True
-    return steps <= MOST_STEPS and not printed([tcc, "survey", "--level", level], history)[1].startswith("circular")
-
-
 def difference(small, large):
     """What is wrong, or nothing."""
     if small[0] != large[0]:
@@ -115,7 +106,7 @@ def main():
                 for level in LEVELS:
                     small, large = small_answer(asked.tcc, history, level), large_answer(asked.stages, history, level)
                     wrong = difference(small, large)
-                    if small[0] == "cycle" and is_first(asked.tcc, history, level, small[1]):
+                    if small[0] == "cycle":
                         first = printed([asked.tcc, "explain", "--large", "--json", "--level", level], more)[1]
                         firsts, wrong = firsts + 1, wrong or (None if first == small[2] else "another anomaly with more sessions")
                     if small[0] == large[0] == "cycle":

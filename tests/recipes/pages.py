@@ -159,7 +159,7 @@ HISTORIES: Dict[str, Tuple[str, int, Tuple[str, ...], int]] = {
     "5 steps": ("examples/causal-chain-missed.csv", 1, ("writes follow reads", "accepted: cycle, 5 steps"), 5),
     "12 steps": (ring(6), 1, ("All 12 steps", "conflict-cycle", "accepted: cycle, 12 steps"), 5),
     "40 steps": (ring(20), 1, ("All 40 steps", "18 derived links more close the circle"), 5),
-    "794 steps": (chain(792), 1, ("All 794 steps", "causal chain", "least not proved",
+    "794 steps": (chain(792), 1, ("All 794 steps", "causal chain",
                                  "accepted: cycle, 794 steps, least not claimed", "that each link of the cycle above holds"), 3),
     "an order": ("examples/long-fork.csv", 0, ("Causally consistent", "all 4 committed transactions", "accepted: order"), 0),
     "an order's chances": ("examples/long-fork.csv", 0, (

@@ -1,20 +1,15 @@
--- What is found for a snapshot, and what is reported of it.
-use Rattle.std.specs.Prelude.{ℕ, ◌≡◌, ◌≢◌, true, false, List, [], length}
+-- What is reported of what is answered for a snapshot.
+use Rattle.std.specs.Prelude.{ℕ, List, length}
 use Rattle.serde_json.specs.Data.{Data}
-use Rattle.tcc_txn.specs.Finished.{KeepsLimits}
 use Rattle.tcc_txn.specs.Snapshots.{Sessions}
-use Rattle.tcc_reads.specs.Faults.{read_faults}
-use Rattle.tcc_reads.specs.Sources.{history}
 use Rattle.tcc_reads.specs.Traced.{traced_history}
-use Rattle.tcc_graph.specs.Levels.{judged}
-use Rattle.tcc_graph.specs.declared.level.Level.{Level}
 use Rattle.tcc_graph.specs.Labels.{labels_of}
 use Rattle.tcc_answer.specs.declared.answer.Answer.{Answer}
 use Rattle.tcc_answer.specs.declared.answer.Answer.TheVariants as answer
-use Rattle.tcc_explain.specs.Explained.{IsAnswerOfHistory}
-use Rattle.tcc_large.specs.Decisions.{IsDecision}
-use Rattle.tcc_large.specs.declared.decision.Decision.{Decision}
-use Rattle.tcc_large.specs.declared.decision.Decision.TheVariants as decision
+use Rattle.tcc_answering.specs.declared.answering.Answered.{Answered}
+use Rattle.tcc_answering.specs.declared.answering.Answered.TheVariants as found
+use Rattle.tcc_proving.specs.declared.answers.First.{First}
+use Rattle.tcc_proving.specs.declared.answers.First.TheVariants as first
 use Rattle.tcc_print.specs.Statuses.{order_status}
 use Rattle.tcc_print.specs.declared.status.Status.{Status}
 use Rattle.tcc_print.specs.declared.status.Status.TheVariants.{Anomaly, ReadFaults}
@@ -22,14 +17,6 @@ use Rattle.tcc_full.specs.Objects.{anomaly_json, consistent_json, unresolved_jso
 use Rattle.tcc_full.specs.Records.{Records}
 use Rattle.tcc_full.specs.declared.objects.Asked.{Asked}
 use Rattle.tcc_full.specs.declared.rows.OperationRows.{OperationRows}
-use Rattle.tcc_full.specs.declared.finding.FullAnswer.{FullAnswer}
-use Rattle.tcc_full.specs.declared.finding.FullAnswer.TheVariants as found
-
--- within the small limits the first answer of a snapshot, past them what is decided of its history; or all its read faults
-abbrev pub IsFullAnswer : Level → Sessions → FullAnswer → Type 0
-IsFullAnswer level s (found.Answered a) = (read_faults s ≡ []) × KeepsLimits s × IsAnswerOfHistory (judged (history s) level) a
-IsFullAnswer level s (found.Decided d) = (read_faults s ≡ []) × (KeepsLimits s → ⊥) × IsDecision (judged (history s) level) d
-IsFullAnswer level s (found.Unresolved faults) = (read_faults s ≢ []) × (faults.items ≡ read_faults s)
 
 -- a snapshot with its history, the names of its transactions, and the rows of its operations
 abbrev pub records_by : Sessions → OperationRows → Records
@@ -41,30 +28,28 @@ order_json asked required r order = consistent_json asked r order (order_status 
 
 abbrev pub answer_json : Asked → ℕ → Records → Answer → Data
 answer_json asked required r (answer.Commit c) = order_json asked required r c.order
-answer_json asked required r (answer.Anomaly a) = anomaly_json asked r a.links true
+answer_json asked required r (answer.Anomaly a) = anomaly_json asked r a.links
 
-abbrev pub decision_json : Asked → ℕ → Records → Decision → Data
-decision_json asked required r (decision.Order order) = order_json asked required r order.items
-decision_json asked required r (decision.Least links) = anomaly_json asked r links.items true
-decision_json asked required r (decision.Cycle links) = anomaly_json asked r links.items false
+abbrev pub first_json : Asked → ℕ → Records → First → Data
+first_json asked required r (first.Order order) = order_json asked required r order.items
+first_json asked required r (first.Cycle links) = anomaly_json asked r links.items
 
 -- the object that is reported
-abbrev pub found_json : Asked → ℕ → Records → FullAnswer → Data
-found_json asked required r (found.Answered a) = answer_json asked required r a
-found_json asked required r (found.Decided d) = decision_json asked required r d
+abbrev pub found_json : Asked → ℕ → Records → Answered → Data
+found_json asked required r (found.Small a) = answer_json asked required r a
+found_json asked required r (found.Large h f order) = first_json asked required r f
 found_json asked required r (found.Unresolved faults) = unresolved_json asked r faults.items
 
 abbrev pub answer_told : ℕ → Answer → Status
 answer_told required (answer.Commit c) = order_status required (length c.order)
 answer_told required (answer.Anomaly a) = Anomaly
 
-abbrev pub decision_told : ℕ → Decision → Status
-decision_told required (decision.Order order) = order_status required (length order.items)
-decision_told required (decision.Least links) = Anomaly
-decision_told required (decision.Cycle links) = Anomaly
+abbrev pub first_told : ℕ → First → Status
+first_told required (first.Order order) = order_status required (length order.items)
+first_told required (first.Cycle links) = Anomaly
 
 -- how a run ends that tells it
-abbrev pub found_status : ℕ → FullAnswer → Status
-found_status required (found.Answered a) = answer_told required a
-found_status required (found.Decided d) = decision_told required d
+abbrev pub found_status : ℕ → Answered → Status
+found_status required (found.Small a) = answer_told required a
+found_status required (found.Large h f order) = first_told required f
 found_status required (found.Unresolved faults) = ReadFaults

@@ -66,13 +66,13 @@ consistent_json asked r order status = object
     (member (codes "version") (string asked.version.now)
     no_members)))))))))
 
--- a cycle, and whether none has fewer steps
-abbrev pub anomaly_json : Asked → Records → List Link → Bool → Data
-anomaly_json asked r links least = object
+-- a cycle; no other has fewer steps
+abbrev pub anomaly_json : Asked → Records → List Link → Data
+anomaly_json asked r links = object
     (member (codes "answer") (string (codes "anomaly"))
     (member (codes "cycle") (array (items_of (map (link_json r) links)))
     (member (codes "large") (boolean (is_large asked.limits))
-    (member (codes "least") (boolean least)
+    (member (codes "least") (boolean true)
     (member (codes "level") (string (level_word asked.level))
     (member (codes "limits") (limits_json asked.limits)
     (member (codes "sessions") (number (unsigned (length r.history.sessions)))

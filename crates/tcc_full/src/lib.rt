@@ -2,7 +2,6 @@
 //! records that it speaks of, and the status that the run ends with. Nothing here knows about command lines or files.
 #![tactic(auto)]
 
-mod finding;
 mod framing;
 mod links;
 mod lookup;
@@ -12,7 +11,6 @@ mod rows;
 mod running;
 mod telling;
 
-pub use finding::FullAnswer;
 pub use objects::Asked;
 pub use running::run_full;
 pub use tcc_print::RunContext;

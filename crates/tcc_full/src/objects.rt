@@ -190,14 +190,14 @@ impl<B: Bounds> Report<'_, B> {
     }
 
     /// What the object of a cycle has after its links.
-    fn cycle_after(&self, links: &[Link], steps: usize, least: bool) -> Result<Value, AllocError>
+    fn cycle_after(&self, links: &[Link], steps: usize) -> Result<Value, AllocError>
         requires { steps ≡ cost links.now }
-        ensures { IfOk result (λ v. view v ≡ cycle_after self.now.asked.now (records_of self.now.lookup.now) links.now least) }
+        ensures { IfOk result (λ v. view v ≡ cycle_after self.now.asked.now (records_of self.now.lookup.now) links.now) }
     {
         let (alloc, asked, lookup) = (self.alloc, self.asked, self.lookup);
         json!(in alloc; {
             "large": is_large(asked.limits),
-            "least": least,
+            "least": true,
             "level": level_word(asked.level),
             "limits": limits_json(alloc, asked.limits)?,
             "sessions": lookup.graph.sessions().len(),
@@ -209,15 +209,15 @@ impl<B: Bounds> Report<'_, B> {
         })
     }
 
-    /// The line of a cycle, and whether none has fewer steps.
-    pub(crate) fn anomaly_line(&self, links: &[Link], least: bool) -> Result<Vec<u8>, NoMemory>
-        ensures { IfOk result (λ line. line.items ≡ json_line (anomaly_json self.now.asked.now (records_of self.now.lookup.now) links.now least)) }
+    /// The line of a cycle; no other has fewer steps.
+    pub(crate) fn anomaly_line(&self, links: &[Link]) -> Result<Vec<u8>, NoMemory>
+        ensures { IfOk result (λ line. line.items ≡ json_line (anomaly_json self.now.asked.now (records_of self.now.lookup.now) links.now)) }
     {
         let steps = steps_of(links)?;
         let frame = Frame {
             before: list_before(self.alloc, "anomaly")?,
             name: "cycle",
-            after: self.cycle_after(links, steps, least)?,
+            after: self.cycle_after(links, steps)?,
         };
         frame.line(self.alloc, self.lookup, links)
     }

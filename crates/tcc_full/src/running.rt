@@ -1,9 +1,9 @@
 //! From the bytes of records to all that is reported of their answer.
 ghost use Rattle.std.specs.Prelude.{◌≡◌, ◌++◌, ℕ, Err, IfOk, IfSome, MatchResult, Ok};
 ghost use Rattle.tcc_rows.specs.Recordings.{IsRecorded};
-ghost use Rattle.tcc_full.specs.{FullAnswer.IsFullAnswer, Runs.IsFullRun, private.Notes.AreNotesOf};
+ghost use Rattle.tcc_answering.specs.Answered.{IsAnswered};
+ghost use Rattle.tcc_full.specs.{Runs.IsFullRun, private.Notes.AreNotesOf};
 
-use crate::finding::{FullAnswer, find_large, found_small};
 use crate::objects::Asked;
 use crate::reading::{Failed, within};
 use crate::telling::{tell_fault, tell_found, tell_memory};
@@ -11,12 +11,12 @@ use std::alloc::Global;
 use std::io::{ErrorKind, Read, Write};
 use std::thread::Threads;
 use tcc_answer::Answer;
+use tcc_answering::{Answered, answer_of, small_answer};
 use tcc_explain::Gate;
-use tcc_large::Decision;
 use tcc_print::RunContext;
 use tcc_print::notes::{note_order, note_reads};
+use tcc_proving::First;
 use tcc_rows::{LargeRecording, Recording, RowFault, RowFaultKind};
-use tcc_run::first_answer;
 use tcc_txn::{Bounds, LargeLimits, Limits, NoMemory, SmallLimits, SnapshotWithin};
 use tcc_verdict::recorded;
 
@@ -24,22 +24,28 @@ use tcc_verdict::recorded;
 fn note<B: Bounds, N: Write>(
     alloc: Global,
     snapshot: &SnapshotWithin<B>,
-    found: &FullAnswer,
+    found: &Answered,
     required: u32,
     notes: &mut N,
 )
     ensures { AreNotesOf required snapshot.now found.now (N.contents notes.old) (N.contents notes.new) }
 {
     match found {
-        FullAnswer::Answered(Answer::Commit(commit)) => {
+        Answered::Small(Answer::Commit(commit)) => {
             note_order(alloc, commit.order(), required, notes);
         }
-        FullAnswer::Decided(Decision::Order(order)) => {
+        Answered::Large {
+            first: First::Order(order),
+            ..
+        } => {
             note_order(alloc, order, required, notes);
         }
-        FullAnswer::Answered(Answer::Anomaly(_))
-        | FullAnswer::Decided(Decision::Least(_) | Decision::Cycle(_)) => {}
-        FullAnswer::Unresolved(faults) => {
+        Answered::Small(Answer::Anomaly(_))
+        | Answered::Large {
+            first: First::Cycle(_),
+            ..
+        } => {}
+        Answered::Unresolved(faults) => {
             note_reads(alloc, snapshot, faults, notes);
         }
     }
@@ -51,11 +57,11 @@ fn say<T: Threads + Sync, G: Gate, B: Bounds, W: Write, N: Write>(
     asked: &Asked,
     text: &[u8],
     snapshot: &SnapshotWithin<B>,
-    found: Result<FullAnswer, NoMemory>,
+    found: Result<Answered, NoMemory>,
     out: &mut W,
     notes: &mut N,
 ) -> u8
-    ensures { IsRecorded asked.now.limits text.now (Ok snapshot.now) → IfOk found (IsFullAnswer asked.now.level snapshot.now)
+    ensures { IsRecorded asked.now.limits text.now (Ok snapshot.now) → IfOk found (IsAnswered asked.now.level snapshot.now)
         → IsFullRun asked.now run.now.options.now.required text.now (W.contents out.old) (W.contents out.new) result }
 {
     let text = within(text, asked.limits);
@@ -85,13 +91,13 @@ fn run_lawful<T: Threads + Sync, G: Gate, W: Write, N: Write>(
         Limits::Small => {
             let recording: Recording<&[u8]> = recorded(run.alloc, text, notes)?;
             let snapshot = recording.snapshot();
-            let found = found_small(first_answer(run, snapshot, asked.level));
+            let found = small_answer(run, snapshot, asked.level);
             Ok(say(run, asked, text, snapshot, found, out, notes))
         }
         Limits::Large => {
             let recording: LargeRecording<&[u8]> = recorded(run.alloc, text, notes)?;
             let snapshot = recording.snapshot();
-            let found = find_large(run, snapshot, asked.level);
+            let found = answer_of(run, snapshot, asked.level);
             Ok(say(run, asked, text, snapshot, found, out, notes))
         }
     }

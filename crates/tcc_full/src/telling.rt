@@ -5,18 +5,18 @@ ghost use Rattle.tcc_full.specs.{Records.records_of, Rows.HasRowsOf, declared.ro
 ghost use Rattle.tcc_full.specs.FullAnswer.{found_json, found_status, order_json, records_by};
 ghost use Rattle.tcc_full.specs.Runs.{TellsDevice, TellsFault, TellsFound, TellsMemory};
 
-use crate::finding::FullAnswer;
 use crate::lookup::Lookup;
 use crate::objects::{Asked, Report, ended_line, row_line};
 use crate::rows::operation_rows;
 use std::alloc::Global;
 use std::io::Write;
 use tcc_answer::{Answer, Labels};
+use tcc_answering::Answered;
 use tcc_graph::LargeGraph;
-use tcc_large::Decision;
 use tcc_print::printing::{print_memory, print_text};
 use tcc_print::status::{order_status, row_status};
 use tcc_print::{RunContext, Status};
+use tcc_proving::First;
 use tcc_reads::{Traced, resolve_traced};
 use tcc_rows::{RowFault, RowFaultKind};
 use tcc_txn::{Bounds, NoMemory, SnapshotWithin};
@@ -36,37 +36,41 @@ fn order_line<B: Bounds>(
 fn found_line<B: Bounds>(
     report: &Report<B>,
     required: u32,
-    found: &FullAnswer,
+    found: &Answered,
 ) -> Result<Vec<u8>, NoMemory>
     ensures { IfOk result (λ line. line.items ≡ json_line (found_json report.now.asked.now required (records_of report.now.lookup.now) found.now)) }
 {
     match found {
-        FullAnswer::Answered(Answer::Commit(commit)) => order_line(
-            report,
-            required,
-            commit.order(),
-        ),
-        FullAnswer::Decided(Decision::Order(order)) => order_line(report, required, order),
-        FullAnswer::Answered(Answer::Anomaly(anomaly)) => report.anomaly_line(
-            anomaly.links(),
-            true,
-        ),
-        FullAnswer::Decided(Decision::Least(links)) => report.anomaly_line(links, true),
-        FullAnswer::Decided(Decision::Cycle(links)) => report.anomaly_line(links, false),
-        FullAnswer::Unresolved(faults) => report.unresolved_line(faults),
+        Answered::Small(Answer::Commit(commit)) => order_line(report, required, commit.order()),
+        Answered::Small(Answer::Anomaly(anomaly)) => report.anomaly_line(anomaly.links()),
+        Answered::Large {
+            first: First::Order(order),
+            ..
+        } => order_line(report, required, order),
+        Answered::Large {
+            first: First::Cycle(links),
+            ..
+        } => report.anomaly_line(links),
+        Answered::Unresolved(faults) => report.unresolved_line(faults),
     }
 }
 
 /// How a run ends that tells what is found.
-pub(crate) fn found_status(found: &FullAnswer, required: u32) -> Status
+pub(crate) fn found_status(found: &Answered, required: u32) -> Status
     ensures { result ≡ found_status required found.now }
 {
     match found {
-        FullAnswer::Answered(Answer::Commit(commit)) => order_status(commit.order(), required),
-        FullAnswer::Decided(Decision::Order(order)) => order_status(order, required),
-        FullAnswer::Answered(Answer::Anomaly(_))
-        | FullAnswer::Decided(Decision::Least(_) | Decision::Cycle(_)) => Status::Anomaly,
-        FullAnswer::Unresolved(_) => Status::ReadFaults,
+        Answered::Small(Answer::Commit(commit)) => order_status(commit.order(), required),
+        Answered::Large {
+            first: First::Order(order),
+            ..
+        } => order_status(order, required),
+        Answered::Small(Answer::Anomaly(_))
+        | Answered::Large {
+            first: First::Cycle(_),
+            ..
+        } => Status::Anomaly,
+        Answered::Unresolved(_) => Status::ReadFaults,
     }
 }
 
@@ -76,7 +80,7 @@ fn told_line<T, G, B: Bounds>(
     asked: &Asked,
     text: &[u8],
     snapshot: &SnapshotWithin<B>,
-    found: &FullAnswer,
+    found: &Answered,
 ) -> Result<Vec<u8>, NoMemory>
     ensures { IfOk result (λ line. (rows : OperationRows) × HasRowsOf text.now rows
         × (line.items ≡ json_line (found_json asked.now run.now.options.now.required (records_by snapshot.now rows) found.now))) }
@@ -116,7 +120,7 @@ pub(crate) fn tell_found<T, G, B: Bounds, W: Write>(
     asked: &Asked,
     text: &[u8],
     snapshot: &SnapshotWithin<B>,
-    found: &FullAnswer,
+    found: &Answered,
     out: &mut W,
 ) -> u8
     ensures { TellsFound asked.now run.now.options.now.required text.now snapshot.now found.now (W.contents out.old) (W.contents out.new) result

@@ -41,8 +41,6 @@ use Rattle.tcc_explain.proofs.WrittenAnswer.{read_back}
 use Rattle.tcc_judge.specs.Verdicts.{rules_of}
 use Rattle.tcc_judge.specs.declared.verdict.Rule.{Rule}
 use Rattle.tcc_judge.proofs.Followed.{own_order}
-use Rattle.tcc_large.specs.Decisions.{IsDecision}
-use Rattle.tcc_large.specs.declared.decision.Decision.{Decision}
 use Rattle.tcc_large_check.specs.LargeChecks.{IsLargeShown, IsLargeTextCheck, IsTrueLargeClaim, IsVerdictFor, large_check, large_claim_of}
 use Rattle.tcc_large_check.specs.LargeTexts.{large_status, large_verdict_text}
 use Rattle.tcc_large_check.specs.declared.judgement.LargeClaim.{LargeClaim}
@@ -59,10 +57,10 @@ use Rattle.tcc_print.specs.declared.options.Options.{Options}
 use Rattle.tcc_print.specs.declared.status.Status.TheVariants as status
 use Rattle.tcc_verdict.specs.Checking.{IsOfRecords, IsOfSnapshot, IsOutcome, MayBe}
 use Rattle.tcc_large_run.specs.LargeClosing.{IsAcceptedClaim, IsAcceptedWith, IsJudgedAs}
-use Rattle.tcc_large_run.specs.LargeRuns.{IsClaimedOf, IsResolvedAs, answers_of, claim_of, finished}
+use Rattle.tcc_large_run.specs.LargeRuns.{IsClaimedOf, IsResolvedAs, answers_of, finished}
 use Rattle.tcc_large_run.specs.private.Laws.{Laws}
 use Rattle.tcc_large_run.proofs.FirstLines.{claim_version, answer_version}
-use Rattle.tcc_large_run.proofs.Own.{claim_keeps, claim_said, keeps_rules}
+use Rattle.tcc_large_run.proofs.Own.{claim_keeps, claim_said}
 
 ok_not_err : {X E : Type 0} (o : Result X E) (x : X) (e : E) → o ≡ Ok x → o ≡ Err e → ⊥
 ok_not_err o x e fine failed = (let both : Ok x ≡ Err e = sym fine ∙ failed in cc both)
@@ -207,11 +205,11 @@ module _ (laws : Laws) (options : Options) (records : List ℕ) (unfaulted : (an
   some : 0 < count (history (finished records))
   some = omega arith
 
-  rules_kept : (d : Decision) → IsDecision (judged (history (finished records)) options.level) d
-      → AllHold (rules_of (history (finished records)) (claim_of options.level (history (finished records)) d))
-  rules_kept d is =
+  rules_kept : (claim : LargeCertificate) (said : Said) → IsClaimedOf options (history (finished records)) claim said
+      → AllHold (rules_of (history (finished records)) claim)
+  rules_kept claim said is =
       let s = finished records in
-      keeps_rules (history s) (own_order (history s) (by_session s) some (owned s)) laws.cycle laws.short options.level d is
+      claim_keeps (history s) (own_order (history s) (by_session s) some (owned s)) laws.cycle laws.short options claim said is
 
   of_answer : KeepsLimits (finished records) → (a : Answer) → IsAnswerOfHistory (judged (history (finished records)) options.level) a
       → IsAcceptedWith options records (certificate_text (certificate_of a))
@@ -224,7 +222,7 @@ module _ (laws : Laws) (options : Options) (records : List ℕ) (unfaulted : (an
       → IsClaimedOf options (history (finished records)) claim said → HasLargeText claim → IsAcceptedWith options records (large_certificate_text claim)
   of_claim past claim said is room =
       let s = finished records in
-      let keeps_all = claim_keeps options (history s) rules_kept claim said is in
+      let keeps_all = rules_kept claim said is in
       whole laws.true_small laws.true_large options records (large_certificate_text claim) unfaulted resolved
       (large_accepted laws.kept s claim room (laws.back claim room) keeps_all) refl (past, claim, said, is, refl, refl, refl)
       (large_own laws.kept s claim room (laws.back claim room) keeps_all) (large_others laws.kept s claim room (laws.back claim room) keeps_all)

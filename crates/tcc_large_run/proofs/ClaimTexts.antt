@@ -1,6 +1,5 @@
--- Version 3 of the text has room for what is claimed by what is decided.
-use Rattle.std.proofs.Common.{◌≡◌, ◌∙◌, ◌≢◌, ◌<◌, ◌+◌, ◌⊎◌, inl, inr, ℕ, List, [], ◌∷◌, length, Some, refl, sym, ap, subst, arith}
-use Rattle.std.specs.Global.{Vec}
+-- Version 3 of the text has room for what is claimed of a first answer.
+use Rattle.std.proofs.Common.{◌≡◌, ◌∙◌, ◌≢◌, ◌<◌, ◌≤◌, ◌+◌, ◌⊎◌, inl, inr, ℕ, List, [], ◌∷◌, length, Option, None, Some, refl, sym, ap, subst, arith, rules}
 use Rattle.std.proofs.lemmas.Bool.{cases_eq}
 use Rattle.tcc_reads.specs.History.{History, count}
 use Rattle.tcc_graph.specs.Levels.{judged}
@@ -10,24 +9,15 @@ use Rattle.tcc_graph.specs.declared.level.Level.{Level}
 use Rattle.tcc_graph.specs.declared.link.Link.{Link}
 use Rattle.tcc_graph.proofs.Numberings.{one_index}
 use Rattle.tcc_graph.proofs.Pairs.{initial_pair}
-use Rattle.tcc_cert.specs.LargeTexts.{HasLargeText, HasRunsClaimText, HaveRunsText}
+use Rattle.tcc_cert.specs.LargeTexts.{HasLeastText, HasLinksClaimText, HasRunsClaimText, HaveRunsText}
 use Rattle.tcc_cert.specs.RunsTold.{order_claim_of}
-use Rattle.tcc_cert.specs.declared.large.LargeCertificate.TheVariants as claims
 use Rattle.tcc_cert.specs.declared.large.LinksClaim.{LinksClaim}
 use Rattle.tcc_cert.specs.declared.large.Run.{Run}
-use Rattle.tcc_answer.specs.declared.answer.Answer.{Answer}
-use Rattle.tcc_answer.specs.declared.answer.Answer.TheVariants as answer
-use Rattle.tcc_least.specs.Shapes.{AreLeast}
+use Rattle.tcc_check.specs.Asked.{AllHold}
 use Rattle.tcc_explain.proofs.CertifiedOrder.{numbering_long}
 use Rattle.tcc_judge.specs.Claims.{links_claim_of}
 use Rattle.tcc_judge.specs.Verdicts.{cycle_rules}
-use Rattle.tcc_large.specs.Decisions.{HasNone, IsDecision}
-use Rattle.tcc_large.specs.declared.decision.Decision.{Decision}
-use Rattle.tcc_large.specs.declared.decision.Decision.TheVariants as decision
-use Rattle.tcc_large_run.specs.LargeRuns.{bare_cycle, claim_of}
-use Rattle.tcc_large_run.specs.private.Stages.{IsFoundOf}
-use Rattle.tcc_large_run.specs.declared.outcome.Outcome.TheVariants as outcome
-use Rattle.tcc_check.specs.Asked.{AllHold}
+use Rattle.tcc_large_run.specs.private.Stages.{IsCycleClaim, IsLongClaim}
 
 -- a commit order begins with `init`
 begins : (h : History) (level : Level) (order : List ℕ) → 0 < count h → IsCommitOrder (judged h level) order → (rest : List ℕ) × (0 ∷ rest ≡ order)
@@ -43,7 +33,7 @@ begins h level (n ∷ rest) some commit = (rest, ap (λ m. m ∷ rest) (sym (zer
         absurd (omega (arith, first, less))
 
 -- so what is claimed of it has a text
-order_room : (h : History) (level : Level) (order : List ℕ) → 0 < count h
+pub order_room : (h : History) (level : Level) (order : List ℕ) → 0 < count h
     → ((rest : List ℕ) → 1 + length rest ≡ count h → HasRunsClaimText (order_claim_of level h (0 ∷ rest)))
     → IsCommitOrder (judged h level) order → HasRunsClaimText (order_claim_of level h order)
 order_room h level order some text commit =
@@ -51,26 +41,20 @@ order_room h level order some text commit =
     let long : 1 + length rest ≡ count h = omega (arith, ap length is, numbering_long (count h) order commit.numbering) in
     subst (λ (all : List ℕ). HasRunsClaimText (order_claim_of level h all)) is (text rest long)
 
--- there always is room for an order
-pub none_room : (h : History) (level : Level) (d : Decision) → 0 < count h
-    → ((order : List ℕ) → 1 + length order ≡ count h → HasRunsClaimText (order_claim_of level h (0 ∷ order)))
-    → HasNone d → IsDecision (judged h level) d → HasLargeText (claim_of level h d)
-none_room h level (decision.Order order) some text none is = order_room h level order.items some text is.commit
-none_room h level (decision.Least links) some text none is = absurd none
-none_room h level (decision.Cycle links) some text none is = absurd none
+-- of no runs there is a text
+no_runs : HaveRunsText []
+no_runs = record { many = omega arith; each = search rules }
 
--- a cycle of which the judge says that it is a least one
-pub found_proved : ((h : History) (k : LinksClaim) (runs : List Run) → k.least ≡ Some runs → AllHold (cycle_rules h k) → AreLeast (judged h k.level) k.links)
-    → (level : Level) (h : History) (links : Vec Link) (runs : List Run) (a : Answer) (k : LinksClaim) → 4 < cost links.items → HasLargeText (claim_of level h (decision.Cycle links))
-    → a ≡ answer.Anomaly (bare_cycle level h links.items) → k ≡ links_claim_of level h links.items (Some runs) → HaveRunsText runs
-    → AllHold (cycle_rules h k) → IsFoundOf level h (decision.Cycle links) (outcome.Proved h a (claims.Cycle k))
-found_proved law level h links runs a k long room said made short keeps =
-    let own : AllHold (cycle_rules h (links_claim_of level h links.items (Some runs))) = subst (λ (k : LinksClaim). AllHold (cycle_rules h k)) made keeps in
-    inr (
-      links.items,
-      runs,
-      record { least = law h (links_claim_of level h links.items (Some runs)) runs refl own; long = long; rules = own },
-      record { count = room.count; steps = room.steps; links = room.links; cost = room.cost; least = short },
-      ap (λ (b : Answer). outcome.Proved h b (claims.Cycle k)) said
-          ∙ ap (λ (m : LinksClaim). outcome.Proved h (answer.Anomaly (bare_cycle level h links.items)) (claims.Cycle m)) made,
-    )
+module _ (level : Level) (h : History) (links : List Link) (k : LinksClaim)
+    (room : (least : Option (List Run)) → HasLeastText least → HasLinksClaimText (links_claim_of level h links least)) where
+  -- up to four steps no runs are needed
+  pub short_claimed : cost links ≤ 4 → k ≡ links_claim_of level h links (Some []) → IsCycleClaim level h links k
+  short_claimed few same = ((Some [], inl (few, refl), same), subst HasLinksClaimText (sym same) (room (Some []) no_runs))
+
+  -- past them the judge takes the runs; or nothing is claimed of the least cost
+  pub long_claimed : 4 < cost links → IsLongClaim level h links k → IsCycleClaim level h links k
+  long_claimed long (inl same) = ((None, long, same), subst HasLinksClaimText (sym same) (room None tt))
+  long_claimed long (inr (runs, same, short, keeps)) = (
+    (Some runs, inr (long, subst (λ (k : LinksClaim). AllHold (cycle_rules h k)) same keeps), same),
+    subst HasLinksClaimText (sym same) (room (Some runs) short),
+  )

@@ -47,9 +47,8 @@ module _ (laws : Laws) (options : Options) (records : List ℕ) where
 
     of_certificate : (before after : Option (List ℕ)) (code : ℕ) → code ≢ code_of Device
         → CertificateStops options last before after (Some (Some [])) (Some (Some text)) code → IsAcceptedWith options records text
-    of_certificate before after code fine (inl (whole, is, part, prints)) =
+    of_certificate before after code fine (whole, is, part, prints) =
         absurd (fine (device_code before after (device_line options.json) code prints))
-    of_certificate before after code fine (inr (claim, is, gains, prints)) = absurd (some gains.0)
 
     of_stops : (before after : Option (List ℕ)) (slice slice' : Contents) (code : ℕ) → code ≢ code_of Device
         → Stops options (finished records) last before after (record { certificate = Some (Some []); slice = slice })

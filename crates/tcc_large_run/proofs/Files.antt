@@ -1,18 +1,14 @@
 -- What goes into the files behind the last answer.
-use Rattle.std.proofs.Common.{◌≡◌, ℕ, List, Option, None, Some, Result, Ok, Err, MatchResult, refl, sym, subst, take, ◌∙◌, inl, inr}
+use Rattle.std.proofs.Common.{◌≡◌, ℕ, List, Option, None, Some, Result, Ok, Err, refl, sym, subst, take, ◌∙◌, inl, inr}
 use Rattle.std.specs.Prelude.{IsErrAnd, OnErr, OnOk}
 use Rattle.std.specs.Io.KnownBytes.{Appends}
 use Rattle.tcc_txn.specs.Snapshots.{Sessions}
 use Rattle.tcc_reads.specs.Sources.{history}
 use Rattle.tcc_graph.specs.declared.link.Link.{Link}
-use Rattle.tcc_cert.specs.LargeTexts.{large_certificate_text}
-use Rattle.tcc_cert.specs.declared.large.LargeCertificate.{LargeCertificate}
-use Rattle.tcc_answer.specs.declared.fault.WriteFault.{WriteFault}
-use Rattle.tcc_answer.specs.declared.fault.WriteFault.TheVariants as write
 use Rattle.tcc_print.specs.Courses.{Contents, Said}
-use Rattle.tcc_print.specs.Printed.{Prints, device_line, memory_line}
+use Rattle.tcc_print.specs.Printed.{Prints, device_line}
 use Rattle.tcc_print.specs.declared.options.Options.{Options}
-use Rattle.tcc_print.specs.declared.status.Status.TheVariants.{Device, Memory}
+use Rattle.tcc_print.specs.declared.status.Status.TheVariants.{Device}
 use Rattle.tcc_print.proofs.Courses.{Gains-none}
 use Rattle.tcc_large_run.specs.LargeRuns.{CertificateStops, Files, IsSliced, IsUnsliced, SliceStops, Stops}
 use Rattle.tcc_large_run.specs.private.Stages.{IsOutcome, SendsCertificate, SendsSlice, WritesCertificate, WritesFiles, WritesSlice, outcome_links, outcome_said}
@@ -22,31 +18,17 @@ use Rattle.tcc_large_run.proofs.Outcomes.{has_said, said_anomalous, unsaid}
 nothing : {A : Type 0} (x : A) → Some x ≡ None → ⊥
 nothing x e = cc
 
--- the text of a certificate was written, or a device failed
-pub sent : {A E : Type 0} (certificate : Option (List ℕ)) (text : List ℕ) (written : Result A E) (r : Result A WriteFault) (file file' : Option (List ℕ))
-    → certificate ≡ Some text → OnOk written (Appends file file' text) → OnErr written ((n : ℕ) × Appends file file' (take n text))
-    → MatchResult written (λ done. r ≡ Ok done) (λ _. r ≡ Err write.Device) → SendsCertificate certificate r file file'
-sent certificate text (Ok done) r file file' is whole part same = subst (λ r. SendsCertificate certificate r file file') (sym same) (rw is whole)
-sent certificate text (Err e) r file file' is whole part same = subst (λ r. SendsCertificate certificate r file file') (sym same) (text, is, part)
-
--- memory was out before a claim was made
-pub unmade : {A : Type 0} (certificate : Option (List ℕ)) (claim : LargeCertificate) (r : Result A WriteFault) (file : Option (List ℕ))
-    → certificate ≡ Some (large_certificate_text claim) → IsErrAnd r (λ why. why ≡ write.NoMemory) → SendsCertificate certificate r file file
-unmade certificate claim (Ok done) file is out = absurd out
-unmade {A = A} certificate claim (Err why) file is out =
-    subst (λ (w : WriteFault). SendsCertificate {A = A} certificate (Err w) file file) (sym out) (claim, is, Gains-none (Some file))
-
--- what is printed where a file stops a run
-abbrev pub fault_printed : Options → WriteFault → Option (List ℕ) → Option (List ℕ) → ℕ → Type 0
-fault_printed options write.Device before after code = Prints before after (device_line options.json) Device code
-fault_printed options write.NoMemory before after code = Prints before after (memory_line options.json) Memory code
+-- the text of a certificate was written, or a write failed
+pub sent : {A E : Type 0} (certificate : Option (List ℕ)) (text : List ℕ) (r : Result A E) (file file' : Option (List ℕ)) → certificate ≡ Some text
+    → OnOk r (Appends file file' text) → OnErr r ((n : ℕ) × Appends file file' (take n text)) → SendsCertificate certificate r file file'
+sent certificate text (Ok done) file file' is whole part = rw is whole
+sent certificate text (Err fault) file file' is whole part = (text, is, part)
 
 -- the run stops at a file that is given
-pub certificate_stops : (options : Options) (last : Said) (before after file file' : Option (List ℕ)) (why : WriteFault) (code : ℕ)
-    → SendsCertificate {A = Unit {0}} last.certificate (Err why) file file' → fault_printed options why before after code
+pub certificate_stops : {E : Type 0} (options : Options) (last : Said) (before after file file' : Option (List ℕ)) (fault : E) (code : ℕ)
+    → SendsCertificate {A = Unit {0}} last.certificate (Err fault) file file' → Prints before after (device_line options.json) Device code
     → CertificateStops options last before after (Some file) (Some file') code
-certificate_stops options last before after file file' write.Device code (text, is, (n, part)) prints = inl (text, is, (n, part, nothing file), prints)
-certificate_stops options last before after file file' write.NoMemory code (claim, is, none) prints = inr (claim, is, (none, nothing file), prints)
+certificate_stops options last before after file file' fault code (text, is, (n, part)) prints = (text, is, (n, part, nothing file), prints)
 
 -- the slice of what was said
 pub slice_given : {A : Type 0} (options : Options) (whole : Sessions) (o : Outcome) (links : List Link) (r : Result A ℕ) (before after file file' : Option (List ℕ))

@@ -23,8 +23,7 @@ module _ (options : Options) (records : List ℕ) (before after : Option (List �
   ]
 
   certificate_fails : (last : Said) (between : Option (List ℕ)) → CertificateStops options last between after files.certificate files'.certificate code → ⊥
-  certificate_fails last between (inl (text, is, part, prints)) = fine (device_code between after (device_line options.json) code prints)
-  certificate_fails last between (inr (claim, is, none, prints)) = out_of_memory between prints
+  certificate_fails last between (text, is, part, prints) = fine (device_code between after (device_line options.json) code prints)
 
   slice_fails : (last : Said) (between : Option (List ℕ)) → SliceStops options (finished records) last between after files.slice files'.slice code → ⊥
   slice_fails last between (inl (slice, n, cut, gains, prints)) = fine (device_code between after (device_line options.json) code prints)

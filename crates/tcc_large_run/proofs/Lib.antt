@@ -3,7 +3,7 @@ pub mod FirstLines
 pub mod GoesOut
 pub mod Files
 pub mod Outcomes
-pub mod LongCycles
+pub mod OneText
 pub mod Own
 pub mod Accepted
 pub mod Closes

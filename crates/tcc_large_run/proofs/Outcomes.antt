@@ -1,106 +1,86 @@
 -- What is to be said of a snapshot is what is answered for it.
-use Rattle.std.proofs.Common.{ℕ, ◌-◌, ◌≡◌, ◌≢◌, Bool, true, false, cond, List, length, nat_lt, None, Some, ap, refl, sym, subst, ◌∙◌, inl, inr}
+use Rattle.std.proofs.Common.{ℕ, ◌-◌, ◌≡◌, ◌≢◌, Bool, true, false, cond, List, [], length, nat_lt, None, Some, ap, refl, sym, subst, ◌∙◌, inl, inr}
+use Rattle.std.specs.Prelude.{◌↔◌}
 use Rattle.tcc_txn.specs.Finished.{KeepsLimits}
 use Rattle.tcc_txn.specs.Snapshots.{Sessions}
 use Rattle.tcc_reads.specs.Faults.{read_faults}
-use Rattle.std.proofs.Common.{[]}
 use Rattle.tcc_reads.specs.History.{History}
 use Rattle.tcc_reads.specs.Sources.{history}
 use Rattle.tcc_explain.specs.Explained.{IsAnswerOfHistory}
-use Rattle.tcc_graph.specs.Levels.{judged}
-use Rattle.tcc_graph.specs.Routes.{AreCycle}
+use Rattle.tcc_graph.specs.Answers as first
+use Rattle.tcc_graph.specs.Levels.{Judged, judged}
+use Rattle.tcc_graph.specs.Orders.{IsCommitOrder, IsFirstOrder}
+use Rattle.tcc_graph.specs.Routes.{AreCycle, HasCycle}
+use Rattle.tcc_graph.specs.Ties.{IsFirstCycle}
 use Rattle.tcc_graph.specs.declared.level.Level.{Level}
 use Rattle.tcc_graph.specs.declared.link.Link.{Link}
-use Rattle.tcc_cert.specs.LargeTexts.{HasLargeText}
-use Rattle.tcc_cert.specs.declared.large.Run.{Run}
+use Rattle.tcc_cert.specs.LargeTexts.{HasLargeText, HasRunsClaimText}
+use Rattle.tcc_cert.specs.RunsTold.{order_claim_of}
+use Rattle.tcc_cert.specs.declared.large.LargeCertificate.{LargeCertificate}
+use Rattle.tcc_cert.specs.declared.large.LargeCertificate.TheVariants as claims
+use Rattle.tcc_cert.specs.declared.large.LinksClaim.{LinksClaim}
 use Rattle.tcc_answer.specs.declared.answer.Answer.{Answer}
 use Rattle.tcc_answer.specs.declared.answer.Answer.TheVariants as answer
-use Rattle.tcc_large.specs.Decisions.{HasLinks, IsDecision}
-use Rattle.tcc_large.specs.Explained.{IsLargeAnswer}
-use Rattle.tcc_large.specs.declared.answer.LargeAnswer.{LargeAnswer}
-use Rattle.tcc_large.specs.declared.decision.Decision.{Decision}
-use Rattle.tcc_large.specs.declared.decision.Decision.TheVariants as decision
 use Rattle.tcc_print.specs.Courses.{Said, faults_said}
 use Rattle.tcc_print.specs.declared.options.Options.{Options}
 use Rattle.tcc_print.specs.Statuses.{answer_status}
 use Rattle.tcc_print.specs.declared.status.Status.TheVariants.{Anomaly, Success, TooFew}
-use Rattle.tcc_large_run.specs.LargeRuns.{HasSaid, IsProvedLeast, IsSaidWithLarge, IsShort, bare_cycle, claim_of, decision_said, proved_claim, proved_said}
-use Rattle.tcc_large_run.specs.private.Stages.{IsDecided, IsFoundOf, IsOutcome, IsProved, answer_links, outcome_links, outcome_of, outcome_said}
+use Rattle.tcc_large_run.specs.LargeRuns.{HasSaid, IsClaimOf, IsSaidWithLarge, bare, bare_cycle, bare_order, claimed, cycle_claim}
+use Rattle.tcc_large_run.specs.private.Stages.{IsCycleClaim, IsFound, IsFoundOf, IsOutcome, answer_links, outcome_links, outcome_said}
 use Rattle.tcc_large_run.specs.declared.outcome.Outcome.{Outcome}
 use Rattle.tcc_large_run.specs.declared.outcome.Outcome.TheVariants as outcome
 
-decided : (options : Options) (h : History) (d : Decision) → outcome_said options (outcome_of options.level h d) ≡ decision_said options h d
-decided options h (decision.Order order) = refl
-decided options h (decision.Least links) = refl
-decided options h (decision.Cycle links) = refl
+-- ---- what is found past the small limits
 
--- what is said of a history that was decided
-decided_said : (options : Options) (s : Sessions) (h : History) (o : Outcome) (is : IsDecided options.level s h o)
-    → outcome_said options o ≡ decision_said options (history s) is.decided
-decided_said options s h o is =
-    ap (outcome_said options) is.outcome ∙ decided options h is.decided ∙ ap (λ (h : History). decision_said options h is.decided) is.own
+-- by its first order, beside which there is no cycle
+pub found_order : (level : Level) (h : History) (order : List ℕ) (a : Answer) (claim : LargeCertificate)
+    → ((j : Judged) → (((order : List ℕ) × IsCommitOrder j order) ↔ (HasCycle j → ⊥)))
+    → IsFirstOrder (judged h level) order → a ≡ answer.Commit (bare_order level h order) → claim ≡ claims.Order (order_claim_of level h order)
+    → HasRunsClaimText (order_claim_of level h order) → IsFoundOf level h (outcome.Large h a claim)
+found_order level h order a claim law is same made room = (
+  a,
+  claim,
+  refl,
+  record {
+    answered = first.Order order;
+    is = ((law (judged h level)).0 (order, is.commit), is);
+    answer = same;
+    claimed = made;
+    room = subst HasLargeText (sym made) room;
+  },
+)
 
-past_limits : (options : Options) (s : Sessions) (h : History) (o : Outcome) → IsDecided options.level s h o → IsSaidWithLarge options s (outcome_said options o)
-past_limits options s h o is =
+-- by the first of its least cycles
+pub found_cycle : (level : Level) (h : History) (s : ℕ) (links : List Link) (a : Answer) (k : LinksClaim) → IsFirstCycle (judged h level) s links
+    → a ≡ answer.Anomaly (bare_cycle level h links) → IsCycleClaim level h links k → IsFoundOf level h (outcome.Large h a (claims.Cycle k))
+found_cycle level h s links a k is same ((least, says, made), room) = (
+  a,
+  claims.Cycle k,
+  refl,
+  record { answered = first.Cycle s links; is = is; answer = same; claimed = (least, says, ap claims.Cycle made); room = room },
+)
+
+-- it is what is to be said of a snapshot of this history
+pub large_outcome : (level : Level) (s : Sessions) (h : History) (o : Outcome) → read_faults s ≡ [] → (KeepsLimits s → ⊥) → h ≡ history s
+    → IsFoundOf level h o → IsOutcome level s o
+large_outcome level s h o none past own (a, claim, same, found) =
+    subst (λ (o : Outcome). IsOutcome level s o) (sym same) (none, past, own, found)
+
+-- ---- what is said
+
+found_said : (options : Options) (s : Sessions) (a : Answer) (claim : LargeCertificate) → read_faults s ≡ [] → (KeepsLimits s → ⊥)
+    → IsFound options.level (history s) a claim → IsSaidWithLarge options s (claimed options a claim)
+found_said options s a claim none past found =
     inl (
-      is.resolved,
-      inr (is.past, claim_of options.level (history s) is.decided, inl (is.decided, is.is, is.short, refl, decided_said options s h o is), is.room),
-    )
-
--- what is said of a least cycle that was proved
-proved_is : (options : Options) (s : Sessions) (h : History) (o : Outcome) (is : IsProved options.level s h o)
-    → outcome_said options o ≡ proved_said options (history s) is.links is.runs
-proved_is options s h o is =
-    ap (outcome_said options) is.outcome ∙ ap (λ (h : History). proved_said options h is.links is.runs) is.own
-
-past_proved : (options : Options) (s : Sessions) (h : History) (o : Outcome) → IsProved options.level s h o → IsSaidWithLarge options s (outcome_said options o)
-past_proved options s h o is =
-    inl (
-      is.resolved,
-      inr (
-        is.past,
-        proved_claim options.level (history s) is.links is.runs,
-        inr (is.links, is.runs, is.is, refl, proved_is options s h o is),
-        is.room,
-      ),
+      none,
+      inr (past, claim, (found.answered, found.is, found.claimed, ap (λ (b : Answer). claimed options b claim) found.answer), found.room),
     )
 
 pub said_of : (options : Options) (s : Sessions) (o : Outcome) → IsOutcome options.level s o → IsSaidWithLarge options s (outcome_said options o)
 said_of options s (outcome.Unresolved faults) (faulty, same) = inr (faulty, ap (faults_said options) same)
 said_of options s (outcome.Small a) (resolved, keeps, is) = inl (resolved, inl (keeps, a, is, refl))
-said_of options s (outcome.Large h a) is = past_limits options s h (outcome.Large h a) is
-said_of options s (outcome.Proved h a claim) is = past_proved options s h (outcome.Proved h a claim) is
-said_of options s (outcome.Cycle h labels links) is = past_limits options s h (outcome.Cycle h labels links) is
-
--- past the small limits what is answered for a large snapshot is what is to be said of it
-decided_outcome : (level : Level) (s : Sessions) (h : History) (d : Decision) → read_faults s ≡ [] → (KeepsLimits s → ⊥) → h ≡ history s
-    → IsDecision (judged (history s) level) d → IsShort d → HasLargeText (claim_of level (history s) d) → IsOutcome level s (outcome_of level h d)
-decided_outcome level s h (decision.Order order) none past same is short room =
-    record { resolved = none; past = past; own = same; decided = decision.Order order; is = is; short = short; room = room; outcome = refl }
-decided_outcome level s h (decision.Least links) none past same is short room =
-    record { resolved = none; past = past; own = same; decided = decision.Least links; is = is; short = short; room = room; outcome = refl }
-decided_outcome level s h (decision.Cycle links) none past same is short room =
-    record { resolved = none; past = past; own = same; decided = decision.Cycle links; is = is; short = short; room = room; outcome = refl }
-
-proved_outcome : (level : Level) (s : Sessions) (h : History) (links : List Link) (runs : List Run) → read_faults s ≡ [] → (KeepsLimits s → ⊥) → h ≡ history s
-    → IsProvedLeast level (history s) links runs → HasLargeText (proved_claim level (history s) links runs)
-    → IsOutcome level s (outcome.Proved h (answer.Anomaly (bare_cycle level h links)) (proved_claim level h links runs))
-proved_outcome level s h links runs none past same is room =
-    record { resolved = none; past = past; own = same; links = links; runs = runs; is = is; room = room; outcome = refl }
-
-pub large_outcome : (level : Level) (s : Sessions) (a : LargeAnswer) (o : Outcome) → (KeepsLimits s → ⊥) → IsLargeAnswer s level a
-    → IsFoundOf level a.graph a.decision o → IsOutcome level s o
-large_outcome level s a o past (none, same, is) (inl (said, short, room)) =
-    subst (λ (o : Outcome). IsOutcome level s o) (sym said)
-    (decided_outcome level s a.graph a.decision none past same is short (subst (λ (h : History). HasLargeText (claim_of level h a.decision)) same room))
-large_outcome level s a o past (none, same, is) (inr (links, runs, proved, room, said)) =
-    subst (λ (o : Outcome). IsOutcome level s o) (sym said)
-    (proved_outcome level s a.graph links runs none past same (subst (λ (h : History). IsProvedLeast level h links runs) same proved)
-    (subst (λ (h : History). HasLargeText (proved_claim level h links runs)) same room))
-
--- what is answered for a large snapshot is decided of its graph
-pub decided_of : (level : Level) (s : Sessions) (a : LargeAnswer) → IsLargeAnswer s level a → IsDecision (judged a.graph level) a.decision
-decided_of level s a (none, same, is) = subst (λ (h : History). IsDecision (judged h level) a.decision) (sym same) is
+said_of options s (outcome.Large h a claim) (resolved, past, own, found) =
+    found_said options s a claim resolved past (subst (λ (h : History). IsFound options.level h a claim) own found)
 
 -- ---- the links of what was said
 
@@ -110,29 +90,22 @@ nothing x e = cc
 inside : {A : Type 0} (x y : A) → Some x ≡ Some y → y ≡ x
 inside x y e = cc
 
-decided_links : (level : Level) (h : History) (d : Decision) (links : List Link) → outcome_links (outcome_of level h d) ≡ Some links → HasLinks d links
-decided_links level h (decision.Order order) links e = nothing links e
-decided_links level h (decision.Least found) links e = inside found.items links e
-decided_links level h (decision.Cycle found) links e = inside found.items links e
-
-past_links : (options : Options) (s : Sessions) (h : History) (o : Outcome) (links : List Link) → IsDecided options.level s h o → outcome_links o ≡ Some links
-    → HasSaid options (history s) (outcome_said options o) links
-past_links options s h o links is e =
+bare_links : (options : Options) (h : History) (a : first.Answer) (claim : LargeCertificate) (links : List Link) → IsClaimOf options.level h a claim
+    → answer_links (bare options.level h a) ≡ Some links → HasSaid options h (claimed options (bare options.level h a) claim) links
+bare_links options h (first.Order order) claim links says e = absurd (nothing links e)
+bare_links options h (first.Cycle s found) claim links (least, says, same) e =
     inr (
-    inl (
-      is.decided,
-      decided_said options s h o is,
-      decided_links options.level h is.decided links (sym (ap outcome_links is.outcome) ∙ e),
-    )
+      least,
+      ap (λ (k : LargeCertificate). claimed options (answer.Anomaly (bare_cycle options.level h found)) k) same
+          ∙ ap (λ (ls : List Link). claimed options (answer.Anomaly (bare_cycle options.level h ls)) (cycle_claim options.level h ls least))
+          (sym (inside found links e)),
     )
 
-proved_links : (options : Options) (s : Sessions) (h : History) (o : Outcome) (links : List Link) → IsProved options.level s h o → outcome_links o ≡ Some links
-    → HasSaid options (history s) (outcome_said options o) links
-proved_links options s h o links is e =
-    let own : links ≡ is.links = inside is.links links (sym (ap outcome_links is.outcome) ∙ e) in
-    inr (
-    inr (is.runs, proved_is options s h o is ∙ ap (λ (ls : List Link). proved_said options (history s) ls is.runs) (sym own))
-    )
+found_links : (options : Options) (h : History) (a : Answer) (claim : LargeCertificate) (links : List Link) → IsFound options.level h a claim
+    → answer_links a ≡ Some links → HasSaid options h (claimed options a claim) links
+found_links options h a claim links found e =
+    subst (λ (b : Answer). HasSaid options h (claimed options b claim) links) (sym found.answer)
+    (bare_links options h found.answered claim links found.claimed (sym (ap answer_links found.answer) ∙ e))
 
 small_links : (options : Options) (h : History) (a : Answer) (links : List Link) → answer_links a ≡ Some links
     → HasSaid options h (outcome_said options (outcome.Small a)) links
@@ -143,9 +116,8 @@ pub has_said : (options : Options) (s : Sessions) (o : Outcome) (links : List Li
     → HasSaid options (history s) (outcome_said options o) links
 has_said options s (outcome.Unresolved faults) links is e = absurd (nothing links e)
 has_said options s (outcome.Small a) links is e = small_links options (history s) a links e
-has_said options s (outcome.Large h a) links is e = past_links options s h (outcome.Large h a) links is e
-has_said options s (outcome.Proved h a claim) links is e = proved_links options s h (outcome.Proved h a claim) links is e
-has_said options s (outcome.Cycle h labels found) links is e = past_links options s h (outcome.Cycle h labels found) links is e
+has_said options s (outcome.Large h a claim) links (resolved, past, own, found) e =
+    found_links options (history s) a claim links (subst (λ (h : History). IsFound options.level h a claim) own found) e
 
 -- what has no links is no anomaly
 none_anomalous : (required : ℕ) (a : Answer) → answer_links a ≡ None → answer_status required a ≢ Anomaly
@@ -159,27 +131,18 @@ none_anomalous required (answer.Anomaly a) none = absurd (nothing a.links (sym n
 pub unsaid : (options : Options) (o : Outcome) → outcome_links o ≡ None → (outcome_said options o).status ≢ Anomaly
 unsaid options (outcome.Unresolved faults) none e = cc
 unsaid options (outcome.Small a) none e = none_anomalous options.required a none e
-unsaid options (outcome.Large h a) none e = none_anomalous options.required a none e
-unsaid options (outcome.Proved h a claim) none e = none_anomalous options.required a none e
-unsaid options (outcome.Cycle h labels links) none e = nothing links.items (sym none)
+unsaid options (outcome.Large h a claim) none e = none_anomalous options.required a none e
 
 -- the links of what was said are a cycle
-decided_cycle : (level : Level) (s : Sessions) (d : Decision) (links : List Link) → IsDecision (judged (history s) level) d → HasLinks d links
-    → AreCycle (judged (history s) level) links
-decided_cycle level s (decision.Order order) links is has = absurd has
-decided_cycle level s (decision.Least found) links is has = subst (AreCycle (judged (history s) level)) (sym has) (is.0.0, is.0.1.cycle)
-decided_cycle level s (decision.Cycle found) links is has = subst (AreCycle (judged (history s) level)) (sym has) is.0
+bare_is_cycle : (level : Level) (h : History) (a : first.Answer) (links : List Link) → first.IsFirstAnswer (judged h level) a
+    → answer_links (bare level h a) ≡ Some links → AreCycle (judged h level) links
+bare_is_cycle level h (first.Order order) links is e = absurd (nothing links e)
+bare_is_cycle level h (first.Cycle s found) links is e = subst (AreCycle (judged h level)) (sym (inside found links e)) (s, is.least.cycle)
 
-past_cycle : (level : Level) (s : Sessions) (h : History) (o : Outcome) (links : List Link) → IsDecided level s h o → outcome_links o ≡ Some links
-    → (read_faults s ≡ []) × AreCycle (judged (history s) level) links
-past_cycle level s h o links is e =
-    (is.resolved, decided_cycle level s is.decided links is.is (decided_links level h is.decided links (sym (ap outcome_links is.outcome) ∙ e)))
-
-proved_cycle : (level : Level) (s : Sessions) (h : History) (o : Outcome) (links : List Link) → IsProved level s h o → outcome_links o ≡ Some links
-    → (read_faults s ≡ []) × AreCycle (judged (history s) level) links
-proved_cycle level s h o links is e =
-    let own : links ≡ is.links = inside is.links links (sym (ap outcome_links is.outcome) ∙ e) in
-    (is.resolved, subst (AreCycle (judged (history s) level)) (sym own) (is.is.least.0, is.is.least.1.cycle))
+found_is_cycle : (level : Level) (h : History) (a : Answer) (claim : LargeCertificate) (links : List Link) → IsFound level h a claim
+    → answer_links a ≡ Some links → AreCycle (judged h level) links
+found_is_cycle level h a claim links found e =
+    bare_is_cycle level h found.answered links found.is (sym (ap answer_links found.answer) ∙ e)
 
 small_cycle : (level : Level) (s : Sessions) (a : Answer) (links : List Link) → read_faults s ≡ [] → IsAnswerOfHistory (judged (history s) level) a
     → answer_links a ≡ Some links → (read_faults s ≡ []) × AreCycle (judged (history s) level) links
@@ -191,22 +154,10 @@ pub links_cycle : (level : Level) (s : Sessions) (o : Outcome) (links : List Lin
     → (read_faults s ≡ []) × AreCycle (judged (history s) level) links
 links_cycle level s (outcome.Unresolved faults) links is e = absurd (nothing links e)
 links_cycle level s (outcome.Small a) links (none, keeps, is) e = small_cycle level s a links none is e
-links_cycle level s (outcome.Large h a) links is e = past_cycle level s h (outcome.Large h a) links is e
-links_cycle level s (outcome.Proved h a claim) links is e = proved_cycle level s h (outcome.Proved h a claim) links is e
-links_cycle level s (outcome.Cycle h labels found) links is e = past_cycle level s h (outcome.Cycle h labels found) links is e
+links_cycle level s (outcome.Large h a claim) links (none, past, own, found) e =
+    (none, found_is_cycle level (history s) a claim links (subst (λ (h : History). IsFound level h a claim) own found) e)
 
 -- what has links is an anomaly
-decided_anomalous : (options : Options) (h : History) (d : Decision) (links : List Link) → HasLinks d links → (decision_said options h d).status ≡ Anomaly
-decided_anomalous options h (decision.Order order) links has = absurd has
-decided_anomalous options h (decision.Least found) links has = refl
-decided_anomalous options h (decision.Cycle found) links has = refl
-
 pub said_anomalous : (options : Options) (h : History) (said : Said) (links : List Link) → HasSaid options h said links → said.status ≡ Anomaly
 said_anomalous options h said links (inl (a, same, is)) = ap (λ (one : Said). one.status) same
-said_anomalous options h said links (inr (inl (d, same, has))) = ap (λ (one : Said). one.status) same ∙ decided_anomalous options h d links has
-said_anomalous options h said links (inr (inr (runs, same))) = ap (λ (one : Said). one.status) same
-
--- ---- the graph of what was said
-
-pub own_graph : (level : Level) (s : Sessions) (o : Outcome) (h : History) (a : Answer) → o ≡ outcome.Large h a → IsOutcome level s o → h ≡ history s
-own_graph level s o h a same is = (subst (λ (o : Outcome). IsOutcome level s o) same is).own
+said_anomalous options h said links (inr (least, same)) = ap (λ (one : Said). one.status) same

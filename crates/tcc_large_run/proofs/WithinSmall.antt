@@ -200,4 +200,4 @@ module _ (law : (text : List ℕ) (n : ℕ) → KeepsLimits (finished_in (take n
   run_large before after file file' code (said, last, ends, end, inr (inl fails)) =
       (said, last, ends_large said ends, end, inr (inl (fails, refl)))
   run_large before after file file' code (said, last, ends, end, inr (inr ((text, is, part), (between, out, prints)))) =
-      (said, last, ends_large said ends, end, inr (inr (between, out, inl (inl (text, is, part, prints), refl))))
+      (said, last, ends_large said ends, end, inr (inr (between, out, inl ((text, is, part, prints), refl))))

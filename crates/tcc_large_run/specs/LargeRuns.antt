@@ -1,5 +1,5 @@
 -- What is answered for the records of an input within the large limits, and what a run of explain --large does with their bytes.
-use Rattle.std.specs.Prelude.{ℕ, ◌≡◌, ◌≢◌, ◌<◌, ◌≤◌, ◌⊎◌, nat_le, if◌then◌else◌, List, [], length, take, unwrap_or, Option, None, Some}
+use Rattle.std.specs.Prelude.{ℕ, ◌≡◌, ◌≢◌, ◌<◌, ◌≤◌, ◌⊎◌, List, [], length, take, unwrap_or, Option, None, Some}
 use Rattle.std.specs.Io.KnownBytes.{Appends}
 use Rattle.tcc_rows.specs.Answers as rows
 use Rattle.tcc_txn.specs.Finished.{KeepsLimits}
@@ -9,6 +9,7 @@ use Rattle.tcc_txn.specs.declared.limits.Limits.TheVariants.{Large}
 use Rattle.tcc_reads.specs.Faults.{read_faults}
 use Rattle.tcc_reads.specs.History.{History}
 use Rattle.tcc_reads.specs.Sources.{history}
+use Rattle.tcc_graph.specs.Answers as first
 use Rattle.tcc_graph.specs.Levels.{judged}
 use Rattle.tcc_graph.specs.Links.{cost}
 use Rattle.tcc_graph.specs.declared.level.Level.{Level}
@@ -23,21 +24,16 @@ use Rattle.tcc_graph.specs.Labels.{labels_of}
 use Rattle.tcc_answer.specs.declared.answer.Answer.{Answer}
 use Rattle.tcc_answer.specs.declared.answer.Answer.TheVariants as answer
 use Rattle.tcc_explain.specs.Explained.{IsAnswerOfHistory}
-use Rattle.tcc_least.specs.Shapes.{AreLeast}
-use Rattle.tcc_large.specs.Decisions.{HasLinks, IsDecision}
 use Rattle.tcc_slices.specs.Cuts.{IsCutOf}
 use Rattle.tcc_slices.specs.Limits.{NeedTooMuch}
 use Rattle.tcc_slices.specs.Slices.{IsSliceOf}
 use Rattle.tcc_slices.specs.Texts.{records_text}
-use Rattle.tcc_large.specs.declared.decision.Decision.{Decision}
-use Rattle.tcc_large.specs.declared.decision.Decision.TheVariants as decision
 use Rattle.tcc_judge.specs.Claims.{links_claim_of}
 use Rattle.tcc_judge.specs.Verdicts.{rules_of}
 use Rattle.tcc_judge.specs.declared.verdict.Rule.{Rule}
 use Rattle.tcc_check.specs.declared.verdict.Verdict.{Verdict}
 use Rattle.tcc_check.specs.declared.verdict.Verdict.TheVariants as verdict
 use Rattle.tcc_print.specs.Courses.{Contents, Gains, IsCourse, Said, TextFails, answer_said, faults_said}
-use Rattle.tcc_print.specs.Large.{unproved}
 use Rattle.tcc_print.specs.Printed.{Prints, answered, device_line, memory_line}
 use Rattle.tcc_print.specs.Statuses.{answer_status, code_of}
 use Rattle.tcc_print.specs.declared.options.Options.{Options}
@@ -51,21 +47,30 @@ use Rattle.tcc_large_run.specs.declared.explained.Explained.{Explained}
 abbrev pub bare_order : Level → History → List ℕ → LabelledOrder
 bare_order level h order = record { level = level; order = order; sessions = length h.sessions; clocks = []; labels = labels_of h }
 
--- a least cycle of a history, with what its text needs: it has no distances
+-- a cycle of a history, with what its text needs: it has no distances
 abbrev pub bare_cycle : Level → History → List Link → LabelledCycle
 bare_cycle level h links = record { level = level; links = links; near = []; far = []; labels = labels_of h }
 
--- the runs beside a claim that a cycle of so many steps is a least one: none are needed for four steps at most, and of more it isn't
--- claimed by what is decided alone
-abbrev pub short_runs : ℕ → Option (List Run)
-short_runs steps = if nat_le steps 4 then Some [] else None
+abbrev pub bare : Level → History → first.Answer → Answer
+bare level h (first.Order order) = answer.Commit (bare_order level h order)
+bare level h (first.Cycle s links) = answer.Anomaly (bare_cycle level h links)
 
--- what is claimed of a history by what is decided of it: its order, told by runs; the links of a least cycle; or those of a cycle of
--- which no more is known
-abbrev pub claim_of : Level → History → Decision → LargeCertificate
-claim_of level h (decision.Order order) = claims.Order (order_claim_of level h order.items)
-claim_of level h (decision.Least links) = claims.Cycle (links_claim_of level h links.items (short_runs (cost links.items)))
-claim_of level h (decision.Cycle links) = claims.Cycle (links_claim_of level h links.items None)
+-- the claim that links are a cycle; and, where runs are given, that no cycle has fewer steps
+abbrev pub cycle_claim : Level → History → List Link → Option (List Run) → LargeCertificate
+cycle_claim level h links least = claims.Cycle (links_claim_of level h links least)
+
+-- what a least cycle claims of that no cycle has fewer steps: up to four steps it claims that, and no runs are needed; past them it claims
+-- it with runs by which that keeps all rules of the judge, or claims nothing of it
+abbrev pub IsLeastClaimed : Level → History → List Link → Option (List Run) → Type 0
+IsLeastClaimed level h links None = 4 < cost links
+IsLeastClaimed level h links (Some runs) =
+    ((cost links ≤ 4) × (runs ≡ [])) ⊎ ((4 < cost links) × AllHold (rules_of h (cycle_claim level h links (Some runs))))
+
+-- the claim of a first answer: an order's, told by runs; a cycle's, by its links
+abbrev pub IsClaimOf : Level → History → first.Answer → LargeCertificate → Type 0
+IsClaimOf level h (first.Order order) claim = claim ≡ claims.Order (order_claim_of level h order)
+IsClaimOf level h (first.Cycle s links) claim =
+    (least : Option (List Run)) × IsLeastClaimed level h links least × (claim ≡ cycle_claim level h links least)
 
 -- an answer as it is said of a small history, with the certificate of what is claimed
 abbrev pub claimed : Options → Answer → LargeCertificate → Said
@@ -75,53 +80,16 @@ claimed options a claim = record {
   certificate = Some (large_certificate_text claim);
 }
 
--- what is decided of a large history: an order or a least cycle, as it is said of a small one; or a cycle that isn't known to be a
--- least one
-abbrev pub decision_said : Options → History → Decision → Said
-decision_said options h (decision.Order order) =
-    claimed options (answer.Commit (bare_order options.level h order.items)) (claim_of options.level h (decision.Order order))
-decision_said options h (decision.Least links) =
-    claimed options (answer.Anomaly (bare_cycle options.level h links.items)) (claim_of options.level h (decision.Least links))
-decision_said options h (decision.Cycle links) = record {
-  text = unproved options.json (labels_of h) links.items;
-  status = Anomaly;
-  certificate = Some (large_certificate_text (claim_of options.level h (decision.Cycle links)));
-}
-
--- the claim that these links are a least cycle, with the runs by which that is judged
-abbrev pub proved_claim : Level → History → List Link → List Run → LargeCertificate
-proved_claim level h links runs = claims.Cycle (links_claim_of level h links (Some runs))
-
--- a least cycle of any cost, as it is said of a small history
-abbrev pub proved_said : Options → History → List Link → List Run → Said
-proved_said options h links runs = claimed options (answer.Anomaly (bare_cycle options.level h links)) (proved_claim options.level h links runs)
-
--- the links are a least cycle of a history, of more than four steps; and the claim that they are one, with these runs, keeps all rules of
--- the judge
-pub record IsProvedLeast (level : Level) (h : History) (links : List Link) (runs : List Run) : Type 0 where
-  pub least : AreLeast (judged h level) links
-  pub long : 4 < cost links
-  pub rules : AllHold (rules_of h (proved_claim level h links runs))
-
 -- ---- one answer
 
--- a cycle that is said to be a least one by what is decided alone has four steps at most
-abbrev pub IsShort : Decision → Type 0
-IsShort (decision.Order order) = Unit {0}
-IsShort (decision.Least links) = cost links.items ≤ 4
-IsShort (decision.Cycle links) = Unit {0}
-
--- what is said of a history past the small limits, and the claim of its certificate: what is decided; or a least cycle of more than four
--- steps that the judge takes for one. So an anomaly of three steps at most is the first cycle, as within the small limits
+-- what is said of a history past the small limits, and the claim of its certificate: its first answer
 abbrev pub IsClaimedOf : Options → History → LargeCertificate → Said → Type 0
 IsClaimedOf options h claim said =
-    ((d : Decision) × IsDecision (judged h options.level) d × IsShort d × (claim ≡ claim_of options.level h d)
-    × (said ≡ decision_said options h d))
-    ⊎ ((links : List Link) × (runs : List Run) × IsProvedLeast options.level h links runs × (claim ≡ proved_claim options.level h links runs)
-    × (said ≡ proved_said options h links runs))
+    (a : first.Answer) × first.IsFirstAnswer (judged h options.level) a × IsClaimOf options.level h a claim
+    × (said ≡ claimed options (bare options.level h a) claim)
 
--- what is said of a snapshot whose reads all have sources: within the small limits its first answer, which is what is said
--- without --large; past them what is claimed of its history, for which version 3 of the text has room
+-- what is said of a snapshot whose reads all have sources is its first answer, whatever its size: within the small limits as it is said
+-- without --large; past them with a claim, for which version 3 of the text has room
 abbrev pub IsResolvedAs : Options → Sessions → Said → Type 0
 IsResolvedAs options s said =
     (KeepsLimits s × (a : Answer) × IsAnswerOfHistory (judged (history s) options.level) a × (said ≡ answer_said options a))
@@ -141,8 +109,8 @@ IsExplained options s e = (said : Said) × IsSaidWithLarge options s said × (e.
 abbrev pub HasSaid : Options → History → Said → List Link → Type 0
 HasSaid options h said links =
     ((a : LabelledCycle) × (said ≡ answer_said options (answer.Anomaly a)) × (links ≡ a.links))
-    ⊎ (((d : Decision) × (said ≡ decision_said options h d) × HasLinks d links)
-    ⊎ ((runs : List Run) × (said ≡ proved_said options h links runs)))
+    ⊎ ((least : Option (List Run))
+    × (said ≡ claimed options (answer.Anomaly (bare_cycle options.level h links)) (cycle_claim options.level h links least)))
 
 -- ---- a run
 
@@ -212,13 +180,11 @@ AllGoesOut options whole before after files files' text last code =
     × (code ≡ code_of last.status)
 
 -- behind what was written a write of the certificate failed: a part of it, from its front, went out, and then comes the line for
--- the device; or, of a version 3, memory was out, and the line for that comes
+-- the device
 abbrev pub CertificateStops : Options → Said → Option (List ℕ) → Option (List ℕ) → Contents → Contents → ℕ → Type 0
 CertificateStops options last before after file file' code =
-    ((text : List ℕ) × (last.certificate ≡ Some text) × ((n : ℕ) × Gains file file' (take n text) × (file ≢ None))
-    × Prints before after (device_line options.json) Device code)
-    ⊎ ((claim : LargeCertificate) × (last.certificate ≡ Some (large_certificate_text claim)) × (Gains file file' [] × (file ≢ None))
-    × Prints before after (memory_line options.json) Memory code)
+    (text : List ℕ) × (last.certificate ≡ Some text) × ((n : ℕ) × Gains file file' (take n text) × (file ≢ None))
+    × Prints before after (device_line options.json) Device code
 
 -- behind what was written a write of the slice failed, of which a part, from its front, went out; or memory was out before it
 abbrev pub SliceStops : Options → Sessions → Said → Option (List ℕ) → Option (List ℕ) → Contents → Contents → ℕ → Type 0

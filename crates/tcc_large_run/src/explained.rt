@@ -48,7 +48,7 @@ pub fn explain_large_snapshot<T: Threads + Sync, G: Watcher>(
 ) -> Result<Explained, NoMemory>
     ensures { IfOk result (IsExplained run.now.options.now snapshot.now) }
 {
-    let outcome = decide(run, snapshot)?;
+    let outcome = decide(run, snapshot, false)?;
     Ok(Explained {
         text: text_of(run.alloc, run.options, &outcome)?,
         status: outcome.status(run.options.required),

@@ -4,27 +4,26 @@ ghost use Rattle.std.specs.Prelude.{◌≡◌, ◌≢◌, ◌↔◌, ℕ, List, 
 ghost use Rattle.tcc_txn.specs.{Finished.KeepsLimits, Snapshots.Sessions, declared.limits.Limits.TheVariants.Small, declared.limits.Limits.TheVariants.Large};
 ghost use Rattle.tcc_rows.specs.{Answers.answers_within, BothLimits.KeepsSmall};
 ghost use Rattle.tcc_reads.specs.Faults.{read_faults};
-ghost use Rattle.tcc_graph.specs.Levels.{judged};
-ghost use Rattle.tcc_large.specs.{Decisions.IsDecision, declared.decision.Decision.Decision};
+ghost use Rattle.tcc_cert.specs.declared.large.LargeCertificate.{LargeCertificate};
 ghost use Rattle.tcc_print.specs.{Statuses.code_of, declared.options.Options.Options, declared.status.Status.TheVariants.Device, declared.status.Status.TheVariants.Memory};
-ghost use Rattle.tcc_print.specs.Courses.{Contents, IsEndedCourse, IsWholeCourse, Said};
+ghost use Rattle.tcc_print.specs.Courses.{Contents, IsEndedCourse, IsWholeCourse, Said, texts};
 ghost use Rattle.tcc_large_run.specs.{LargeClosing.IsAcceptedWith, LargeClosing.PrintsDecided, private.Laws.Laws};
-ghost use Rattle.tcc_large_run.specs.LargeRuns.{Files, IsAcceptedOf, IsLargeRun, IsSaidWithLarge, answers_of, decision_said, finished};
+ghost use Rattle.tcc_large_run.specs.LargeRuns.{Files, IsAcceptedOf, IsClaimedOf, IsLargeRun, IsSaidWithLarge, answers_of, finished};
 ghost use Rattle.tcc_run.specs.Runs.{AskAlike, IsExplainRun, IsSaidOfSnapshot};
 
 use tcc_cert::laws::large_text_is_read;
 use tcc_check::laws::certified;
+use tcc_explain::laws::one_answer;
 use tcc_graph::LargeGraph;
 use tcc_judge::laws::{kept, own_cycle, own_order, own_short};
 use tcc_large_check::laws::accepted;
 use tcc_rows::laws::finished_is_snapshot;
 use tcc_run::laws::one_run;
 
-/// Whatever a run says of a large history by what is decided of it, its certificate is the text of a claim that keeps all rules: so the
-/// verdict on it is `Accepted`, and no other.
+/// Whatever a run says of a large history, its certificate is the text of a claim that keeps all rules: so the verdict on it is
+/// `Accepted`, and no other.
 pub fn own_certificate(graph: &LargeGraph)
-    ensures { (options : Options) (d : Decision) → IsDecision (judged graph.now options.level) d
-        → IsAcceptedOf graph.now (decision_said options graph.now d) }
+    ensures { (options : Options) (claim : LargeCertificate) (said : Said) → IsClaimedOf options graph.now claim said → IsAcceptedOf graph.now said }
 {
     own_order(graph);
     own_cycle();
@@ -60,6 +59,18 @@ pub fn headline()
         → text ≢ [] → code ≢ code_of Device → IsAcceptedWith options records text }
 {
     checks();
+}
+
+/// What is said of a snapshot of any size is one text with one status, whatever the number of workers, the order in which they search and
+/// the memory that there is; so is all that runs say of the same bytes which no reader and no refused memory ends.
+pub fn one_text()
+    ensures snapshot { (options others : Options) (s : Sessions) (said again : Said) → AskAlike options others → IsSaidWithLarge options s said
+        → IsSaidWithLarge others s again → (said.text ≡ again.text) × (said.status ≡ again.status) }
+    ensures whole { (options others : Options) (records : List ℕ) (said again : List Said) → AskAlike options others
+        → IsWholeCourse (IsSaidWithLarge options) (answers_of records) said → IsWholeCourse (IsSaidWithLarge others) (answers_of records) again
+        → texts said ≡ texts again }
+{
+    one_answer();
 }
 
 /// Of a snapshot that keeps the small limits the same is said with `--large` as without it. So it is of records that keep them, as

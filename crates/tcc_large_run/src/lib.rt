@@ -9,7 +9,6 @@ pub mod laws;
 mod outcome;
 mod room;
 mod running;
-mod short;
 mod slice_records;
 mod watching;
 

@@ -1,35 +1,29 @@
-//! What is said of a snapshot: what is known of its history, or all its read faults.
-ghost use Rattle.std.specs.Prelude.{◌≡◌, ◌<◌, IfOk, option_map};
+//! What is said of a snapshot: its first answer, or all its read faults.
+ghost use Rattle.std.specs.Prelude.{◌≡◌, ℕ, IfOk, option_map};
 ghost use Rattle.tcc_reads.specs.History.{History};
-ghost use Rattle.tcc_graph.specs.{Levels.judged, Links.cost};
-ghost use Rattle.tcc_cert.specs.LargeTexts.{HasLargeText};
-ghost use Rattle.tcc_graph.specs.Labels.{labels_of};
+ghost use Rattle.tcc_graph.specs.{Labels.labels_of, Levels.judged, Orders.IsFirstOrder, Ties.IsFirstCycle};
 ghost use Rattle.tcc_answer.specs.declared.answer.Answer.TheVariants as answer;
-ghost use Rattle.tcc_large.specs.Decisions.{IsDecision};
-ghost use Rattle.tcc_large.specs.declared.decision.Decision.TheVariants as decision;
 ghost use Rattle.tcc_print.specs.Saying.{IsTold};
-ghost use Rattle.tcc_large_run.specs.LargeRuns.{IsShort, bare_cycle, bare_order, claim_of};
-ghost use Rattle.tcc_large_run.specs.private.Stages.{IsFoundOf, IsOutcome, course, outcome_links, outcome_status};
+ghost use Rattle.tcc_large_run.specs.LargeRuns.{bare_cycle, bare_order};
+ghost use Rattle.tcc_large_run.specs.private.Stages.{IsFoundOf, course, outcome_links, outcome_status};
 
-use crate::room::check_room;
-use crate::short::short;
+use crate::claims::cycle_claim;
+use crate::room::has_order_room;
 use std::alloc::Global;
 use std::io::Write;
 use std::thread::Threads;
 use tcc_answer::{Anomaly, Answer, CappedRows, Commit, Labels};
-use tcc_cert::{LargeCertificate, Links, Numbers, Table};
-use tcc_explain::{ExplainFault, Gate};
+use tcc_answering::{Answered, answer_of};
+use tcc_cert::{LargeCertificate, Links, Numbers, Table, order_claim};
+use tcc_explain::Gate;
 use tcc_graph::{LargeGraph, Level, Link};
-use tcc_judge::laws::is_least;
-use tcc_large::{Decision, LargeAnswer, explain_large};
-use tcc_print::large::send_unproved;
+use tcc_order::laws::order_or_cycle;
 use tcc_print::printing::{send_answer, send_unresolved};
 use tcc_print::status::answer_status;
 use tcc_print::{Options, RunContext, Statement, Status};
-use tcc_proving::{proved_claim, steps_of, with_first};
-use tcc_reads::{ReadFault, ResolveFault};
-use tcc_run::first_answer;
-use tcc_txn::{LargeSnapshot, NoMemory, Snapshot};
+use tcc_proving::{First, steps_of};
+use tcc_reads::ReadFault;
+use tcc_txn::{LargeSnapshot, NoMemory};
 
 /// What is said of a snapshot.
 #[derive(Drop)]
@@ -38,23 +32,11 @@ pub(crate) enum Outcome {
     Unresolved(Vec<ReadFault>),
     /// Within the small limits: its first answer.
     Small(Answer),
-    /// Past them: its graph, and its first commit order, as an answer without clocks, or a least cycle, as one without distances.
+    /// Past them: its graph, its first answer, without the tables of a small one, and what its certificate claims.
     Large {
         graph: LargeGraph,
         answer: Answer,
-    },
-    /// Past them: its graph, a least cycle of more than four steps, as an answer without distances, and the claim that it is one, which
-    /// the judge accepts.
-    Proved {
-        graph: LargeGraph,
-        answer: Answer,
         claim: LargeCertificate,
-    },
-    /// Past them: its graph, and a cycle that isn't known to be a least one, with the names of the transactions.
-    Cycle {
-        graph: LargeGraph,
-        labels: Labels,
-        links: Vec<Link>,
     },
 }
 
@@ -73,7 +55,7 @@ fn order_answer(
     Answer::Commit(Commit::new(level, Numbers::new(order), sessions, clocks, labels))
 }
 
-/// A least cycle of a large history as an answer without distances.
+/// A cycle of a large history as an answer without distances.
 fn cycle_answer(
     alloc: Global,
     level: Level,
@@ -93,116 +75,74 @@ fn cycle_answer(
     )))
 }
 
-/// What is answered, with the first of the least cycles where the judge knows it by the order, and a least one of more than four steps
-/// as a cycle of which no more is known.
-fn settled(
-    alloc: Global,
-    level: Level,
-    answer: LargeAnswer,
-    order: &Option<Vec<u32>>,
-) -> Result<LargeAnswer, NoMemory>
-    requires { IsDecision (judged answer.graph level) answer.decision }
-    ensures { IfOk result (λ found. (found.graph ≡ answer.graph) × IsDecision (judged answer.graph level) found.decision × IsShort found.decision) }
-{
-    let LargeAnswer { graph, decision } = answer;
-    let found = with_first(alloc, &graph, level, decision, order)?;
-    let decision = short(found)?;
-    Ok(LargeAnswer { graph, decision })
-}
-
 impl Outcome {
-    /// What is said of a small snapshot.
-    fn of_small<T: Threads + Sync, G: Gate>(
-        run: &RunContext<T, G>,
-        snapshot: &Snapshot,
+    /// What is said of a history by its first commit order.
+    fn of_order(
+        alloc: Global,
+        level: Level,
+        graph: LargeGraph,
+        order: Vec<u32>,
     ) -> Result<Outcome, NoMemory>
-        ensures { IfOk result (IsOutcome run.now.options.now.level snapshot.now) }
+        ensures { IsFirstOrder (judged graph level) order.items → IfOk result (IsFoundOf level graph) }
     {
-        match first_answer(run, snapshot, run.options.level) {
-            Ok(answer) => Ok(Outcome::Small(answer)),
-            Err(ExplainFault::Reads(faults)) => Ok(Outcome::Unresolved(faults)),
-            Err(ExplainFault::NoMemory) => Err(NoMemory),
-        }
+        // Where there is an order there is no cycle, and the claim of it has a text, as these calls say.
+        order_or_cycle();
+        has_order_room(&graph);
+        let claim = LargeCertificate::Order(order_claim(alloc, &graph, level, &order)?);
+        let labels = Labels::of_large(alloc, &graph)?;
+        let answer = order_answer(alloc, &graph, level, order, labels);
+        Ok(Outcome::Large {
+            graph,
+            answer,
+            claim,
+        })
     }
 
-    /// What is said of a cycle of more than four steps, of which no more is decided: that it is a least one, where the judge takes it for
-    /// one by the order.
+    /// What is said of a history by the first of its least cycles. What the cycle claims may be judged by an order.
     fn of_cycle(
         alloc: Global,
         level: Level,
         graph: LargeGraph,
-        labels: Labels,
         links: Vec<Link>,
-        order: Option<Vec<u32>>,
+        order: &Option<Vec<u32>>,
     ) -> Result<Outcome, NoMemory>
-        ensures { 4 < cost links.items → labels ≡ labels_of graph → HasLargeText (claim_of level graph (decision.Cycle links))
-            → IfOk result (IsFoundOf level graph (decision.Cycle links)) }
+        ensures { (s : ℕ) → IsFirstCycle (judged graph level) s links.items → IfOk result (IsFoundOf level graph) }
     {
-        // What the judge accepts is a least cycle, as this law says.
-        is_least();
-        if let Some(order) = order {
-            if let Some(claim) = proved_claim(alloc, &graph, level, &links, &order)? {
-                let answer = cycle_answer(alloc, level, links, labels)?;
-                return Ok(Outcome::Proved {
-                    graph,
-                    answer,
-                    claim: LargeCertificate::Cycle(claim),
-                });
-            }
-        }
-        Ok(Outcome::Cycle {
+        let claim = LargeCertificate::Cycle(cycle_claim(alloc, &graph, level, &links, order)?);
+        let labels = Labels::of_large(alloc, &graph)?;
+        let answer = cycle_answer(alloc, level, links, labels)?;
+        Ok(Outcome::Large {
             graph,
-            labels,
-            links,
+            answer,
+            claim,
         })
     }
 
-    /// What is said of a history by what is decided of it, and by an order that may come with a cycle.
-    fn of_decision(
-        alloc: Global,
-        level: Level,
-        answer: LargeAnswer,
-        order: Option<Vec<u32>>,
-    ) -> Result<Outcome, NoMemory>
-        ensures { IsDecision (judged answer.graph level) answer.decision → IsShort answer.decision
-            → IfOk result (IsFoundOf level answer.graph answer.decision) }
-    {
-        let LargeAnswer { graph, decision } = answer;
-        check_room(&graph, &decision)?;
-        let labels = Labels::of_large(alloc, &graph)?;
-        match decision {
-            Decision::Order(order) => {
-                let answer = order_answer(alloc, &graph, level, order, labels);
-                Ok(Outcome::Large { graph, answer })
-            }
-            Decision::Least(links) => {
-                let answer = cycle_answer(alloc, level, links, labels)?;
-                Ok(Outcome::Large { graph, answer })
-            }
-            Decision::Cycle(links) => {
-                Outcome::of_cycle(alloc, level, graph, labels, links, order)
-            }
-        }
-    }
-
-    /// What is to be said of a snapshot; a small one is searched by so many workers.
+    /// What is to be said of a snapshot; a small one is searched by so many workers. Where its certificate isn't wanted, the judge isn't
+    /// asked whether a cycle of more than four steps is a least one.
     pub(crate) fn of<T: Threads + Sync, G: Gate>(
         run: &RunContext<T, G>,
         snapshot: &LargeSnapshot,
+        is_certified: bool,
     ) -> Result<Outcome, NoMemory>
         ensures { IfOk result (IsTold (course run.now.options.now) snapshot.now) }
     {
-        if let Some(small) = snapshot.small_copy(run.alloc)? {
-            return Outcome::of_small(run, &small);
-        }
-        let level = run.options.level;
-        match explain_large(run.alloc, snapshot, level) {
-            Ok((answer, order)) => {
-                let answer = settled(run.alloc, level, answer, &order)?;
-                Outcome::of_decision(run.alloc, level, answer, order)
-            }
-            Err(ResolveFault::Reads(faults)) => Ok(Outcome::Unresolved(faults)),
-            Err(ResolveFault::NoMemory) => Err(NoMemory),
+        let (alloc, level) = (run.alloc, run.options.level);
+        let answered = answer_of(run, snapshot, level)?;
+        match answered {
+            Answered::Unresolved(faults) => Ok(Outcome::Unresolved(faults)),
+            Answered::Small(answer) => Ok(Outcome::Small(answer)),
+            Answered::Large {
+                graph,
+                first,
+                order,
+            } => match first {
+                First::Order(order) => Outcome::of_order(alloc, level, graph, order),
+                First::Cycle(links) => {
+                    let judged_by = if is_certified { order } else { None };
+                    Outcome::of_cycle(alloc, level, graph, links, &judged_by)
+                }
+            },
         }
     }
 
@@ -212,11 +152,9 @@ impl Outcome {
     {
         match self {
             Outcome::Unresolved(_) => Status::ReadFaults,
-            Outcome::Small(answer) => answer_status(answer, required),
-            Outcome::Large { answer, .. } | Outcome::Proved { answer, .. } => {
+            Outcome::Small(answer) | Outcome::Large { answer, .. } => {
                 answer_status(answer, required)
             }
-            Outcome::Cycle { .. } => Status::Anomaly,
         }
     }
 
@@ -225,16 +163,11 @@ impl Outcome {
         ensures { option_map (λ links. links.now) result ≡ outcome_links self.now }
     {
         match self {
-            Outcome::Small(Answer::Anomaly(anomaly)) => Some(anomaly.links()),
-            Outcome::Large {
-                answer: Answer::Anomaly(anomaly),
-                ..
-            }
-            | Outcome::Proved {
+            Outcome::Small(Answer::Anomaly(anomaly))
+            | Outcome::Large {
                 answer: Answer::Anomaly(anomaly),
                 ..
             } => Some(anomaly.links()),
-            Outcome::Cycle { links, .. } => Some(links),
             _ => None,
         }
     }
@@ -242,13 +175,12 @@ impl Outcome {
     /// The answer, where it is one.
     pub(crate) fn into_answer(self) -> Option<Answer> {
         match self {
+            Outcome::Unresolved(_) => None,
             Outcome::Small(answer) => Some(answer),
-            Outcome::Large { graph, answer } => {
+            Outcome::Large { graph, answer, .. } => {
                 drop(graph);
                 Some(answer)
             }
-            Outcome::Proved { answer, .. } => Some(answer),
-            _ => None,
         }
     }
 }
@@ -263,11 +195,9 @@ impl Statement for Outcome {
         let json = options.json;
         match self {
             Outcome::Unresolved(faults) => send_unresolved(alloc, faults, json, out),
-            Outcome::Small(answer) => send_answer(alloc, answer, json, out),
-            Outcome::Large { answer, .. } | Outcome::Proved { answer, .. } => {
+            Outcome::Small(answer) | Outcome::Large { answer, .. } => {
                 send_answer(alloc, answer, json, out)
             }
-            Outcome::Cycle { labels, links, .. } => send_unproved(alloc, labels, links, json, out),
         }
     }
 

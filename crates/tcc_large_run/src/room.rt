@@ -1,15 +1,14 @@
 //! Whether version 3 of the text has room for what is claimed: its numbers, its counts and its costs have ranges.
-ghost use Rattle.std.specs.Prelude.{All, IfOk, IsTrue, length};
-ghost use Rattle.tcc_graph.specs.{Levels.judged, declared.level.Level.Level};
-ghost use Rattle.tcc_cert.specs.{LargeTexts.HasLargeText, declared.ranges.Scale.TheVariants.Large};
+ghost use Rattle.std.specs.Prelude.{All, IfOk, IsTrue, List, Option, length, ℕ};
+ghost use Rattle.tcc_graph.specs.{Levels.judged, Orders.IsCommitOrder, declared.level.Level.Level};
+ghost use Rattle.tcc_cert.specs.{RunsTold.order_claim_of, declared.large.Run.Run, declared.ranges.Scale.TheVariants.Large};
+ghost use Rattle.tcc_cert.specs.LargeTexts.{HasLeastText, HasLinksClaimText, HasRunsClaimText};
 ghost use Rattle.tcc_cert.specs.Texts.{HasLinkText, HasStepText, IsCount};
-ghost use Rattle.tcc_large.specs.Decisions.{IsDecision};
-ghost use Rattle.tcc_large_run.specs.LargeRuns.{claim_of};
+ghost use Rattle.tcc_judge.specs.Claims.{links_claim_of};
 
 use tcc_cert::laws::order_has_text;
 use tcc_cert::version_3::{V3_MAX_COUNT, V3_MAX_NUMBER};
 use tcc_graph::{LargeGraph, Link, Step};
-use tcc_large::Decision;
 use tcc_proving::steps_of;
 use tcc_txn::NoMemory;
 
@@ -65,21 +64,25 @@ fn have_links_text(links: &[Link]) -> bool
         && links.iter().all(|link| has_link_text(link))
 }
 
-/// What is claimed by what is decided has a text. There always is room for an order; links for which there is none are more than
-/// memory holds.
-pub(crate) fn check_room(graph: &LargeGraph, decision: &Decision) -> Result<(), NoMemory>
-    ensures { (level : Level) → IsDecision (judged graph.now level) decision.now → IfOk result (λ _. HasLargeText (claim_of level graph.now decision.now)) }
+/// The claim of a cycle has a text, where the runs beside it do: links for which there is none are more than memory holds.
+pub(crate) fn check_room(graph: &LargeGraph, links: &[Link]) -> Result<(), NoMemory>
+    ensures { (level : Level) (least : Option (List Run)) → HasLeastText least
+        → IfOk result (λ _. HasLinksClaimText (links_claim_of level graph.now links.now least)) }
 {
-    // How large a history is, and that an order of it has a text, as these calls say.
+    // How large a history is, as this call says.
     graph.count();
-    graph.sessions();
-    order_has_text();
-    let Some(links) = decision.links() else {
-        return Ok(());
-    };
     if !have_links_text(links) {
         return Err(NoMemory);
     }
     steps_of(links)?;
     Ok(())
+}
+
+/// The claim of an order has a text, as these calls say.
+pub(crate) fn has_order_room(graph: &LargeGraph)
+    ensures { (level : Level) (order : List ℕ) → IsCommitOrder (judged graph.now level) order → HasRunsClaimText (order_claim_of level graph.now order) }
+{
+    graph.count();
+    graph.sessions();
+    order_has_text();
 }

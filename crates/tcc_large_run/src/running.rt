@@ -23,15 +23,16 @@ use tcc_rows::{LargeRecording, Moment, RowFault, RowFaultKind};
 use tcc_txn::{LargeSnapshot, NoMemory};
 use tcc_verdict::stop;
 
-/// What is to be said of the snapshot; the watcher is told of it while it is decided.
+/// What is to be said of the snapshot, and whether its certificate may be wanted; the watcher is told of it while it is decided.
 pub(crate) fn decide<T: Threads + Sync, G: Watcher>(
     run: &RunContext<T, G>,
     snapshot: &LargeSnapshot,
+    is_certified: bool,
 ) -> Result<Outcome, NoMemory>
     ensures { IfOk result (IsTold (course run.now.options.now) snapshot.now) }
 {
     run.gate.begin(Stage::Deciding);
-    let decided = Outcome::of(run, snapshot);
+    let decided = Outcome::of(run, snapshot, is_certified);
     run.gate.end();
     decided
 }
@@ -43,6 +44,7 @@ fn say<T: Threads + Sync, W: Write, N: Write, G: Watcher>(
     moment: Moment,
     snapshot: &LargeSnapshot,
     last: Option<Last<Outcome>>,
+    is_certified: bool,
     out: &mut W,
     notes: &mut N,
 ) -> Result<Last<Outcome>, u8>
@@ -53,7 +55,8 @@ fn say<T: Threads + Sync, W: Write, N: Write, G: Watcher>(
         Err(earlier) => {
             // One answer is held at a time.
             drop(earlier);
-            say_anew(run, snapshot, decide(run, snapshot), out, notes)
+            let decided = decide(run, snapshot, is_certified);
+            say_anew(run, snapshot, decided, out, notes)
         }
     }
 }
@@ -84,6 +87,7 @@ fn read_on<R: Read + Drop, G: Watcher>(
 fn answer_all<R: Read + Drop, T: Threads + Sync, W: Write, N: Write, G: Watcher>(
     run: &RunContext<T, G>,
     recording: &mut LargeRecording<R>,
+    is_certified: bool,
     out: &mut W,
     notes: &mut N,
 ) -> Result<Last<Outcome>, u8>
@@ -98,7 +102,15 @@ fn answer_all<R: Read + Drop, T: Threads + Sync, W: Write, N: Write, G: Watcher>
     'moments: for _turn in 0..u64::MAX {
         match read_on(run.alloc, recording, run.gate) {
             Ok(moment) => {
-                let said = say(run, moment, recording.snapshot(), last, out, notes)?;
+                let said = say(
+                    run,
+                    moment,
+                    recording.snapshot(),
+                    last,
+                    is_certified,
+                    out,
+                    notes,
+                )?;
                 match moment {
                     Moment::Seal => last = Some(said),
                     Moment::End => return Ok(said),
@@ -179,7 +191,7 @@ fn write_files<T, W: Write, C: Write, S: Write, N: Write, G: Watcher>(
         (record { certificate = option_map C.contents certificate.old; slice = option_map S.contents slice.old })
         (record { certificate = option_map C.contents certificate.new; slice = option_map S.contents slice.new }) }
 {
-    write_certificate(run.alloc, run.options, outcome, certificate, out)?;
+    write_certificate(run.options, outcome, certificate, out)?;
     write_slice(run, snapshot, outcome, slice, out, notes)
 }
 
@@ -233,7 +245,7 @@ fn run_recording<
         (record { certificate = option_map C.contents certificate.old; slice = option_map S.contents slice.old })
         (record { certificate = option_map C.contents certificate.new; slice = option_map S.contents slice.new }) result }
 {
-    match answer_all(run, recording, out, notes) {
+    match answer_all(run, recording, certificate.is_some(), out, notes) {
         Ok(last) => conclude(
             run,
             recording.snapshot(),

@@ -89,8 +89,6 @@ pub(crate) fn slice_text(
 {
     match outcome {
         Outcome::Large { graph, .. } => text_of(alloc, snapshot, graph, level, links),
-        Outcome::Proved { graph, .. } => text_of(alloc, snapshot, graph, level, links),
-        Outcome::Cycle { graph, .. } => text_of(alloc, snapshot, graph, level, links),
         Outcome::Small(_) | Outcome::Unresolved(_) => text_anew(alloc, snapshot, level, links),
     }
 }

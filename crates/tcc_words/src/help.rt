@@ -31,9 +31,8 @@ A write is known by any chain of sessions and reads at the level causal, by one 
 What to mend, and why a file failed, is said on standard error.
 
 With '--large' a history has up to 16777215 transactions, 65535 sessions and 16777216 keys, in place of
-4095, 64 and 1024. Past those an anomaly of more than four steps needn't be a least one, which its first
-line says, and a certificate is one of version 3, for 'tcc check --large'. '--slice PATH' writes a small
-history that has an anomaly of this one.
+4095, 64 and 1024. Past those a certificate is one of version 3, for 'tcc check --large'. '--slice PATH'
+writes a small history that has an anomaly of this one.
 
 Example: a session writes x, and its next transaction reads the initial x.
   $ printf 'a,begin\\na,w,x,1\\na,commit\\na,begin\\na,r,x,0\\na,commit\\n' | tcc explain

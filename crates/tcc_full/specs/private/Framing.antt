@@ -64,10 +64,10 @@ order_after asked r status = object
 abbrev pub list_before : List ℕ → Data
 list_before word = object (member (codes "answer") (string word) no_members)
 
-abbrev pub cycle_after : Asked → Records → List Link → Bool → Data
-cycle_after asked r links least = object
+abbrev pub cycle_after : Asked → Records → List Link → Data
+cycle_after asked r links = object
     (member (codes "large") (boolean (is_large asked.limits))
-    (member (codes "least") (boolean least)
+    (member (codes "least") (boolean true)
     (member (codes "level") (string (level_word asked.level))
     (member (codes "limits") (limits_json asked.limits)
     (member (codes "sessions") (number (unsigned (length r.history.sessions)))

@@ -7,118 +7,86 @@ use Rattle.tcc_txn.specs.declared.limits.Limits.TheVariants.{Large}
 use Rattle.tcc_reads.specs.Faults.{read_faults}
 use Rattle.tcc_reads.specs.History.{History}
 use Rattle.tcc_reads.specs.Sources.{history}
-use Rattle.tcc_graph.specs.Links.{cost}
+use Rattle.tcc_graph.specs.Answers as first
+use Rattle.tcc_graph.specs.Levels.{judged}
 use Rattle.tcc_graph.specs.declared.level.Level.{Level}
 use Rattle.tcc_graph.specs.declared.link.Link.{Link}
-use Rattle.tcc_cert.specs.LargeTexts.{HasLargeText, large_certificate_text}
-use Rattle.tcc_cert.specs.RunsTold.{order_claim_of}
+use Rattle.tcc_cert.specs.LargeTexts.{HasLargeText, HasLinksClaimText, HaveRunsText, large_certificate_text}
 use Rattle.tcc_cert.specs.Texts.{certificate_text}
 use Rattle.tcc_cert.specs.declared.large.LargeCertificate.{LargeCertificate}
-use Rattle.tcc_cert.specs.declared.large.LargeCertificate.TheVariants as claims
+use Rattle.tcc_cert.specs.declared.large.LinksClaim.{LinksClaim}
 use Rattle.tcc_cert.specs.declared.large.Run.{Run}
 use Rattle.tcc_answer.specs.Claims.{certificate_of}
-use Rattle.tcc_graph.specs.Labels.{labels_of}
 use Rattle.tcc_answer.specs.declared.answer.Answer.{Answer}
 use Rattle.tcc_answer.specs.declared.answer.Answer.TheVariants as answer
-use Rattle.tcc_answer.specs.declared.fault.WriteFault.{WriteFault}
-use Rattle.tcc_answer.specs.declared.fault.WriteFault.TheVariants as write
+use Rattle.tcc_check.specs.Asked.{AllHold}
 use Rattle.tcc_explain.specs.Explained.{IsAnswerOfHistory}
-use Rattle.tcc_graph.specs.Levels.{judged}
 use Rattle.tcc_judge.specs.Claims.{links_claim_of}
-use Rattle.tcc_large.specs.Decisions.{IsDecision}
-use Rattle.tcc_large.specs.declared.decision.Decision.{Decision}
-use Rattle.tcc_large.specs.declared.decision.Decision.TheVariants as decision
+use Rattle.tcc_judge.specs.Verdicts.{cycle_rules}
 use Rattle.tcc_print.specs.Courses.{Contents, Gains, Said}
-use Rattle.tcc_print.specs.Large.{unproved}
 use Rattle.tcc_print.specs.Printed.{Prints, answered, device_line, memory_line, unresolved}
 use Rattle.tcc_print.specs.Statuses.{answer_status, code_of}
 use Rattle.tcc_print.specs.declared.options.Options.{Options}
 use Rattle.tcc_print.specs.declared.status.Status.{Status}
-use Rattle.tcc_print.specs.declared.status.Status.TheVariants.{Anomaly, Device, Memory, ReadFaults}
+use Rattle.tcc_print.specs.declared.status.Status.TheVariants.{Device, Memory, ReadFaults}
 use Rattle.tcc_print.specs.Saying.{Course}
-use Rattle.tcc_large_run.specs.LargeRuns.{CertificateStops, Files, HasNoSlice, IsCertified, IsProvedLeast, IsSaidWithLarge, IsShort, IsSliceText, IsSliced, SliceStops, Stops, bare_cycle, bare_order, claim_of, proved_claim, short_runs}
+use Rattle.tcc_large_run.specs.LargeRuns.{CertificateStops, Files, HasNoSlice, IsCertified, IsClaimOf, IsLeastClaimed, IsSaidWithLarge, IsSliceText, IsSliced, SliceStops, Stops, bare}
 use Rattle.tcc_large_run.specs.declared.outcome.Outcome.{Outcome}
 use Rattle.tcc_large_run.specs.declared.outcome.Outcome.TheVariants as outcome
 
 -- ---- one answer
 
--- what is said of a history by what is decided of it
-abbrev pub outcome_of : Level → History → Decision → Outcome
-outcome_of level h (decision.Order order) = outcome.Large h (answer.Commit (bare_order level h order.items))
-outcome_of level h (decision.Least links) = outcome.Large h (answer.Anomaly (bare_cycle level h links.items))
-outcome_of level h (decision.Cycle links) = outcome.Cycle h (labels_of h) links
+-- the answer and the claim are those of the first answer of a history, and version 3 of the text has room for the claim
+pub record IsFound (level : Level) (h : History) (a : Answer) (claim : LargeCertificate) : Type 0 where
+  pub answered : first.Answer
+  pub is : first.IsFirstAnswer (judged h level) answered
+  pub answer : a ≡ bare level h answered
+  pub claimed : IsClaimOf level h answered claim
+  pub room : HasLargeText claim
 
--- what is said of a history by what is decided of it, or by a claim that a cycle is a least one
-abbrev pub IsFoundOf : Level → History → Decision → Outcome → Type 0
-IsFoundOf level h d o =
-    ((o ≡ outcome_of level h d) × IsShort d × HasLargeText (claim_of level h d))
-    ⊎ ((links : List Link) × (runs : List Run) × IsProvedLeast level h links runs × HasLargeText (proved_claim level h links runs)
-    × (o ≡ outcome.Proved h (answer.Anomaly (bare_cycle level h links)) (proved_claim level h links runs)))
+-- the outcome is what is said of a history past the small limits
+abbrev pub IsFoundOf : Level → History → Outcome → Type 0
+IsFoundOf level h o = (a : Answer) × (claim : LargeCertificate) × (o ≡ outcome.Large h a claim) × IsFound level h a claim
 
--- it is what is decided of the history of a snapshot past the small limits
-pub record IsDecided (level : Level) (s : Sessions) (h : History) (o : Outcome) : Type 0 where
-  pub resolved : read_faults s ≡ []
-  pub past : KeepsLimits s → ⊥
-  pub own : h ≡ history s
-  pub decided : Decision
-  pub is : IsDecision (judged (history s) level) decided
-  pub short : IsShort decided
-  pub room : HasLargeText (claim_of level (history s) decided)
-  pub outcome : o ≡ outcome_of level h decided
+-- the claim of a cycle of more than four steps: with runs by which it keeps all rules, and for whose text there is room, or with none
+abbrev pub IsLongClaim : Level → History → List Link → LinksClaim → Type 0
+IsLongClaim level h links claim =
+    (claim ≡ links_claim_of level h links None)
+    ⊎ ((runs : List Run) × (claim ≡ links_claim_of level h links (Some runs)) × HaveRunsText runs × AllHold (cycle_rules h claim))
 
--- it is a least cycle of more than four steps of the history of a snapshot past the small limits, which the judge takes for one
-pub record IsProved (level : Level) (s : Sessions) (h : History) (o : Outcome) : Type 0 where
-  pub resolved : read_faults s ≡ []
-  pub past : KeepsLimits s → ⊥
-  pub own : h ≡ history s
-  pub links : List Link
-  pub runs : List Run
-  pub is : IsProvedLeast level (history s) links runs
-  pub room : HasLargeText (proved_claim level (history s) links runs)
-  pub outcome : o ≡ outcome.Proved h (answer.Anomaly (bare_cycle level h links)) (proved_claim level h links runs)
+-- the claim of a first cycle, for whose text there is room
+abbrev pub IsCycleClaim : Level → History → List Link → LinksClaim → Type 0
+IsCycleClaim level h links claim =
+    ((least : Option (List Run)) × IsLeastClaimed level h links least × (claim ≡ links_claim_of level h links least)) × HasLinksClaimText claim
 
 -- what is to be said of a snapshot at a level
 abbrev pub IsOutcome : Level → Sessions → Outcome → Type 0
 IsOutcome level s (outcome.Unresolved faults) = (read_faults s ≢ []) × (faults.items ≡ read_faults s)
 IsOutcome level s (outcome.Small a) = (read_faults s ≡ []) × KeepsLimits s × IsAnswerOfHistory (judged (history s) level) a
-IsOutcome level s (outcome.Large h a) = IsDecided level s h (outcome.Large h a)
-IsOutcome level s (outcome.Proved h a claim) = IsProved level s h (outcome.Proved h a claim)
-IsOutcome level s (outcome.Cycle h labels links) = IsDecided level s h (outcome.Cycle h labels links)
+IsOutcome level s (outcome.Large h a claim) = (read_faults s ≡ []) × (KeepsLimits s → ⊥) × (h ≡ history s) × IsFound level h a claim
 
 -- how it goes out, and how a run ends whose last answer it is
 abbrev pub outcome_text : Bool → Outcome → List ℕ
 outcome_text json (outcome.Unresolved faults) = unresolved json faults.items
 outcome_text json (outcome.Small a) = answered json a
-outcome_text json (outcome.Large h a) = answered json a
-outcome_text json (outcome.Proved h a claim) = answered json a
-outcome_text json (outcome.Cycle h labels links) = unproved json labels links.items
+outcome_text json (outcome.Large h a claim) = answered json a
 
 abbrev pub outcome_status : ℕ → Outcome → Status
 outcome_status required (outcome.Unresolved faults) = ReadFaults
 outcome_status required (outcome.Small a) = answer_status required a
-outcome_status required (outcome.Large h a) = answer_status required a
-outcome_status required (outcome.Proved h a claim) = answer_status required a
-outcome_status required (outcome.Cycle h labels links) = Anomaly
-
--- what an answer past the small limits claims
-abbrev pub answer_claim : Level → History → Answer → LargeCertificate
-answer_claim level h (answer.Commit c) = claims.Order (order_claim_of level h c.order)
-answer_claim level h (answer.Anomaly a) = claims.Cycle (links_claim_of level h a.links (short_runs (cost a.links)))
+outcome_status required (outcome.Large h a claim) = answer_status required a
 
 -- the text of its certificate, where it is an answer
-abbrev pub outcome_certificate : Level → Outcome → Option (List ℕ)
-outcome_certificate level (outcome.Unresolved faults) = None
-outcome_certificate level (outcome.Small a) = Some (certificate_text (certificate_of a))
-outcome_certificate level (outcome.Large h a) = Some (large_certificate_text (answer_claim level h a))
-outcome_certificate level (outcome.Proved h a claim) = Some (large_certificate_text claim)
-outcome_certificate level (outcome.Cycle h labels links) =
-    Some (large_certificate_text (claims.Cycle (links_claim_of level h links.items None)))
+abbrev pub outcome_certificate : Outcome → Option (List ℕ)
+outcome_certificate (outcome.Unresolved faults) = None
+outcome_certificate (outcome.Small a) = Some (certificate_text (certificate_of a))
+outcome_certificate (outcome.Large h a claim) = Some (large_certificate_text claim)
 
 abbrev pub outcome_said : Options → Outcome → Said
 outcome_said options o = record {
   text = outcome_text options.json o;
   status = outcome_status options.required o;
-  certificate = outcome_certificate options.level o;
+  certificate = outcome_certificate o;
 }
 
 -- the links of its cycle, where it has one
@@ -129,9 +97,7 @@ answer_links (answer.Anomaly a) = Some a.links
 abbrev pub outcome_links : Outcome → Option (List Link)
 outcome_links (outcome.Unresolved faults) = None
 outcome_links (outcome.Small a) = answer_links a
-outcome_links (outcome.Large h a) = answer_links a
-outcome_links (outcome.Proved h a claim) = answer_links a
-outcome_links (outcome.Cycle h labels links) = Some links.items
+outcome_links (outcome.Large h a claim) = answer_links a
 
 -- the course of a run
 abbrev pub course : Options → Course Outcome
@@ -140,14 +106,11 @@ course options =
 
 -- ---- the certificate
 
--- the certificate, if there is one, went into the file; or a device failed, and a part of it did, from its front; or, of a version 3,
--- memory was out
-abbrev pub SendsCertificate : {A : Type 0} → Option (List ℕ) → Result A WriteFault → Option (List ℕ) → Option (List ℕ) → Type 0
+-- the certificate, if there is one, went into the file; or a write failed, and a part of it did, from its front
+abbrev pub SendsCertificate : {A E : Type 0} → Option (List ℕ) → Result A E → Option (List ℕ) → Option (List ℕ) → Type 0
 SendsCertificate certificate (Ok done) file file' = Appends file file' (unwrap_or certificate [])
-SendsCertificate certificate (Err write.Device) file file' =
+SendsCertificate certificate (Err fault) file file' =
     (text : List ℕ) × (certificate ≡ Some text) × ((n : ℕ) × Appends file file' (take n text))
-SendsCertificate certificate (Err write.NoMemory) file file' =
-    (claim : LargeCertificate) × (certificate ≡ Some (large_certificate_text claim)) × Appends file file' []
 
 -- the certificate of what was said went into the file that may be given for it; or the run stopped there, which is said
 abbrev pub WritesCertificate : {A : Type 0} → Options → Said → Result A ℕ → Option (List ℕ) → Option (List ℕ) → Contents → Contents → Type 0

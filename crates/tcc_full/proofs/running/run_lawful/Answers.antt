@@ -14,11 +14,11 @@ pub returns-in_ok-recording-in-Small : goal.returns-in_ok-recording-in-Small
 returns-in_ok-recording-in-Small g c =
     c.say.ensures
     (recorded _ _ _ c.in_ok-recording-in-Small.recording.snapshot _ c.in-Small.is c.snapshot-snapshot.ensures.value c.in_ok-recording-in-Small.ensures.recorded)
-    (c.found_small-found.ensures _ _ c.first_answer.ensures.limits c.first_answer.ensures.answer)
+    c.small_answer-found.ensures
 
 pub returns-in_ok-recording-in-Large : goal.returns-in_ok-recording-in-Large
 returns-in_ok-recording-in-Large g c =
     c.say-in-Large.ensures
     (recorded _ _ _ c.in_ok-recording-in-Large.recording.snapshot _ c.in-Large.is c.snapshot-snapshot-in-Large.ensures.value
     c.in_ok-recording-in-Large.ensures.recorded)
-    c.find_large-found.ensures
+    c.answer_of-found.ensures

@@ -14,4 +14,4 @@ pub returns-in-Err : goal.returns-in-Err
 returns-in-Err g c =
     says_at (course c.args.run.now.options.now) c.args.moment c.args.snapshot.now c.args.last _ _ c.say_anew.result
     (subst (λ n. IfSome c.args.last (λ last. last.transactions ≢ n)) c.transactions.ensures.value c.in-Err.ensures.1)
-    (c.say_anew.ensures.said c.decide.ensures)
+    (c.say_anew.ensures.said c.decide-decided.ensures)

@@ -12,14 +12,4 @@ use Rattle.tcc_large_run.proofs.slice_records.slice_text.Goals as goal
 pub returns-in-Large : goal.returns-in-Large
 returns-in-Large c = λ is has.
     let w = links_cycle c.args.level c.args.snapshot.now c.args.outcome.now c.args.links.now is has in
-    c.text_of.ensures (subst (λ (o : Outcome). IsOutcome c.args.level c.args.snapshot.now o) c.in-Large.is is).own w.0 w.1
-
-pub returns-in-Proved : goal.returns-in-Proved
-returns-in-Proved c = λ is has.
-    let w = links_cycle c.args.level c.args.snapshot.now c.args.outcome.now c.args.links.now is has in
-    c.text_of-in-Proved.ensures (subst (λ (o : Outcome). IsOutcome c.args.level c.args.snapshot.now o) c.in-Proved.is is).own w.0 w.1
-
-pub returns-in-Cycle : goal.returns-in-Cycle
-returns-in-Cycle c = λ is has.
-    let w = links_cycle c.args.level c.args.snapshot.now c.args.outcome.now c.args.links.now is has in
-    c.text_of-in-Cycle.ensures (subst (λ (o : Outcome). IsOutcome c.args.level c.args.snapshot.now o) c.in-Cycle.is is).own w.0 w.1
+    c.text_of.ensures (subst (λ (o : Outcome). IsOutcome c.args.level c.args.snapshot.now o) c.in-Large.is is).2 w.0 w.1
