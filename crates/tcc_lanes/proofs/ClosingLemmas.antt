@@ -338,3 +338,11 @@ module _ (h : History) (level : Level) (positions : List ℕ) (most : ℕ) (sour
 
                 cell_is : IsCellOf positions most starts targets table v i b a (get_or table (cell v i) 0)
                 cell_is = record { from = from_is; to = to_is; is = refl; short = omega (arith, cheap, is.short); back = is.back }
+
+-- a column in which no lane has a price
+pub column_blank : (positions : List ℕ) (most : ℕ) (starts members table prices lasts : List ℕ) (v : ℕ) → most ≤ NONE
+    → ((i : ℕ) → i < length starts → get_or table (cell v i) 0 ≡ NONE)
+    → AreOffered (IsInColumn positions most starts members table v (length starts)) (λ u. get_or positions u 0) prices lasts prices lasts
+column_blank positions most starts members table prices lasts v low blank =
+    offered_none (IsInColumn positions most starts members table v (length starts)) (λ u. get_or positions u 0) prices lasts
+    (λ b a price (i, m, is). omega (arith, is.is, is.short, blank i m, low))

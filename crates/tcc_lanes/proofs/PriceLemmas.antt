@@ -17,7 +17,7 @@ use Rattle.tcc_lanes.specs.declared.words.TheConstants.{LANES}
 use Rattle.tcc_lanes.specs.private.Marks.{IsAt, AreMarksOf, AreWriterMarks}
 use Rattle.tcc_lanes.specs.private.Walking.{IsWalkedOn}
 use Rattle.tcc_lanes.specs.private.Walks.{AreWalked}
-use Rattle.tcc_lanes.specs.private.Pricing.{AreColumns, ArePrices, IsLowered, IsMetIn, cell}
+use Rattle.tcc_lanes.specs.private.Pricing.{AreColumns, AreMarked, ArePrices, IsLowered, IsMetIn, cell}
 use Rattle.tcc_lanes.proofs.Walked.{none_walked, still_walked, walked_more}
 use Rattle.tcc_lanes.proofs.WordLemmas.{zeros_nowhere}
 
@@ -36,6 +36,7 @@ pub record IsPricing (h : History) (level : Level) (members : List ℕ) (starts 
   pub columns : length found ≡ length members
   pub each : (v i : ℕ) → v < length members → i < LANES → IsAt found v i ↔ IsFound (judged h level) members starts n v i
   pub prices : ArePrices (judged h level) members starts n table
+  pub marked : AreMarked members starts found table
 
 module _ (h : History) (level : Level) (members starts begun : List ℕ) (lanes : length starts ≤ LANES) where
   abbrev j : Judged
@@ -54,6 +55,10 @@ module _ (h : History) (level : Level) (members starts begun : List ℕ) (lanes 
       high = λ v i l m. omega (arith, all_none v i l m);
       sound = λ v i l m low. absurd (omega (arith, all_none v i l m, low));
       all = λ v i l m x c walk reason short. absurd (omega (arith, short, reason.1.0.0));
+    };
+    marked = record {
+      long = length-replicate {A = ℕ} (length members) 0;
+      blank = λ v i l m none. all_none v i l m;
     };
   }
     where
@@ -151,10 +156,21 @@ module _ (h : History) (level : Level) (members starts begun : List ℕ) (lanes 
       columns = same ∙ w.columns;
       each = found_now;
       prices = prices_more price is few met table new found_now w.prices alike lowered;
+      marked = record {
+        long = same ∙ w.columns;
+        blank = λ v i l m none. blank v i l m none (lowered v i l (omega (arith, m, lanes))).either;
+      };
     }
       where
         walked : AreWalked j begun (n + 1) after
         walked = walked_more h begun reached after n level w.walked each
+
+        blank : (v i : ℕ) → v < length members → i < length starts → (IsAt met v i → ⊥)
+            → (get_or new (cell v i) 0 ≡ get_or table (cell v i) 0)
+            ⊎ (((i < length starts) × IsAt met v i × (get_or starts i 0 ≢ get_or members v 0)) × (get_or new (cell v i) 0 ≡ price)) → get_or new (cell v i) 0 ≡ NONE
+        blank v i l m none (inl stays) =
+            stays ∙ w.marked.blank v i l m (λ at. none ((grown v i (omega (arith, l, w.columns)) (omega (arith, m, lanes))).1 (inl at)))
+        blank v i l m none (inr ((_, at, _), now)) = absurd (none at)
 
         found_now : (v i : ℕ) → v < length members → i < LANES → IsAt met v i ↔ IsFound j members starts (n + 1) v i
         found_now = found_more after found met walked w.each (λ v i l m. grown v i (omega (arith, l, w.columns)) m)

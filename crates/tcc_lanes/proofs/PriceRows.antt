@@ -1,19 +1,22 @@
 -- Rows of prices.
-use Rattle.std.proofs.Common.{◌≡◌, ◌≢◌, ◌<◌, ◌≤◌, ◌+◌, ◌-◌, ◌⊎◌, inl, inr, ℕ, Bool, true, false, if◌then◌else◌, List, [], ◌∷◌, ◌++◌, length, get_or, refl, sym, ap, subst, ◌∙◌, arith}
+use Rattle.std.proofs.Common.{◌≡◌, ◌≢◌, ◌<◌, ◌≤◌, ◌+◌, ◌-◌, ◌↔◌, ◌⊎◌, inl, inr, ℕ, Bool, true, false, if◌then◌else◌, List, [], ◌∷◌, ◌++◌, length, get_or, refl, sym, ap, subst, ◌∙◌, arith}
 use Rattle.std.proofs.lemmas.Bool.{cases_Bool, cases_eq, cases_lt, false≢true}
 use Rattle.std.proofs.lemmas.List.{get_or_append_left, get_or_push, length_push}
-use Rattle.tcc_reads.specs.History.{History}
+use Rattle.std.specs.List.{All}
+use Rattle.tcc_reads.specs.History.{History, count}
 use Rattle.tcc_graph.specs.Levels.{Judged, IsAllowed, judged}
 use Rattle.tcc_graph.specs.Links.{IsLink, IsReason, link_cost, link_from, link_to}
-use Rattle.tcc_graph.specs.Relations.{causal_pair}
+use Rattle.tcc_graph.specs.Relations.{IsCausalPair, causal_pair}
 use Rattle.tcc_graph.specs.declared.level.Level.{Level}
 use Rattle.tcc_graph.specs.declared.link.Link.{Link}
 use Rattle.tcc_graph.specs.declared.link.Link.TheVariants as link
 use Rattle.tcc_graph.specs.declared.step.Step.{Step}
 use Rattle.tcc_graph.proofs.Linking.{derived_cost, pair_link, some_cost}
-use Rattle.tcc_graph.proofs.Pairs.{pair_kinds, pair_from_kinds}
+use Rattle.tcc_graph.proofs.Pairs.{pair_below, pair_kinds, pair_from_kinds}
 use Rattle.tcc_lanes.specs.declared.pricing.TheConstants.{NONE}
+use Rattle.tcc_lanes.specs.declared.words.TheConstants.{LANES}
 use Rattle.tcc_lanes.specs.private.Pricing.{ArePriceRows, ArePrices, AreRowsOn, IsPriceRow, IsRowOf, cell}
+use Rattle.tcc_lanes.specs.private.Marks.{AreMarksOf, IsLedTo}
 use Rattle.tcc_lanes.specs.private.Tiles.{IsTile}
 
 module _ (h : History) (level : Level) (members starts table : List ℕ) (longest most : ℕ) (prices : ArePrices (judged h level) members starts longest table)
@@ -133,3 +136,26 @@ module _ (h : History) (members table starts : List ℕ) (old : List (List ℕ))
           let less : i < n = omega (arith, l, other) in
           subst (λ (r : List ℕ). IsRowOf h members table i (get_or starts i 0) r) (sym (get_or_append_left mid (row ∷ []) [] (length old + i) (omega (arith, less, w.long))))
           (w.each i less)
+
+-- ---- a price more
+pub one_price_more : (price : ℕ → ℕ) (row : List ℕ) (k new : ℕ) → length row ≡ k → ((v : ℕ) → v < k → get_or row v 0 ≡ price v) → new ≡ price k
+    → (v : ℕ) → v < k + 1 → get_or (row ++ new ∷ []) v 0 ≡ price v
+one_price_more price row k new long w is v l = go (cases_eq v k)
+  where
+    go : (v ≡ k) ⊎ (v ≢ k) → get_or (row ++ new ∷ []) v 0 ≡ price v
+    go (inl same) = get_or_push row new 0 v (long ∙ sym same) ∙ (is ∙ ap price (sym same))
+    go (inr other) = get_or_append_left row (new ∷ []) 0 v (omega (arith, l, other, long)) ∙ w v (omega (arith, l, other))
+
+-- ---- pairs from some starts
+pub pairs_told : (h : History) (starts begun : List ℕ) → All (λ u. u < count h) starts → length starts ≤ LANES → AreMarksOf (count h) starts (length starts) begun
+    → (v i : ℕ) → i < length starts → IsLedTo h begun v i ↔ (causal_pair h (get_or starts i 0) v ≡ true)
+pairs_told h starts begun inside lanes marks v i m = (
+  (λ (u, pair, at).
+      pair_from_kinds h (get_or starts i 0) v
+      (subst (λ (z : ℕ). IsCausalPair h z v) (sym ((marks.each u i (pair_below h u v pair).0 (omega (arith, m, lanes))).0 at).1) pair)),
+  (λ is. (
+    get_or starts i 0,
+    pair_kinds h (get_or starts i 0) v is,
+    (marks.each (get_or starts i 0) i (inside i 0 m) (omega (arith, m, lanes))).1 (m, refl),
+  )),
+)

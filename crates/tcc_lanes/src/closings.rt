@@ -1,16 +1,16 @@
 //! The derived links that lead back in an order: where they begin and at what price, and how far back they lead. They are found from
 //! 64 sources at a time (`pricing`). For S sources, T targets, N transactions and R reads that takes S / 64 times so many sweeps of
-//! N + R as longer walks lead to anything new, and S * T steps.
-ghost use Rattle.std.specs.Prelude.{◌≡◌, ◌≤◌, ◌<◌, ◌+◌, ◌*◌, ◌↔◌, min, max, length, set, slice_index, replicate, All, AllPairs, IfOk, IsTrue};
+//! N + R as longer walks lead to anything new, and S * T steps at most.
+ghost use Rattle.std.specs.Prelude.{◌≡◌, ◌≤◌, ◌<◌, ◌+◌, ◌*◌, ◌↔◌, ℕ, min, max, length, set, slice_index, replicate, All, AllPairs, IfOk, IsTrue};
 ghost use Rattle.tcc_reads.specs.History.{count};
 ghost use Rattle.tcc_graph.specs.Levels.{judged};
 ghost use Rattle.tcc_lanes.specs.{declared.pricing.TheConstants.NONE, declared.words.TheConstants.LANES};
-ghost use Rattle.tcc_lanes.specs.private.Pricing.{cell};
+ghost use Rattle.tcc_lanes.specs.private.{Marks.HasLane, Pricing.AreMarked, Pricing.cell};
 ghost use Rattle.tcc_lanes.specs.private.Closings.{AreOffered, IsFromFirst, IsInColumn, IsInColumns};
 
 use crate::meeting::columns_of;
 use crate::price_rows::longest_walk;
-use crate::pricing::{NONE, prices_from};
+use crate::pricing::{NONE, Prices, prices_from};
 use crate::tiles::tile_at;
 use crate::words::LANES;
 use std::alloc::Global;
@@ -57,7 +57,7 @@ fn is_closing(price: u32, most: u32, from: u32, to: u32) -> bool
     u64::from(price) + 1 < u64::from(most) && to <= from
 }
 
-/// Takes in what the table says of one column.
+/// Takes in what the table says of one column, whose word has the lanes with a price there.
 fn offer_column(
     found: &mut Closings,
     positions: &[u32],
@@ -65,6 +65,7 @@ fn offer_column(
     starts: &[u32],
     members: &[u32],
     table: &[u32],
+    word: u64,
     column: usize,
 )
     requires starts { All (λ b. b < length positions.now) starts.now }
@@ -74,9 +75,13 @@ fn offer_column(
     requires lanes { length starts.now ≤ LANES }
     requires inside { column < length members.now }
     requires long { length table.now ≡ length members.now * LANES }
+    requires blank { (i : ℕ) → i < length starts.now → (HasLane word i → ⊥) → slice_index table.now (cell column i) ≡ NONE }
     ensures { AreOffered (IsInColumn positions.now most starts.now members.now table.now column (length starts.now)) (λ v. slice_index positions.now v)
         found.old.prices.items found.old.lasts.items found.new.prices.items found.new.lasts.items }
 {
+    if word == 0 {
+        return;
+    }
     let to = members[column];
     for (lane, from) in starts.iter().enumerate() {
         let price = table[column * LANES + lane];
@@ -94,19 +99,30 @@ fn offer_table(
     most: u32,
     starts: &[u32],
     members: &[u32],
-    table: &[u32],
+    prices: &Prices,
 )
     requires starts { All (λ b. b < length positions.now) starts.now }
     requires members { All (λ a. a < length positions.now) members.now }
     requires prices { length found.old.prices.items ≡ length positions.now }
     requires lasts { length found.old.lasts.items ≡ length positions.now }
     requires lanes { length starts.now ≤ LANES }
-    requires long { length table.now ≡ length members.now * LANES }
-    ensures { AreOffered (IsInColumns positions.now most starts.now members.now table.now (length members.now)) (λ v. slice_index positions.now v)
+    requires long { length prices.now.table.items ≡ length members.now * LANES }
+    requires marked { AreMarked members.now starts.now prices.now.lanes.items prices.now.table.items }
+    ensures { AreOffered (IsInColumns positions.now most starts.now members.now prices.now.table.items (length members.now)) (λ v. slice_index positions.now v)
         found.old.prices.items found.old.lasts.items found.new.prices.items found.new.lasts.items }
 {
     for column in 0..members.len() {
-        offer_column(found, positions, most, starts, members, table, column);
+        let word = prices.lanes[column];
+        offer_column(
+            found,
+            positions,
+            most,
+            starts,
+            members,
+            &prices.table,
+            word,
+            column,
+        );
     }
 }
 
@@ -140,10 +156,10 @@ pub(crate) fn find_closings(
     let mut found = Closings::new(alloc, graph.count())?;
     for block in 0..sources.len().div_ceil(LANES) {
         let starts = tile_at(sources, block);
-        let table = prices_from(
+        let prices = prices_from(
             alloc, graph, level, &parent_of, &columns, targets, starts, longest,
         )?;
-        offer_table(&mut found, positions, most, starts, targets, &table);
+        offer_table(&mut found, positions, most, starts, targets, &prices);
     }
     Ok(found)
 }

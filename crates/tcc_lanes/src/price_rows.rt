@@ -1,15 +1,18 @@
-//! A row of prices for each member.
-ghost use Rattle.std.specs.Prelude.{◌≡◌, ◌≤◌, ◌<◌, ◌+◌, ◌*◌, ◌^◌, List, length, if◌then◌else◌, All, AllPairs, IfOk, OnOk};
-ghost use Rattle.tcc_reads.specs.History.{count};
-ghost use Rattle.tcc_graph.specs.{Levels.IsAllowed, Levels.judged, Relations.causal_pair, declared.step.Step.Step};
+//! A row of prices for each member. For M members that takes M * M steps, beside what `pricing` takes.
+ghost use Rattle.std.specs.Prelude.{◌≡◌, ◌≤◌, ◌<◌, ◌+◌, ◌*◌, ◌^◌, ◌↔◌, ℕ, Bool, true, List, length, slice_index, if◌then◌else◌, All, AllPairs, IfOk, OnOk};
+ghost use Rattle.tcc_reads.specs.History.{History, IsBySession, count};
+ghost use Rattle.tcc_clocks.specs.Parents.{ArePrevious};
+ghost use Rattle.tcc_graph.specs.{Levels.IsAllowed, Levels.judged, declared.step.Step.Step};
 ghost use Rattle.tcc_lanes.specs.{declared.pricing.TheConstants.NONE, declared.words.TheConstants.LANES};
-ghost use Rattle.tcc_lanes.specs.private.Pricing.{ArePriceRows, AreRowsOn, IsRowOf};
+ghost use Rattle.tcc_lanes.specs.private.{Marks.HasLane, Marks.IsAt, Pricing.AreMarked, Pricing.ArePairsFrom, Pricing.ArePriceRows, Pricing.AreRowsOn, Pricing.IsRowOf, Pricing.cell};
 
+use crate::marking::{Marking, marks_of};
 use crate::meeting::columns_of;
-use crate::pricing::prices_from;
+use crate::pricing::{NONE, Prices, prices_from};
+use crate::spreading::spread;
 use crate::stretches::PriceRow;
 use crate::tiles::tile_at;
-use crate::words::LANES;
+use crate::words::{LANES, has_lane};
 use std::alloc::Global;
 use tcc_clocks::previous_of_each;
 use tcc_graph::{LargeGraph, Level};
@@ -26,57 +29,82 @@ pub(crate) fn longest_walk(level: Level, most: u32) -> u32
     }
 }
 
-/// What a link costs: 1 where there is a pair, and else what the derived one does.
-fn link_price(graph: &LargeGraph, from: u32, to: u32, derived: u32) -> u32
-    requires from { from < count graph.now }
-    requires to { to < count graph.now }
-    ensures { result ≡ (if causal_pair graph.now from to then 1 else derived) }
+/// Where a pair leads to from each start, as marks of its lane.
+fn pairs_from(alloc: Global, graph: &LargeGraph, parent_of: &[u32], starts: &[u32]) -> Marking
+    requires numbered { IsBySession graph.now.entries }
+    requires parents { ArePrevious graph.now parent_of.now }
+    requires lanes { length starts.now ≤ LANES }
+    requires inside { All (λ u. u < count graph.now) starts.now }
+    ensures { IfOk result (λ pairs. ArePairsFrom graph.now starts.now pairs.items) }
 {
-    if graph.causal(from, to) { 1 } else { derived }
+    let count = graph.count() as usize;
+    let begun = marks_of(alloc, count, starts)?;
+    let mut pairs = vec![in alloc; 0; count]?;
+    spread(graph, parent_of, &begun, &mut pairs);
+    Ok(pairs)
 }
 
-/// What links from a transaction cost, by the derived ones of its lane.
+/// What a link of a lane to a column costs: 1 where the word of pairs has the lane, and else what the derived one does.
+fn link_price(pairs: u64, prices: &Prices, column: usize, lane: usize) -> u32
+    requires lane { lane < LANES }
+    requires column { column < length prices.now.lanes.items }
+    requires long { length prices.now.table.items ≡ length prices.now.lanes.items * LANES }
+    ensures { (is_pair : Bool) → HasLane pairs lane ↔ (is_pair ≡ true)
+        → ((IsAt prices.now.lanes.items column lane → ⊥) → slice_index prices.now.table.items (cell column lane) ≡ NONE)
+        → result ≡ (if is_pair then 1 else slice_index prices.now.table.items (cell column lane)) }
+{
+    if has_lane(pairs, lane) {
+        1
+    } else if has_lane(prices.lanes[column], lane) {
+        prices.table[column * LANES + lane]
+    } else {
+        NONE
+    }
+}
+
+/// What links from the start of a lane cost.
 fn price_row(
     alloc: Global,
-    graph: &LargeGraph,
     members: &[u32],
-    table: &[u32],
+    pairs: &[u64],
+    prices: &Prices,
     lane: usize,
-    from: u32,
 ) -> Result<PriceRow, NoMemory>
     requires lane { lane < LANES }
-    requires from { from < count graph.now }
-    requires members { All (λ v. v < count graph.now) members.now }
+    requires members { All (λ v. v < length pairs.now) members.now }
     requires few { length members.now < 2 ^ 32 }
-    requires long { length table.now ≡ length members.now * LANES }
-    ensures { IfOk result (λ row. IsRowOf graph.now members.now table.now lane from row) }
+    requires lanes { length prices.now.lanes.items ≡ length members.now }
+    requires long { length prices.now.table.items ≡ length members.now * LANES }
+    ensures { IfOk result (λ row. (h : History) (starts : List ℕ) → lane < length starts → ArePairsFrom h starts pairs.now
+        → AreMarked members.now starts prices.now.lanes.items prices.now.table.items
+        → IsRowOf h members.now prices.now.table.items lane (slice_index starts lane) row) }
 {
     let mut row = PriceRow::new(alloc);
     for (column, to) in members.iter().enumerate() {
-        let derived = table[column * LANES + lane];
-        row.push(link_price(graph, from, *to, derived))?;
+        row.push(link_price(pairs[*to as usize], prices, column, lane))?;
     }
     Ok(row)
 }
 
-/// Adds a row for each of these starts.
+/// Adds a row for each of some starts.
 fn push_rows(
     alloc: Global,
     rows: &mut Vec<PriceRow>,
-    graph: &LargeGraph,
     members: &[u32],
     starts: &[u32],
-    table: &[u32],
+    pairs: &[u64],
+    prices: &Prices,
 ) -> Result<(), NoMemory>
     requires lanes { length starts.now ≤ LANES }
-    requires inside { All (λ u. u < count graph.now) starts.now }
-    requires members { All (λ v. v < count graph.now) members.now }
+    requires members { All (λ v. v < length pairs.now) members.now }
     requires few { length members.now < 2 ^ 32 }
-    requires long { length table.now ≡ length members.now * LANES }
-    ensures { OnOk result (AreRowsOn graph.now members.now table.now starts.now (length starts.now) rows.old.items rows.new.items) }
+    requires marked { AreMarked members.now starts.now prices.now.lanes.items prices.now.table.items }
+    requires long { length prices.now.table.items ≡ length members.now * LANES }
+    ensures { OnOk result ((h : History) → ArePairsFrom h starts.now pairs.now
+        → AreRowsOn h members.now prices.now.table.items starts.now (length starts.now) rows.old.items rows.new.items) }
 {
-    for (lane, from) in starts.iter().enumerate() {
-        rows.push(price_row(alloc, graph, members, table, lane, *from)?)?;
+    for lane in 0..starts.len() {
+        rows.push(price_row(alloc, members, pairs, prices, lane)?)?;
     }
     Ok(())
 }
@@ -103,10 +131,11 @@ pub(crate) fn price_rows(
     let mut rows = Vec::new(alloc);
     for block in 0..members.len().div_ceil(LANES) {
         let starts = tile_at(members, block);
-        let table = prices_from(
+        let prices = prices_from(
             alloc, graph, level, &parent_of, &columns, members, starts, longest,
         )?;
-        push_rows(alloc, &mut rows, graph, members, starts, &table)?;
+        let pairs = pairs_from(alloc, graph, &parent_of, starts)?;
+        push_rows(alloc, &mut rows, members, starts, &pairs, &prices)?;
     }
     Ok(rows)
 }

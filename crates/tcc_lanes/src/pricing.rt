@@ -6,7 +6,7 @@ ghost use Rattle.tcc_reads.specs.History.{IsBySession, count};
 ghost use Rattle.tcc_graph.specs.Levels.{judged};
 ghost use Rattle.tcc_clocks.specs.Parents.{ArePrevious};
 ghost use Rattle.tcc_lanes.specs.{declared.words.TheConstants.LANES, declared.pricing.TheConstants.NONE, private.Marks.HasLane, private.Marks.IsAt};
-ghost use Rattle.tcc_lanes.specs.private.Pricing.{AreColumns, ArePrices, IsLowered, cell};
+ghost use Rattle.tcc_lanes.specs.private.Pricing.{AreColumns, AreMarked, ArePrices, IsLowered, cell};
 
 use crate::frontier::walk_on;
 use crate::marking::{marks_of, writer_marks};
@@ -18,6 +18,15 @@ use tcc_txn::NoMemory;
 
 /// The price where there is no link.
 pub(crate) const NONE: u32 = u32::MAX;
+
+/// What derived links from the starts of some lanes to the members cost.
+#[derive(Drop)]
+pub(crate) struct Prices {
+    /// Of each column the lanes that have a price there.
+    pub(crate) lanes: Vec<u64>,
+    /// The price of each lane in each column; `NONE` where it has none.
+    pub(crate) table: Vec<u32>,
+}
 
 /// Lowers a value to a price.
 fn lower_at(table: &mut [u32], at: usize, price: u32)
@@ -45,6 +54,9 @@ fn lower_column(table: &mut [u32], column: usize, starts: &[u32], word: u64, to:
         → IsLowered ((v ≡ column) × (i < length starts.now) × HasLane word i × (slice_index starts.now i ≢ to)) price
         (slice_index table.old (cell v i)) (slice_index table.new (cell v i)) }
 {
+    if word == 0 {
+        return;
+    }
     for (lane, from) in starts.iter().enumerate() {
         if is_met(word, lane, *from, to) {
             lower_at(table, column * LANES + lane, price);
@@ -77,7 +89,7 @@ pub(crate) fn prices_from(
     members: &[u32],
     starts: &[u32],
     longest: u32,
-) -> Result<Vec<u32>, NoMemory>
+) -> Result<Prices, NoMemory>
     requires numbered { IsBySession graph.now.entries }
     requires parents { ArePrevious graph.now parent_of.now }
     requires columns { AreColumns graph.now members.now columns.now }
@@ -87,7 +99,8 @@ pub(crate) fn prices_from(
     requires inside { All (λ u. u < count graph.now) starts.now }
     requires some { All (λ u. 0 < u) starts.now }
     requires short { longest < NONE }
-    ensures { IfOk result (λ table. ArePrices (judged graph.now level) members.now starts.now longest table.items) }
+    ensures prices { IfOk result (λ found. ArePrices (judged graph.now level) members.now starts.now longest found.table.items) }
+    ensures marked { IfOk result (λ found. AreMarked members.now starts.now found.lanes.items found.table.items) }
 {
     let count = graph.count() as usize;
     let begun = marks_of(alloc, count, starts)?;
@@ -98,10 +111,16 @@ pub(crate) fn prices_from(
     let mut table = vec![in alloc; NONE; members.len() * LANES]?;
     for steps in 0..longest {
         if !walk_on(graph, level, parent_of, &begun, &mut reached, &mut underway) {
-            return Ok(table);
+            return Ok(Prices {
+                lanes: found,
+                table,
+            });
         }
         meet(graph, columns, &writers, &reached, &mut found);
         lower(&mut table, members, starts, &found, steps + 2);
     }
-    Ok(table)
+    Ok(Prices {
+        lanes: found,
+        table,
+    })
 }

@@ -1,5 +1,5 @@
 -- What links among members cost, worked out from 64 of them at a time.
-use Rattle.std.specs.Prelude.{ℕ, ◌<◌, ◌≤◌, ◌+◌, ◌*◌, ◌≡◌, ◌≢◌, ◌⊎◌, ◌↔◌, min, All, List, [], length, map, reverse, slice_index, slice_index_or, if◌then◌else◌}
+use Rattle.std.specs.Prelude.{ℕ, true, ◌<◌, ◌≤◌, ◌+◌, ◌*◌, ◌≡◌, ◌≢◌, ◌⊎◌, ◌↔◌, min, All, List, [], length, map, reverse, slice_index, slice_index_or, if◌then◌else◌}
 use Rattle.tcc_reads.specs.History.{History, count}
 use Rattle.tcc_graph.specs.Keys.{key_at, keys}
 use Rattle.tcc_graph.specs.Levels.{Judged}
@@ -46,6 +46,16 @@ pub record ArePrices (j : Judged) (members : List ℕ) (starts : List ℕ) (long
       × (length walk + 1 ≤ slice_index table (cell v i))
   pub all : (v i : ℕ) → v < length members → i < length starts → (x : List ℕ) (c : ℕ) (walk : List Step)
       → IsReason j (slice_index starts i) (slice_index members v) x c walk → length walk ≤ longest → slice_index table (cell v i) ≤ length walk + 1
+
+-- where a column's word hasn't a lane, the lane has no price there
+pub record AreMarked (members : List ℕ) (starts : List ℕ) (lanes : List ℕ) (table : List ℕ) : Type 0 where
+  pub long : length lanes ≡ length members
+  pub blank : (v i : ℕ) → v < length members → i < length starts → (IsAt lanes v i → ⊥) → slice_index table (cell v i) ≡ NONE
+
+-- each lane is marked where a pair leads to from its start, and nowhere else
+pub record ArePairsFrom (h : History) (starts : List ℕ) (pairs : List ℕ) : Type 0 where
+  pub long : length pairs ≡ count h
+  pub each : (v i : ℕ) → v < count h → i < length starts → IsAt pairs v i ↔ (causal_pair h (slice_index starts i) v ≡ true)
 
 -- what links from a transaction to the members cost that cost less than a limit
 pub record IsPriceRow (j : Judged) (members : List ℕ) (most : ℕ) (from : ℕ) (row : List ℕ) : Type 0 where

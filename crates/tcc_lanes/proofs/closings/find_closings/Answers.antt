@@ -13,13 +13,13 @@ loop-block-preserved c =
     let targets = c.args.targets.now in
     let from : ℕ = c.loop-block.block * LANES in
     let starts = c.tile_at-starts.result.now in
-    let table = c.in_ok-table.table.items in
+    let table = c.in_ok-prices.prices.table.items in
     let order : from ≤ length c.args.sources.now = omega (arith, c.div_ceil-block-end.ensures, c.loop-block-test.true) in
-    let prices : ArePrices (judged h c.args.level) targets starts c.longest_walk-longest.result table = c.in_ok-table.ensures in
+    let prices : ArePrices (judged h c.args.level) targets starts c.longest_walk-longest.result table = c.in_ok-prices.ensures.prices in
     from_more h c.args.level c.args.positions.now c.args.most c.args.sources.now targets c.requires.some (omega (arith, c.ranges.most.fits)) c.longest_walk-longest.result
     (λ walk allowed few. c.longest_walk-longest.ensures.all walk allowed (omega (arith, c.saturating_sub.ensures, few))) from ((c.loop-block.block + 1) * LANES) starts table c.tile_at-starts.ensures.tiled order (omega arith) prices
     (replicate (count h) NONE) (replicate (count h) 0) c.loop-block.found.prices.items c.loop-block.found.lasts.items c.offer_table.new.found.prices.items
-    c.offer_table.new.found.lasts.items c.loop-block.invariant (rw c.deref-in-loop-block-2.ensures.value at c.offer_table.ensures)
+    c.offer_table.new.found.lasts.items c.loop-block.invariant c.offer_table.ensures
 
 pub returns : goal.returns
 returns c =

@@ -1,8 +1,10 @@
 use Rattle.std.proofs.Common.{◌≡◌, ℕ, length, get_or, refl, subst, sym, ◌∙◌, arith}
 use Rattle.std.proofs.lemmas.Bool.{false≢true}
 use Rattle.tcc_lanes.specs.private.Closings.{AreOffered, IsInColumn}
+use Rattle.tcc_lanes.specs.private.Marks.{HasLane}
 use Rattle.tcc_lanes.specs.private.Pricing.{cell}
-use Rattle.tcc_lanes.proofs.ClosingLemmas.{column_more, column_none, column_same}
+use Rattle.tcc_lanes.proofs.ClosingLemmas.{column_blank, column_more, column_none, column_same}
+use Rattle.tcc_lanes.proofs.WordLemmas.{none_has}
 use Rattle.tcc_lanes.proofs.closings.offer_column.Goals.{then-is_closing, else-is_closing}
 use Rattle.tcc_lanes.proofs.closings.offer_column.Goals as goal
 
@@ -48,3 +50,9 @@ returns c =
     let all : c.loop-lane.lane ≡ length starts = omega arith in
     subst (λ (i : ℕ). AreOffered (IsInColumn positions c.args.most starts c.args.members.now c.args.table.now c.args.column i) (λ v. get_or positions v 0)
     c.args.found.now.prices.items c.args.found.now.lasts.items c.loop-lane.found.prices.items c.loop-lane.found.lasts.items) all c.loop-lane.invariant
+
+pub returns-then-word-eq0 : goal.returns-then-word-eq0
+returns-then-word-eq0 c =
+    column_blank c.args.positions.now c.args.most c.args.starts.now c.args.members.now c.args.table.now c.args.found.now.prices.items c.args.found.now.lasts.items
+    c.args.column (omega (arith, c.ranges.most.fits))
+    (λ i m. c.requires.blank i m (λ has. none_has i (subst (λ (word : ℕ). HasLane word i) c.if-word-eq0.true has)))

@@ -5,7 +5,7 @@ use Rattle.tcc_lanes.proofs.closings.offer_table.Goals as goal
 
 pub loop-column-init : goal.loop-column-init
 loop-column-init c =
-    columns_none c.args.positions.now c.args.most c.args.starts.now c.args.members.now c.args.table.now c.args.found.now.prices.items c.args.found.now.lasts.items
+    columns_none c.args.positions.now c.args.most c.args.starts.now c.args.members.now c.args.prices.now.table.items c.args.found.now.prices.items c.args.found.now.lasts.items
 
 pub offer_column-requires-clause-prices : goal.offer_column-requires-clause-prices
 offer_column-requires-clause-prices c = c.loop-column.invariant.prices_same ∙ c.requires.prices
@@ -15,14 +15,14 @@ offer_column-requires-clause-lasts c = c.loop-column.invariant.lasts_same ∙ c.
 
 pub loop-column-preserved : goal.loop-column-preserved
 loop-column-preserved c =
-    columns_more c.args.positions.now c.args.most c.args.starts.now c.args.members.now c.args.table.now c.args.found.now.prices.items c.args.found.now.lasts.items
+    columns_more c.args.positions.now c.args.most c.args.starts.now c.args.members.now c.args.prices.now.table.items c.args.found.now.prices.items c.args.found.now.lasts.items
     c.loop-column.found.prices.items c.loop-column.found.lasts.items c.offer_column.new.found.prices.items c.offer_column.new.found.lasts.items c.loop-column.column
-    c.loop-column.invariant c.offer_column.ensures
+    c.loop-column.invariant (rw c.deref.ensures.value at c.offer_column.ensures)
 
 pub returns : goal.returns
 returns c =
     let positions = c.args.positions.now in
     let members = c.args.members.now in
     let all : c.loop-column.column ≡ length members = omega arith in
-    subst (λ (v : ℕ). AreOffered (IsInColumns positions c.args.most c.args.starts.now members c.args.table.now v) (λ u. get_or positions u 0)
+    subst (λ (v : ℕ). AreOffered (IsInColumns positions c.args.most c.args.starts.now members c.args.prices.now.table.items v) (λ u. get_or positions u 0)
     c.args.found.now.prices.items c.args.found.now.lasts.items c.loop-column.found.prices.items c.loop-column.found.lasts.items) all c.loop-column.invariant

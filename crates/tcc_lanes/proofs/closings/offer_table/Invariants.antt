@@ -4,5 +4,5 @@ use Rattle.tcc_lanes.proofs.closings.offer_table.Given as goal
 
 abbrev pub invariant-loop-column : goal.invariant-loop-column
 invariant-loop-column l =
-    AreOffered (IsInColumns l.positions l.most l.starts l.members l.table l.column) (λ v. get_or l.positions v 0) l.initial.found.prices.items
+    AreOffered (IsInColumns l.positions l.most l.starts l.members l.prices.table.items l.column) (λ v. get_or l.positions v 0) l.initial.found.prices.items
     l.initial.found.lasts.items l.found.prices.items l.found.lasts.items

@@ -1,9 +1,10 @@
-use Rattle.std.proofs.Common.{◌≡◌, ◌≢◌, ◌<◌, ◌+◌, ◌↔◌, ◌⊎◌, ◌∙◌, ℕ, length, get_or, refl, sym, arith}
+use Rattle.std.proofs.Common.{◌≡◌, ◌≢◌, ◌<◌, ◌+◌, ◌↔◌, ◌⊎◌, ◌∙◌, ℕ, length, get_or, refl, sym, subst, arith}
 use Rattle.tcc_reads.specs.History.{count}
+use Rattle.tcc_graph.specs.Levels.{judged}
 use Rattle.tcc_lanes.specs.declared.words.TheConstants.{LANES}
 use Rattle.tcc_lanes.specs.private.Marks.{AreMarksOf, IsAt}
 use Rattle.tcc_lanes.specs.private.Walking.{IsWalkedOn}
-use Rattle.tcc_lanes.specs.private.Pricing.{IsLowered, IsMetIn, cell}
+use Rattle.tcc_lanes.specs.private.Pricing.{ArePrices, IsLowered, IsMetIn, cell}
 use Rattle.tcc_txn.proofs.Lists.{whole}
 use Rattle.tcc_lanes.proofs.PriceLemmas.{pricing_more, pricing_still}
 use Rattle.tcc_lanes.proofs.pricing.prices_from.Goals as goal
@@ -43,8 +44,14 @@ loop-steps-preserved c =
     c.in_ok-writers.ensures now.steps price refl (omega (arith, c.requires.short, c.loop-steps-test.true)) now.reached.items now.underway.items now.found.items
     now.table.items after room met new now.invariant c.walk_on.ensures.same c.walk_on.ensures.room each same grown alike lowered)
 
-pub returns-then-not-walk_on : goal.returns-then-not-walk_on
-returns-then-not-walk_on c =
+pub returns-clause-prices : goal.returns-clause-prices
+returns-clause-prices c =
+    let all : c.loop-steps.steps ≡ c.args.longest = omega (arith, c.loop-steps-test.false, c.loop-steps.auto.steps-end) in
+    subst (λ (n : ℕ). ArePrices (judged c.args.graph.now c.args.level) c.args.members.now c.args.starts.now n c.loop-steps.table.items) all
+    c.loop-steps.invariant.prices
+
+pub returns-then-not-walk_on-clause-prices : goal.returns-then-not-walk_on-clause-prices
+returns-then-not-walk_on-clause-prices c =
     let h = c.args.graph.now in
     let starts = c.args.starts.now in
     let begun = c.in_ok-begun.begun.items in
