@@ -3,6 +3,7 @@ begins. None of them may take more than some times the processor time of an ordi
 
 A history is named by what there is much of. `N` and the like are counts; sessions, keys and values are made of them.
 """
+import itertools
 import random
 from typing import Iterable, Iterator, List, NamedTuple, Tuple
 
@@ -213,6 +214,24 @@ def each_its_own(sessions: int) -> Transactions:
         yield "s%d" % n, ["w,k%d,1" % n, *(["r,k%d,1" % (n - 1)] if n else [])]
 
 
+def known_by_chain(reads: int, readers: int) -> Transactions:
+    """Session c reads x from a again and again, though it had observed that b overwrote it, by way of d. Many others read what b wrote,
+    so that each of them is a reader by whom c may have known of b."""
+    yield "a", ["w,x,1"]
+    yield "b", ["r,x,1", "w,x,2", "w,k,1"]
+    yield "d", ["r,k,1", "w,z,1"]
+    for _ in range(readers):
+        yield "m", ["r,x,2"]
+    yield "c", ["r,z,1"]
+    for _ in range(reads):
+        yield "c", ["r,x,1"]
+
+
+def stale() -> str:
+    """A session that doesn't read its own write."""
+    return records_of([("a", ["w,x,1"]), ("a", ["r,x,0"])])
+
+
 def ordinary(size: int) -> str:
     """A history with at least this many bytes: 32 sessions, of whose transactions each writes a key and reads the last value of
     another one."""
@@ -256,3 +275,23 @@ def hard() -> Iterator[Hard]:
     yield Hard("surveyed: known by steps", [*survey, "--level", "atomic"], records_of(known_by_steps(60000, 60000)),
                "0 contradicted reads of 60002, 0 faults\n")
     yield Hard("surveyed: a session each", survey, records_of(each_its_own(60000)), "0 contradicted reads of 59999, 0 faults\n")
+    yield Hard("surveyed: known by a chain", survey, records_of(known_by_chain(40000, 40000)),
+               "contradicted c/2 op 1 x 1: knew of b/1, causal chain\n")
+    yield Hard("a session each", large, records_of(each_its_own(60000)), "consistent: 60000 transactions, 60000 sessions\n")
+
+
+def hard_to_check() -> Iterator[Tuple[str, str]]:
+    """Histories whose answers are hard to check, by their names."""
+    yield "a session each", records_of(each_its_own(60000))
+    yield "written by many", records_of(written_by_many(4000, 8000))
+
+
+def claims(size: int) -> Iterator[Tuple[str, Iterable[str]]]:
+    """Certificates for the stale read of about this size, which claim what isn't so, in pieces, by what they have many of."""
+    for name, begins, line in (
+            ("links", "cycle 3 %d 3\n", "D 1 0 x 2 1\nS 1 2\n"),
+            ("steps", "cycle 3 1 3\nD 1 0 x 2 %d\n", "S 1 2\n"),
+            ("runs", "order 3 1 %d\n", "0 1\n"),
+            ("runs beside links", "cycle 3 2 3\nS 0 1\nD 1 0 x 2 1\nS 1 2\nleast %d\n", "0 1\n")):
+        many = size // len(line)
+        yield name, itertools.chain(["tcc-certificate 3 causal\n" + begins % many], itertools.repeat(line, many), ["end\n"])

@@ -7,7 +7,8 @@ Values of one key that hash alike, and names of keys and sessions that do, may t
 many others, and have the same answers. Long records, and many faults, may take no more than some times their bytes of memory, and a
 long answer no more than some times its own. All about an answer may take no more than some times the memory of the answer.
 Histories that have many of what some loop goes through (`histories.py`) may take no more than ten times the processor time of an
-ordinary one of as many bytes. The values and names are made by `alike.c`, which needs a C compiler on the path (`cc` or `clang`);
+ordinary one of as many bytes, and so may the check of what is answered for some. A certificate of many links, steps or runs may take no
+more than some times its bytes of memory. The values and names are made by `alike.c`, which needs a C compiler on the path (`cc` or `clang`);
 where there is none it says so and has failed. Each difference is one line; the last line is `N passed, M failed`.
 """
 import itertools
@@ -23,7 +24,7 @@ TOP = HERE.parent.parent
 sys.path.insert(0, str(TOP / "tests"))
 from arguments import status_on_tcc  # noqa: E402
 from compared import first_difference, shown  # noqa: E402
-from histories import gathered, hard, ordinary, records_of, walked  # noqa: E402
+from histories import claims, gathered, hard, hard_to_check, ordinary, records_of, stale, walked  # noqa: E402
 
 WRITERS, WRITES = 400, 250
 KEYS, SESSIONS = 1024, 64
@@ -34,6 +35,8 @@ MEGABYTE, LONG = 1 << 20, 16
 TIMES_ORDINARY, BESIDE_ORDINARY = 10, 1.5
 # The bytes of memory that a long answer may take for each of its own.
 BESIDE_ANSWER = 4
+# The bytes of memory that the check of a certificate may take for each byte of it.
+BESIDE_CERTIFICATE = 4
 # So many times the memory of an answer as JSON may all about it take.
 ALL_BESIDE_JSON = 1.5
 # So much memory may there be beside what goes by the bytes of the records.
@@ -171,6 +174,41 @@ def harder(tcc, one):
     return "%.2f seconds, and %.2f for an ordinary one" % (took, usual) if took > most else None
 
 
+def certified(tcc, records, folder):
+    """The paths of a history and of the certificate of its answer."""
+    history, certificate = (os.path.join(folder, name) for name in ("history", "certificate"))
+    pathlib.Path(history).write_text(records)
+    run(tcc, ["explain", "--large", "--certificate", certificate, history], [])
+    return history, certificate
+
+
+def checked(tcc, records):
+    """What is wrong with the check of an answer, or with its time beside that of an ordinary one; None if nothing is."""
+    seconds = []
+    for each in (ordinary(len(records)), records):
+        with tempfile.TemporaryDirectory() as folder:
+            status, said, took, _ = run(tcc, ["check", "--large", *certified(tcc, each, folder)], [])
+        if status != 0 or not said.startswith(b"accepted: "):
+            return "status %d, standard output %s" % (status, shown(said[:200]))
+        seconds.append(took)
+    most = TIMES_ORDINARY * seconds[0] + BESIDE_ORDINARY
+    return "%.2f seconds, and %.2f for an ordinary one" % (seconds[1], seconds[0]) if seconds[1] > most else None
+
+
+def claimed(tcc, claim):
+    """What is wrong with the check of a long certificate, which claims what isn't so, or with its memory; None if nothing is."""
+    with tempfile.TemporaryDirectory() as folder:
+        history, certificate = (pathlib.Path(folder, name) for name in ("history", "certificate"))
+        history.write_text(stale())
+        with certificate.open("w") as file:
+            file.writelines(claim)
+        size = certificate.stat().st_size
+        status, said, _, most = run(tcc, ["check", "--large", str(history), str(certificate)], [])
+    if status != 7 or not said.startswith(b"rejected: "):
+        return "status %d, standard output %s" % (status, shown(said[:200]))
+    return "%d bytes of memory for %d bytes" % (most, size) if most > SPARE + BESIDE_CERTIFICATE * size else None
+
+
 def outcomes(tcc):
     """Each test, with what is wrong, or None."""
     for name, *large in LARGE:
@@ -180,6 +218,10 @@ def outcomes(tcc):
         yield name, fuller(tcc, *full)
     for one in hard():
         yield one.name, harder(tcc, one)
+    for name, records in hard_to_check():
+        yield "checked: " + name, checked(tcc, records)
+    for name, claim in claims(LONG << 20):
+        yield "a certificate of many " + name, claimed(tcc, claim)
     compiler = shutil.which("cc") or shutil.which("clang")
     if compiler is None:
         yield "alike", "no C compiler on the path"
