@@ -2,7 +2,7 @@
 ghost use Rattle.std.specs.Prelude.{◌≡◌, ◌⊎◌, IfOk, true, false};
 ghost use Rattle.tcc_answer.specs.Json.{json_line};
 ghost use Rattle.tcc_full.specs.{Records.records_of, Rows.HasRowsOf, declared.rows.OperationRows.OperationRows};
-ghost use Rattle.tcc_full.specs.FullAnswer.{found_json, found_status, order_json, records_by};
+ghost use Rattle.tcc_full.specs.FullAnswer.{first_json, found_json, found_status, order_json, records_by};
 ghost use Rattle.tcc_full.specs.Runs.{TellsDevice, TellsFault, TellsFound, TellsMemory};
 
 use crate::lookup::Lookup;
@@ -32,7 +32,21 @@ fn order_line<B: Bounds>(
     report.consistent_line(order, order_status(order, required))
 }
 
-/// The line of what is found, where so many transactions are required of an order.
+/// The line of a first answer past the small limits, where so many transactions are required of an order.
+fn first_line<B: Bounds>(
+    report: &Report<B>,
+    required: u32,
+    first: &First,
+) -> Result<Vec<u8>, NoMemory>
+    ensures { IfOk result (λ line. line.items ≡ json_line (first_json report.now.asked.now required (records_of report.now.lookup.now) first.now)) }
+{
+    match first {
+        First::Order(order) => order_line(report, required, order),
+        First::Cycle(links) => report.anomaly_line(links),
+    }
+}
+
+/// The line of what is answered, where so many transactions are required of an order.
 fn found_line<B: Bounds>(
     report: &Report<B>,
     required: u32,
@@ -43,14 +57,7 @@ fn found_line<B: Bounds>(
     match found {
         Answered::Small(Answer::Commit(commit)) => order_line(report, required, commit.order()),
         Answered::Small(Answer::Anomaly(anomaly)) => report.anomaly_line(anomaly.links()),
-        Answered::Large {
-            first: First::Order(order),
-            ..
-        } => order_line(report, required, order),
-        Answered::Large {
-            first: First::Cycle(links),
-            ..
-        } => report.anomaly_line(links),
+        Answered::Large { first, .. } => first_line(report, required, first),
         Answered::Unresolved(faults) => report.unresolved_line(faults),
     }
 }

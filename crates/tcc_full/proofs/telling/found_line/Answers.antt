@@ -1,6 +1,5 @@
 use Rattle.std.proofs.Common.{◌≡◌, rules}
 use Rattle.tcc_answer.specs.declared.answer.Answer.TheVariants as answer
-use Rattle.tcc_proving.specs.declared.answers.First.TheVariants as first
 use Rattle.tcc_answering.specs.declared.answering.Answered.TheVariants as found
 use Rattle.tcc_full.proofs.telling.found_line.Goals as goal
 
@@ -14,15 +13,8 @@ returns-in-Small-Anomaly g c =
     let is : c.args.found.now ≡ found.Small (answer.Anomaly c.in-Small-Anomaly.anomaly) = search rules in
     rw is (rw c.links.ensures at c.anomaly_line.ensures)
 
-pub returns-in-Large-Order : goal.returns-in-Large-Order
-returns-in-Large-Order g c =
-    let is : c.args.found.now ≡ found.Large _ (first.Order c.in-Large-Order.order) _ = search rules in
-    rw is (rw c.deref.ensures.value at c.order_line-in-Large-Order.ensures)
-
-pub returns-in-Large-Cycle : goal.returns-in-Large-Cycle
-returns-in-Large-Cycle g c =
-    let is : c.args.found.now ≡ found.Large _ (first.Cycle c.in-Large-Cycle.links) _ = search rules in
-    rw is (rw c.deref-in-Large-Cycle.ensures.value at c.anomaly_line-in-Large-Cycle.ensures)
+pub returns-in-Large : goal.returns-in-Large
+returns-in-Large g c = rw c.in-Large.is c.first_line.ensures
 
 pub returns-in-Unresolved : goal.returns-in-Unresolved
-returns-in-Unresolved g c = rw c.in-Unresolved.is (rw c.deref-in-Unresolved.ensures.value at c.unresolved_line.ensures)
+returns-in-Unresolved g c = rw c.in-Unresolved.is (rw c.deref.ensures.value at c.unresolved_line.ensures)
