@@ -25,10 +25,10 @@ sent certificate text (Ok done) file file' is whole part = rw is whole
 sent certificate text (Err fault) file file' is whole part = (text, is, part)
 
 -- the run stops at a file that is given
-pub certificate_stops : {E : Type 0} (options : Options) (last : Said) (before after file file' : Option (List ℕ)) (fault : E) (code : ℕ)
-    → SendsCertificate {A = Unit {0}} last.certificate (Err fault) file file' → Prints before after (device_line options.json) Device code
-    → CertificateStops options last before after (Some file) (Some file') code
-certificate_stops options last before after file file' fault code (text, is, (n, part)) prints = (text, is, (n, part, nothing file), prints)
+pub certificate_stops : (options : Options) (last : Said) (before after file file' : Option (List ℕ)) (code : ℕ)
+    → (text : List ℕ) × (last.certificate ≡ Some text) × ((n : ℕ) × Appends file file' (take n text))
+    → Prints before after (device_line options.json) Device code → CertificateStops options last before after (Some file) (Some file') code
+certificate_stops options last before after file file' code (text, is, (n, part)) prints = (text, is, (n, part, nothing file), prints)
 
 -- the slice of what was said
 pub slice_given : {A : Type 0} (options : Options) (whole : Sessions) (o : Outcome) (links : List Link) (r : Result A ℕ) (before after file file' : Option (List ℕ))

@@ -6,6 +6,7 @@ use Rattle.tcc_rows.specs.Answers as rows
 use Rattle.tcc_reads.specs.Faults.{read_faults}
 use Rattle.tcc_reads.specs.History.{History}
 use Rattle.tcc_reads.specs.Sources.{history}
+use Rattle.tcc_reads.specs.declared.fault.ReadFault.{ReadFault}
 use Rattle.tcc_graph.specs.Answers as first
 use Rattle.tcc_graph.specs.Levels.{Judged, judged}
 use Rattle.tcc_graph.specs.declared.level.Level.{Level}
@@ -33,13 +34,19 @@ told_of options a = (answered options.json a, answer_status options.required a)
 module _ (one_first : (j : Judged) (some other : first.Answer) → first.IsFirstAnswer j some → first.IsFirstAnswer j other → some ≡ other)
     (one_answer : (j : Judged) (some other : Answer) → IsAnswerOfHistory j some → IsAnswerOfHistory j other → some ≡ other) (options others : Options)
     (alike : AskAlike options others) where
+  options_again : (a : Answer) → told_of options a ≡ told_of others a
+  options_again a = rw (alike.form, alike.required) refl
+
+  faults_again : (faults : List ReadFault) → told (faults_said options faults) ≡ told (faults_said others faults)
+  faults_again faults = rw alike.form refl
+
   small_again : (s : Sessions) (a b : Answer) → IsAnswerOfHistory (judged (history s) options.level) a
       → IsAnswerOfHistory (judged (history s) others.level) b → told_of options a ≡ told_of others b
   small_again s a b is too =
       let same : a ≡ b
       = one_answer (judged (history s) options.level) a b is
       (subst (λ (l : Level). IsAnswerOfHistory (judged (history s) l) b) (sym alike.level) too) in
-      rw (alike.form, alike.required) (ap (told_of others) same)
+      options_again a ∙ ap (told_of others) same
 
   large_again : (h : History) (claim claim' : LargeCertificate) (said again : Said) → IsClaimedOf options h claim said → IsClaimedOf others h claim' again
       → told said ≡ told again
@@ -47,7 +54,8 @@ module _ (one_first : (j : Judged) (some other : first.Answer) → first.IsFirst
       let same : a ≡ b
       = one_first (judged h options.level) a b is (subst (λ (l : Level). first.IsFirstAnswer (judged h l) b) (sym alike.level) too) in
       let between : told_of options (bare options.level h a) ≡ told_of others (bare others.level h b)
-      = rw (alike.form, alike.required, alike.level) (ap (λ (c : first.Answer). told_of others (bare others.level h c)) same) in
+      = ap (λ (l : Level). told_of options (bare l h a)) alike.level ∙ options_again (bare others.level h a)
+      ∙ ap (λ (c : first.Answer). told_of others (bare others.level h c)) same in
       ap told told_so ∙ between ∙ sym (ap told told_too)
 
   resolved_again : (s : Sessions) (said again : Said) → IsResolvedAs options s said → IsResolvedAs others s again → told said ≡ told again
@@ -61,7 +69,7 @@ module _ (one_first : (j : Judged) (some other : first.Answer) → first.IsFirst
   told_again s said again (inl (none, is)) (inr (faulty, so)) = absurd (faulty none)
   told_again s said again (inr (faulty, so)) (inl (none, is)) = absurd (faulty none)
   told_again s said again (inr (faulty, so)) (inr (faulty', so')) =
-      ap told so ∙ rw (alike.form) (sym (ap told so'))
+      ap told so ∙ faults_again (read_faults s) ∙ sym (ap told so')
 
   pub said_again : (s : Sessions) (said again : Said) → IsSaidWithLarge options s said → IsSaidWithLarge others s again
       → (said.text ≡ again.text) × (said.status ≡ again.status)
