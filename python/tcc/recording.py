@@ -228,6 +228,11 @@ class Recorder:
         """What `watch` has found so far that the store must not do."""
         return self._watching.broken if self._watching else None
 
+    @property
+    def has_stopped(self) -> bool:
+        """Whether `BrokenPromise` was raised."""
+        return self._watching is not None and self._watching.has_raised
+
     def _moment(self) -> Moment:
         """What there is now; the lock is held."""
         self._check_process()

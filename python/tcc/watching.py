@@ -41,6 +41,7 @@ class Watching:
         self.sources, self.asking = list(sources), asking
         self.broken: Optional[Answer] = None
         self.answers = 0
+        self.has_raised = False
         self._last: Optional[Type[Told]] = None
         self._ends = [0] * len(self.sources)
         self._count = 0
@@ -71,6 +72,7 @@ class Watching:
     def check(self) -> None:
         """Raises `BrokenPromise` where the store broke its promise."""
         if self.broken is not None:
+            self.has_raised = True
             raise BrokenPromise(self.broken)
 
     def _run(self) -> None:
