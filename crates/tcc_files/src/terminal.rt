@@ -1,4 +1,7 @@
 //! Whether somebody at a terminal waits for the end of a run.
+ghost use Rattle.std.specs.Prelude.{◌≡◌, true, false, MatchResult};
+ghost use Rattle.std.specs.Fs.{metadata_len, metadata_mode};
+ghost use Rattle.tcc_files.specs.FileIds.{is_character_device};
 
 use crate::input::RecordInput;
 use crate::opening::is_device;
@@ -21,7 +24,9 @@ fn major(device: u64) -> u64 {
 }
 
 /// Whether a file is a terminal, by what the system says of it; not where it doesn't tell.
-fn is_terminal(told: io::Result<Metadata>) -> bool {
+fn is_terminal(told: io::Result<Metadata>) -> bool
+    ensures { MatchResult told (λ metadata. result ≡ true → is_character_device (metadata_mode metadata) ≡ true) (λ _. result ≡ false) }
+{
     match told {
         Ok(metadata) => is_device(metadata.mode()) && major(metadata.rdev()) != MEMORY,
         Err(_) => false,
@@ -42,12 +47,19 @@ pub fn are_waited_for(rt: &HostRuntime, one: &File, other: &File) -> bool {
     is_terminal(fs::metadata(rt, ERRORS)) && !typed
 }
 
-/// How many bytes a file has; 0 where the system doesn't tell, as of a pipe.
-pub fn size_of(file: &File) -> u64 {
-    match file.metadata() {
+/// How many bytes a file has, by what the system says of it; 0 where it doesn't tell.
+fn told_size(told: io::Result<Metadata>) -> u64
+    ensures { MatchResult told (λ metadata. result ≡ metadata_len metadata) (λ _. result ≡ 0) }
+{
+    match told {
         Ok(metadata) => metadata.len(),
         Err(_) => 0,
     }
+}
+
+/// How many bytes a file has; 0 where the system doesn't tell, as of a pipe.
+pub fn size_of(file: &File) -> u64 {
+    told_size(file.metadata())
 }
 
 /// Whether the standard error is a terminal, at which nobody types the records.
