@@ -60,8 +60,8 @@ module _ (one_first : (j : Judged) (some other : first.Answer) → first.IsFirst
 
   resolved_again : (s : Sessions) (said again : Said) → IsResolvedAs options s said → IsResolvedAs others s again → told said ≡ told again
   resolved_again s said again (inl (keeps, a, is, so)) (inl (keeps', b, too, so')) = ap told so ∙ small_again s a b is too ∙ sym (ap told so')
-  resolved_again s said again (inl (keeps, a, is, so)) (inr (past, more)) = absurd (past keeps)
-  resolved_again s said again (inr (past, more)) (inl (keeps, b, too, so)) = absurd (past keeps)
+  resolved_again s said again (inl (keeps, a, is, so)) (inr (past, claim, too, room)) = absurd (past keeps)
+  resolved_again s said again (inr (past, claim, is, room)) (inl (keeps, b, too, so)) = absurd (past keeps)
   resolved_again s said again (inr (past, claim, is, room)) (inr (past', claim', too, room')) = large_again (history s) claim claim' said again is too
 
   told_again : (s : Sessions) (said again : Said) → IsSaidWithLarge options s said → IsSaidWithLarge others s again → told said ≡ told again

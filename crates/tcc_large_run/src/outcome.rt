@@ -75,6 +75,11 @@ fn cycle_answer(
     )))
 }
 
+/// The order to judge by, if it is wanted.
+fn kept_if(is_wanted: bool, order: Option<Vec<u32>>) -> Option<Vec<u32>> {
+    if is_wanted { order } else { None }
+}
+
 impl Outcome {
     /// What is said of a history by its first commit order.
     fn of_order(
@@ -139,8 +144,8 @@ impl Outcome {
             } => match first {
                 First::Order(order) => Outcome::of_order(alloc, level, graph, order),
                 First::Cycle(links) => {
-                    let judged_by = if is_certified { order } else { None };
-                    Outcome::of_cycle(alloc, level, graph, links, &judged_by)
+                    let order = kept_if(is_certified, order);
+                    Outcome::of_cycle(alloc, level, graph, links, &order)
                 }
             },
         }
