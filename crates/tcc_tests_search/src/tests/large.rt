@@ -93,26 +93,26 @@ fn decisions(rt: HostRuntime) {
 fn judged(rt: HostRuntime) {
     let alloc = rt.alloc();
     let graph = graph_of(&rt, alloc, PAIRS);
-    let Ok((Decision::Cycle(links), _)) = decide(alloc, &graph, Level::Causal) else {
-        panic!(&rt; "no cycle");
-    };
-    assert!(&rt; is_cycle(&graph, Level::Causal, &links));
+    let (decision, _order) = decide(alloc, &graph, Level::Causal).expect(&rt, "no memory");
+    assert!(&rt; matches!(decision, Decision::Cycle(_)));
+    let links = decision.links().expect(&rt, "no cycle");
+    assert!(&rt; is_cycle(&graph, Level::Causal, links));
     assert!(&rt; !is_cycle(&graph, Level::Causal, &[]));
     assert!(&rt; !is_cycle(&graph, Level::Causal, &links[1..]));
     let other = graph_of(&rt, alloc, CHAIN);
-    assert!(&rt; !is_cycle(&other, Level::Causal, &links));
+    assert!(&rt; !is_cycle(&other, Level::Causal, links));
 }
 
 /// The records of the slice of these records by the cycle that is found at `Causal`.
 fn assert_slice(rt: &impl Abort, alloc: Global, whole: &str, wanted: &str) {
     let graph = graph_of(rt, alloc, whole);
-    let Ok((Decision::Least(links), _)) = decide(alloc, &graph, Level::Causal) else {
-        panic!(rt; "no cycle of {whole}");
-    };
+    let (decision, _order) = decide(alloc, &graph, Level::Causal).expect(rt, "no memory");
+    assert!(rt; matches!(decision, Decision::Least(_)), "of {whole}");
+    let links = decision.links().expect(rt, whole);
     let snapshot = snapshot_of(alloc, whole.as_bytes())
         .expect(rt, whole)
         .large();
-    let found = slice(alloc, &snapshot, &graph, Level::Causal, &links).expect(rt, "no memory");
+    let found = slice(alloc, &snapshot, &graph, Level::Causal, links).expect(rt, "no memory");
     let part = found.expect(rt, whole);
     let text = records(alloc, &part).expect(rt, "no memory");
     assert!(rt; text.as_slice() == wanted.as_bytes(), "of {whole}");
