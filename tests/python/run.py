@@ -247,7 +247,7 @@ def answers(folder: pathlib.Path, tcc: List[str]) -> Iterator[Outcome]:
     from tcc import Anomaly, Fault, NoAnswer, Step, Unresolved, explain
     answer = explain(TOP / "examples/stale-read.csv", tcc=tcc[-1])
     step = Step("session", "a/1", "a/2")
-    wanted = Anomaly("stale-initial-read", 3, True, (
+    wanted = Anomaly("stale-initial-read", 3, (
         Step("session", "init", "a/1"), Step("derived", "a/1", "init", "x", "a/2", (step,))))
     yield differs("an anomaly", wanted, answer)
     thin = folder / "thin.csv"
