@@ -184,9 +184,10 @@ def decided(words):
 
 def surveyed(words):
     """What is wrong where it is the survey that takes long, or None."""
-    records = b"".join(large(400000))
-    showed, _, status = watched(words, [b"", records])
-    text = b"".join(showed)
+    with tempfile.TemporaryDirectory() as made:
+        history = pathlib.Path(made) / "history"
+        history.write_bytes(b"".join(large(400000)))
+        text, status = held_up([*words, history])
     if status != 0 or stages_in(text) != ["reading records", "surveying"]:
         return "status %d, shown %s" % (status, shown(text))
     return first_difference("screen", NOTHING_FOUND, screen_after(text))
