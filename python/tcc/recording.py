@@ -87,8 +87,8 @@ class Recorder:
     note of each transaction. With `syncs` what is appended reaches the disk before the call returns, so that it survives the end of
     the machine, and not only of the process. `ask` is called with an answer for what was recorded so far, the first one and each of
     another kind. A thread asks again each time that the records have grown by a quarter. `watch` is the same by `tcc watch`, at the cost
-    of what is new. With True the first transaction that begins after the store broke its promise raises `BrokenPromise`. `versions` is a file for the versions that the store gave to what was written, for
-    `explain(.., versions=..)`.
+    of what is new. With True the first transaction that begins after the store broke its promise raises `BrokenPromise`. `versions` is a
+    file for the versions that the store gave to what was written, for `explain(.., versions=..)`.
     """
 
     def __init__(self, path: Path, number: int = 0, notes: Optional[Path] = None, syncs: bool = False,
