@@ -2,7 +2,7 @@ use Rattle.std.proofs.Common.{List, ℕ, get_or, take, sym, subst}
 use Rattle.std.proofs.lemmas.List.{get_or_default, take_more}
 use Rattle.tcc_graph.specs.Levels.{Judged, judged}
 use Rattle.tcc_survey.specs.private.Called.{IsCalledAmong}
-use Rattle.tcc_survey.proofs.calling.Calling.with_writers.Goals as goal
+use Rattle.tcc_survey.proofs.calling.Calling.with_each.Goals as goal
 
 pub with_writer-best-requires-clause-writer : goal.with_writer-best-requires-clause-writer
 with_writer-best-requires-clause-writer c =
@@ -18,4 +18,4 @@ loop-b-preserved c =
     let among = c.args.among.now in
     let k = c.loop-b.b-index in
     subst (λ (ws : List ℕ). IsCalledAmong j s.from ws s.reading c.with_writer-best.result) (sym (take_more among k 0 c.loop-b-test.true))
-    (c.with_writer-best.ensures (take k among) c.loop-b.invariant)
+    (c.with_writer-best.ensures.called (take k among) c.loop-b.invariant)
