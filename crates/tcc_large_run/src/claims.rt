@@ -5,9 +5,9 @@ ghost use Rattle.tcc_large_run.specs.private.Stages.{IsCycleClaim, IsLongClaim};
 
 use crate::room::check_room;
 use std::alloc::Global;
+use tcc_answering::{copied, proved_claim, steps_of};
 use tcc_cert::{Links, LinksClaim, Runs};
 use tcc_graph::{LargeGraph, Level, Link};
-use tcc_proving::{copied, proved_claim, steps_of};
 use tcc_txn::NoMemory;
 
 /// Up to so many steps a cycle is claimed to be a least one without runs.

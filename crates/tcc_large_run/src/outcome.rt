@@ -13,15 +13,14 @@ use std::alloc::Global;
 use std::io::Write;
 use std::thread::Threads;
 use tcc_answer::{Anomaly, Answer, CappedRows, Commit, Labels};
-use tcc_answering::{Answered, answer_of};
+use tcc_answering::{Answered, First, answer_of, steps_of};
 use tcc_cert::{LargeCertificate, Links, Numbers, Table, order_claim};
 use tcc_explain::Gate;
 use tcc_graph::{LargeGraph, Level, Link};
 use tcc_order::laws::order_or_cycle;
+use tcc_print::{Options, RunContext, Statement, Status};
 use tcc_print::printing::{send_answer, send_unresolved};
 use tcc_print::status::answer_status;
-use tcc_print::{Options, RunContext, Statement, Status};
-use tcc_proving::{First, steps_of};
 use tcc_reads::ReadFault;
 use tcc_txn::{LargeSnapshot, NoMemory};
 

@@ -6,10 +6,10 @@ ghost use Rattle.tcc_cert.specs.LargeTexts.{HasLeastText, HasLinksClaimText, Has
 ghost use Rattle.tcc_cert.specs.Texts.{HasLinkText, HasStepText, IsCount};
 ghost use Rattle.tcc_judge.specs.Claims.{links_claim_of};
 
+use tcc_answering::steps_of;
 use tcc_cert::laws::order_has_text;
 use tcc_cert::version_3::{V3_MAX_COUNT, V3_MAX_NUMBER};
 use tcc_graph::{LargeGraph, Link, Step};
-use tcc_proving::steps_of;
 use tcc_txn::NoMemory;
 
 /// Whether there is room for a step.

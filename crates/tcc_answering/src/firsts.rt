@@ -4,7 +4,7 @@ ghost use Rattle.std.specs.Prelude.{◌<◌, ◌+◌, ℕ, IfOk};
 ghost use Rattle.tcc_graph.specs.{Levels.judged, Links.cost, Routes.AreCycle, Ties.IsFirstCycle};
 ghost use Rattle.tcc_least.specs.Shapes.{NoneBelow};
 ghost use Rattle.tcc_large.specs.Decisions.{IsDecision, IsFirstIfShort};
-ghost use Rattle.tcc_proving.specs.Firsts.{IsFirst};
+ghost use Rattle.tcc_answering.specs.Firsts.{IsFirst};
 
 use crate::claims::steps_of;
 use std::alloc::Global;

@@ -1,7 +1,7 @@
 use Rattle.std.proofs.Common.{◌≡◌, ◌+◌, arith}
 use Rattle.tcc_graph.specs.Links.{cost}
-use Rattle.tcc_proving.proofs.answers.first_cycle.Goals.{In_ok-steps}
-use Rattle.tcc_proving.proofs.answers.first_cycle.Goals as goal
+use Rattle.tcc_answering.proofs.firsts.first_cycle.Goals.{In_ok-steps}
+use Rattle.tcc_answering.proofs.firsts.first_cycle.Goals as goal
 
 steps_are : (c : In_ok-steps) → c.in_ok-steps.steps ≡ cost c.args.links.items
 steps_are c = rw c.deref.ensures.value at c.in_ok-steps.ensures.steps

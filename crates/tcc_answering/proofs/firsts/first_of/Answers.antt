@@ -1,5 +1,5 @@
 use Rattle.std.proofs.Common.{arith}
-use Rattle.tcc_proving.proofs.answers.first_of.Goals as goal
+use Rattle.tcc_answering.proofs.firsts.first_of.Goals as goal
 
 pub first_cycle-requires-clause-cycle : goal.first_cycle-requires-clause-cycle
 first_cycle-requires-clause-cycle c =

@@ -3,8 +3,8 @@ use Rattle.std.specs.Prelude.{ℕ}
 use Rattle.tcc_graph.specs.Levels.{Judged}
 use Rattle.tcc_graph.specs.Orders.{IsFirstOrder}
 use Rattle.tcc_graph.specs.Ties.{IsFirstCycle}
-use Rattle.tcc_proving.specs.declared.answers.First.{First}
-use Rattle.tcc_proving.specs.declared.answers.First.TheVariants as first
+use Rattle.tcc_answering.specs.declared.firsts.First.{First}
+use Rattle.tcc_answering.specs.declared.firsts.First.TheVariants as first
 
 -- the first commit order, or the first of the least cycles by the rule of ties
 abbrev pub IsFirst : Judged → First → Type 0
