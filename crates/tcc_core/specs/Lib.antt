@@ -3,4 +3,6 @@ pub mod Searches
 pub mod Shares
 pub mod Seeds
 pub mod Frontiers
+pub mod Picked
+pub mod Returns
 pub mod private

@@ -16,13 +16,13 @@ use Rattle.tcc_graph.proofs.Linking.{some_cost, cost_cons, cost_append, cost_aro
 use Rattle.tcc_graph.proofs.Upward.{turn_lowest}
 use Rattle.tcc_derive.specs.Prices.{Tables, IsLinkOf, IsLeastAmong, IsCost, IsPricesOf, cost_at}
 use Rattle.tcc_core.specs.Shares.{IsCappedDistance}
-use Rattle.tcc_cycle.specs.Returns.{IsFirstReturn, come_to}
-use Rattle.tcc_cycle.specs.private.Ways.{spent, IsBefore, IsFirstLink}
-use Rattle.tcc_cycle.specs.declared.first_return.FirstReturn.{FirstReturn}
-use Rattle.tcc_cycle.proofs.Backwards.{Picks, Picks-push, Picks-at}
-use Rattle.tcc_cycle.proofs.CycleLemmas.{turned}
-use Rattle.tcc_cycle.proofs.UpwardLemmas.{begins_above, first_links}
-use Rattle.tcc_cycle.proofs.PickedLemmas.{IsBack, ends_back, first_from_picked}
+use Rattle.tcc_core.specs.Returns.{IsFirstReturn, come_to}
+use Rattle.tcc_core.specs.private.Ways.{spent, IsBefore, IsFirstLink}
+use Rattle.tcc_core.specs.declared.first_return.FirstReturn.{FirstReturn}
+use Rattle.tcc_core.proofs.Backwards.{Picks, Picks-push, Picks-at}
+use Rattle.tcc_core.proofs.CycleLemmas.{turned}
+use Rattle.tcc_core.proofs.UpwardLemmas.{begins_above, first_links}
+use Rattle.tcc_core.proofs.PickedLemmas.{IsBack, ends_back, first_from_picked}
 
 -- some links were picked: they lead on from `end` back to the start, what is left brings the search to `end`, and each
 -- was the first that could be picked

@@ -6,8 +6,8 @@ use Rattle.tcc_graph.specs.Links.{link_cost}
 use Rattle.tcc_graph.specs.Ties.{link_cmp}
 use Rattle.tcc_graph.specs.declared.link.Link.{Link}
 use Rattle.tcc_derive.specs.Prices.{Tables, IsLinkOf, cost_at}
-use Rattle.tcc_cycle.specs.Returns.{come_to}
-use Rattle.tcc_cycle.specs.declared.first_return.FirstReturn.{FirstReturn}
+use Rattle.tcc_core.specs.Returns.{come_to}
+use Rattle.tcc_core.specs.declared.first_return.FirstReturn.{FirstReturn}
 
 -- what it costs to come to u: nothing at the start, else what the row has
 abbrev pub spent : FirstReturn → ℕ → Option ℕ

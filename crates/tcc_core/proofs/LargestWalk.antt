@@ -17,10 +17,10 @@ use Rattle.tcc_graph.specs.declared.link.Link.{Link}
 use Rattle.tcc_graph.proofs.Pairs.{step_pair, step_below}
 use Rattle.tcc_graph.proofs.Walking.{leads_append, leads_split, walk_below}
 use Rattle.tcc_graph.proofs.Linking.{pair_link, cost_cons}
-use Rattle.tcc_cycle.proofs.Twice.{HasTwice, always, few_or_twice}
+use Rattle.tcc_core.proofs.Twice.{HasTwice, always, few_or_twice}
 use Rattle.tcc_graph.proofs.Pairs.{pair_parts, initial_pair}
-use Rattle.tcc_cycle.proofs.SessionLemmas.{IsPlaced, pair_on, either_way}
-use Rattle.tcc_cycle.proofs.BoundLemmas.{shorter}
+use Rattle.tcc_core.proofs.SessionLemmas.{IsPlaced, pair_on, either_way}
+use Rattle.tcc_core.proofs.BoundLemmas.{shorter}
 
 -- numbers for session and mark tell both
 pub told_apart : (x y : ℕ) (p q : Bool) → x < MAX_SESSIONS → y < MAX_SESSIONS → x + cond p MAX_SESSIONS 0 ≡ y + cond q MAX_SESSIONS 0 → (x ≡ y) × (p ≡ q)

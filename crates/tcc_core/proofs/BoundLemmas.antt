@@ -21,7 +21,7 @@ use Rattle.tcc_graph.specs.declared.link.Link.TheVariants as link
 use Rattle.tcc_graph.proofs.Pairs.{step_below, link_below}
 use Rattle.tcc_graph.proofs.Walking.{leads_append, leads_split, walk_below}
 use Rattle.tcc_graph.proofs.Linking.{derived_cost, some_cost, cost_cons, cost_around, lead_append, lead_split}
-use Rattle.tcc_cycle.proofs.Twice.{HasTwice, always, few_or_twice}
+use Rattle.tcc_core.proofs.Twice.{HasTwice, always, few_or_twice}
 
 -- ---- a shortest walk begins one step at most at each transaction
 

@@ -1,5 +1,5 @@
-use Rattle.tcc_cycle.proofs.WayLemmas.{IsUnderWay}
-use Rattle.tcc_cycle.proofs.path_reconstruction.first_cycle.Given as goal
+use Rattle.tcc_core.proofs.WayLemmas.{IsUnderWay}
+use Rattle.tcc_core.proofs.path_reconstruction.first_cycle.Given as goal
 use Rattle.tcc_graph.specs.Levels.{judged}
 
 abbrev pub invariant-loop-left : goal.invariant-loop-left

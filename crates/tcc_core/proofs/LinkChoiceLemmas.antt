@@ -21,7 +21,7 @@ use Rattle.tcc_derive.specs.Reasons.{IsFirstReason}
 use Rattle.tcc_derive.specs.Names.{IsFirstName}
 use Rattle.tcc_derive.proofs.StepLemmas.{not_above}
 use Rattle.tcc_derive.proofs.CostLemmas.{link_of}
-use Rattle.tcc_cycle.specs.private.Ways.{IsFirstLink}
+use Rattle.tcc_core.specs.private.Ways.{IsFirstLink}
 
 -- without a session pair, the read of the first key
 pub reads_first : {j : Judged} {a b : ℕ} {x : List ℕ} → a < count j.history → b < count j.history → session_pair j.history a b ≡ false

@@ -6,8 +6,8 @@ ghost use Rattle.tcc_reads.specs.History.{count};
 ghost use Rattle.tcc_graph.specs.{Links.cost, Ties.IsFirstCycle, declared.link.Link.Link, Levels.judged};
 ghost use Rattle.tcc_near.specs.WalkLengths.{IsNearOf};
 ghost use Rattle.tcc_derive.specs.Prices.{IsPricesOf, IsLinkOf};
-ghost use Rattle.tcc_cycle.specs.Returns.{IsFirstReturn};
-ghost use Rattle.tcc_cycle.specs.private.Ways.{spent, IsBefore, IsFirstLink};
+ghost use Rattle.tcc_core.specs.Returns.{IsFirstReturn};
+ghost use Rattle.tcc_core.specs.private.Ways.{spent, IsBefore, IsFirstLink};
 
 use crate::FirstReturn;
 use std::alloc::Global;

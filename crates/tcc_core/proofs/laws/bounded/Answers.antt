@@ -1,10 +1,10 @@
 use Rattle.std.proofs.Common.{[]}
 use Rattle.tcc_txn.specs.declared.limits.TheConstants.{MAX_SESSIONS}
 use Rattle.tcc_reads.specs.Sources.{history}
-use Rattle.tcc_cycle.proofs.BoundLemmas.{cycle_bounded, few_links, walks_few}
-use Rattle.tcc_cycle.proofs.SessionLemmas.{history_placed}
-use Rattle.tcc_cycle.proofs.LargestCycle.{few_derived, largest}
-use Rattle.tcc_cycle.proofs.laws.bounded.Goals as goal
+use Rattle.tcc_core.proofs.BoundLemmas.{cycle_bounded, few_links, walks_few}
+use Rattle.tcc_core.proofs.SessionLemmas.{history_placed}
+use Rattle.tcc_core.proofs.LargestCycle.{few_derived, largest}
+use Rattle.tcc_core.proofs.laws.bounded.Goals as goal
 use Rattle.tcc_graph.specs.Levels.{judged}
 
 pub returns-clause-transactions : goal.returns-clause-transactions

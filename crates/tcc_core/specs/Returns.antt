@@ -6,7 +6,7 @@ use Rattle.tcc_graph.specs.Links.{cost}
 use Rattle.tcc_graph.specs.Routes.{IsLeastCycle, IsDistance}
 use Rattle.tcc_graph.specs.declared.link.Link.{Link}
 use Rattle.tcc_core.specs.Shares.{IsCappedDistance}
-use Rattle.tcc_cycle.specs.declared.first_return.FirstReturn.{FirstReturn}
+use Rattle.tcc_core.specs.declared.first_return.FirstReturn.{FirstReturn}
 
 -- what it costs to come to v from the start upward, as the row has it
 abbrev pub come_to : FirstReturn → ℕ → Option ℕ

@@ -1,7 +1,7 @@
-use Rattle.tcc_cycle.proofs.PickedLemmas.{picked_from_first, first_from_picked, one_first}
-use Rattle.tcc_cycle.proofs.PartLemmas.{first_walk}
-use Rattle.tcc_cycle.proofs.WalkLemmas as walks
-use Rattle.tcc_cycle.proofs.laws.picked.Goals as goal
+use Rattle.tcc_core.proofs.PickedLemmas.{picked_from_first, first_from_picked, one_first}
+use Rattle.tcc_core.proofs.PartLemmas.{first_walk}
+use Rattle.tcc_core.proofs.WalkLemmas as walks
+use Rattle.tcc_core.proofs.laws.picked.Goals as goal
 
 pub returns-clause-first : goal.returns-clause-first
 returns-clause-first c = λ h s links. (picked_from_first h s links, first_from_picked h s links)

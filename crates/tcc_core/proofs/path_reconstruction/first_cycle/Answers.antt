@@ -1,8 +1,8 @@
 use Rattle.std.proofs.Common.{◌≡◌, length, arith}
 use Rattle.tcc_reads.specs.History.{count}
 use Rattle.tcc_graph.proofs.Linking.{some_cost}
-use Rattle.tcc_cycle.proofs.WayLemmas.{under_way, left_of, never_stuck, one_more, all_picked, all_paid}
-use Rattle.tcc_cycle.proofs.path_reconstruction.first_cycle.Goals as goal
+use Rattle.tcc_core.proofs.WayLemmas.{under_way, left_of, never_stuck, one_more, all_picked, all_paid}
+use Rattle.tcc_core.proofs.path_reconstruction.first_cycle.Goals as goal
 
 pub unreachable-requires : goal.unreachable-requires
 unreachable-requires c =

@@ -1,7 +1,7 @@
 use Rattle.std.proofs.Common.{sym}
 use Rattle.std.proofs.lemmas.Result.{IfOk-weaker}
-use Rattle.tcc_cycle.proofs.LinkChoiceLemmas.{reads_first, reason_first}
-use Rattle.tcc_cycle.proofs.path_reconstruction.first_link.Goals as goal
+use Rattle.tcc_core.proofs.LinkChoiceLemmas.{reads_first, reason_first}
+use Rattle.tcc_core.proofs.path_reconstruction.first_link.Goals as goal
 use Rattle.tcc_graph.specs.Levels.{judged}
 
 pub returns-in-Some : goal.returns-in-Some
