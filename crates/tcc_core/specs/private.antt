@@ -8,3 +8,5 @@ pub mod Offers
 pub mod Marked
 pub mod Levels
 pub mod Ways
+pub mod Fitting
+pub mod Making

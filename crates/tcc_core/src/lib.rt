@@ -4,6 +4,8 @@
 
 mod again;
 mod bucket_queue;
+mod desk;
+mod event;
 mod first_return;
 mod frontier;
 pub mod laws;
@@ -15,9 +17,13 @@ mod relaxing;
 mod search;
 mod seeding;
 mod settled;
+mod stage;
+mod world;
 
+pub use event::{Event, RunFault, StepFault};
 pub use first_return::FirstReturn;
 pub use path_reconstruction::first_cycle;
 pub use search::Search;
 pub use seeding::seed;
 pub use settled::Settled;
+pub use world::World;
