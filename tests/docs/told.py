@@ -70,8 +70,8 @@ HELD = {
     "docs/HEADLINE.md": ("`Workers`, a type of 1 to {MAX_WORKERS}",),
     "docs/GLOSSARY.md": ("without `--large`: {MAX_SESSIONS} sessions, {MAX_TRANSACTIONS} transactions,",),
     "docs/MODEL.md": ("more than {MAX_TRANSACTIONS} transactions, or those of more than {MAX_SESSIONS} sessions",),
-    "crates/tcc_words/src/command_line.rt": ("so many workers, 1 to {!MAX_WORKERS};",),
-    "crates/tcc_words/src/help.rt": (
+    "crates/tcc_cli/src/command_line.rt": ("so many workers, 1 to {!MAX_WORKERS};",),
+    "crates/tcc_cli/src/help.rt": (
         "1 to {!MAX_NAME_BYTES} of A-Z",
         "up to {!LARGE_TRANSACTIONS} transactions, {!LARGE_SESSIONS} sessions and {!LARGE_KEYS} keys, in place of\n"
         "{!MAX_TRANSACTIONS}, {!MAX_SESSIONS} and {!MAX_KEYS}",
@@ -155,7 +155,7 @@ def faults_of_kinds() -> Iterator[Outcome]:
 def faults_of_help() -> Iterator[Outcome]:
     """Whether help has each status that explain and check can end with, and no other."""
     wanted = {code for code, _ in statuses()}
-    shown = re.findall(r"^  (\d+)  +\S", source("tcc_words/src/help.rt"), re.MULTILINE)
+    shown = re.findall(r"^  (\d+)  +\S", source("tcc_cli/src/help.rt"), re.MULTILINE)
     yield "statuses of help", None if {int(one) for one in shown} == wanted else "they aren't those of status.rt"
 
 
