@@ -1,7 +1,7 @@
 use Rattle.std.proofs.Common.{subst}
 use Rattle.tcc_derive.specs.Prices.{IsPricesOf}
 use Rattle.tcc_graph.specs.Levels.{judged}
-use Rattle.tcc_tests_steal.proofs.workers.seeded.Goals as goal
+use Rattle.tcc_tests_search.proofs.tests.workers.seeded.Goals as goal
 
 pub seed-seed-requires : goal.seed-seed-requires
 seed-seed-requires g c = (

@@ -1,5 +1,5 @@
 //! Certificates judged as their text comes: faults of the text, a reader that fails, and rules broken before either.
-use crate::worked::{STALE, TWO, graph_of};
+use crate::check::worked::{STALE, TWO, graph_of};
 use std::alloc::Global;
 use std::io::{self, ErrorKind, Read};
 use std::process::Abort;

@@ -1,5 +1,5 @@
 //! Worked certificates, accepted and altered, with verdicts worked out by hand from the rules.
-use crate::worked::{
+use crate::check::worked::{
     ABORTED, CROSSED, DISTANT, FORKED, LONGER, RELAYED, STALE, TORN, TWO, graph_of,
 };
 use std::alloc::{AllocError, Global};
