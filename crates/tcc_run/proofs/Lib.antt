@@ -6,3 +6,4 @@ pub mod OneRun
 pub mod Runs
 pub mod Explains
 pub mod Earlier
+mod SoFar

@@ -3,4 +3,5 @@ pub mod HeadlineRuns
 pub mod Interleaved
 pub mod Runs
 pub mod Closing
+pub mod Audited
 pub mod private

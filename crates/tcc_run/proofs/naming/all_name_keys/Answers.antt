@@ -1,7 +1,7 @@
 use Rattle.std.proofs.Common.{All, subst}
 use Rattle.tcc_explain.specs.Keys.{NamesKey, NamesKeys}
-use Rattle.tcc_audit.proofs.SoFar.{all_next}
-use Rattle.tcc_audit.proofs.naming.all_name_keys.Goals as goal
+use Rattle.tcc_run.proofs.SoFar.{all_next}
+use Rattle.tcc_run.proofs.naming.all_name_keys.Goals as goal
 
 pub loop-txn-preserved : goal.loop-txn-preserved
 loop-txn-preserved c =

@@ -1,6 +1,6 @@
 use Rattle.std.proofs.Common.{All, take}
 use Rattle.tcc_explain.specs.Keys.{NamesKey}
-use Rattle.tcc_audit.proofs.naming.names_keys.Given as goal
+use Rattle.tcc_run.proofs.naming.names_keys.Given as goal
 
 -- the keys so far are names
 abbrev pub invariant-loop-op : goal.invariant-loop-op

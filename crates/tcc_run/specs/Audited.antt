@@ -8,8 +8,8 @@ use Rattle.tcc_answer.specs.Claims.{certificate_of}
 use Rattle.tcc_explain.specs.Explained.{IsAnswerOfSnapshot}
 use Rattle.tcc_reads.specs.Refusals.{IsRefusal}
 use Rattle.tcc_answer.specs.declared.answer.Answer.{Answer}
-use Rattle.tcc_audit.specs.declared.fault.AuditFault.{AuditFault}
-use Rattle.tcc_audit.specs.declared.fault.AuditFault.TheVariants as fault
+use Rattle.tcc_run.specs.declared.audit_fault.AuditFault.{AuditFault}
+use Rattle.tcc_run.specs.declared.audit_fault.AuditFault.TheVariants as fault
 
 -- the first answer at the level for the map from the passes' names to what each recorded;
 -- or why the book has no snapshot of exactly that; or why that has no answer

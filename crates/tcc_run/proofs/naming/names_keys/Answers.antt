@@ -1,6 +1,6 @@
 use Rattle.tcc_explain.specs.Keys.{NamesKey}
-use Rattle.tcc_audit.proofs.SoFar.{all_next}
-use Rattle.tcc_audit.proofs.naming.names_keys.Goals as goal
+use Rattle.tcc_run.proofs.SoFar.{all_next}
+use Rattle.tcc_run.proofs.naming.names_keys.Goals as goal
 
 pub loop-op-preserved : goal.loop-op-preserved
 loop-op-preserved c =

@@ -1,16 +1,16 @@
 //! The answer for a book.
 ghost use Rattle.std.specs.Prelude.{IfOk};
-ghost use Rattle.tcc_audit.specs.Audited.{IsAudit, IsReadBack};
+ghost use Rattle.tcc_run.specs.Audited.{IsAudit, IsReadBack};
 
-use crate::fault::AuditFault;
+use crate::audit_fault::AuditFault;
 use crate::naming::names;
 use std::alloc::Global;
 use std::sync::Wait;
 use std::thread::Threads;
 use tcc_answer::Answer;
 use tcc_book::{Book, Pass};
-use tcc_explain::laws::written;
 use tcc_explain::{Gate, Workers, explain};
+use tcc_explain::laws::written;
 use tcc_graph::Level;
 
 /// The first answer, at a level, for exactly what the passes recorded, where they are those of all sessions of the book;
