@@ -49,7 +49,7 @@ CLAIMS = (
           (("tcc_run/src/laws.rt", "headline"),)),
     Claim("check-large", "What an accepted certificate of any size shows",
           "The rules of version 3, and what holds of every history for which a certificate keeps them.",
-          (("tcc_large_check/src/laws.rt", "accepted"),)),
+          (("tcc_verdict/src/large/laws.rt", "accepted"),)),
     Claim("large", "What `tcc explain --large` prints",
           "The main theorem of a run with `--large`, of records up to the large limits.",
           (("tcc_large_run/src/laws.rt", "headline"),)),

@@ -10,7 +10,7 @@ use Rattle.tcc_print.specs.Printed.{Prints, device_line, memory_line}
 use Rattle.tcc_cli.specs.Opened.{IsAside}
 use Rattle.tcc_verdict.specs.Checking.{IsCheckRunBy, PrintsOutcome}
 use Rattle.tcc_verdict.specs.Checks.{IsCheckRun, PrintsSome}
-use Rattle.tcc_large_check.specs.LargeChecks.{large_check}
+use Rattle.tcc_verdict.specs.LargeChecks.{large_check}
 
 -- the line for the device, or the one that says that memory is out
 abbrev pub unopened_text : Bool → ErrorKind → List ℕ

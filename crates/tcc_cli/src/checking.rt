@@ -10,8 +10,7 @@ use crate::telling::Telling;
 use std::alloc::Global;
 use std::fs::File;
 use std::io::{self, Read, Write};
-use tcc_large_check::run_check_large;
-use tcc_verdict::run_check;
+use tcc_verdict::{run_check, run_check_large};
 
 /// Opens both files, the history before the certificate: the first is that of the history.
 pub fn open_both<'a>(

@@ -41,13 +41,13 @@ use Rattle.tcc_explain.proofs.WrittenAnswer.{read_back}
 use Rattle.tcc_judge.specs.Verdicts.{rules_of}
 use Rattle.tcc_judge.specs.declared.verdict.Rule.{Rule}
 use Rattle.tcc_judge.proofs.Followed.{own_order}
-use Rattle.tcc_large_check.specs.LargeChecks.{IsLargeShown, IsLargeTextCheck, IsTrueLargeClaim, IsVerdictFor, large_check, large_claim_of}
-use Rattle.tcc_large_check.specs.LargeTexts.{large_status, large_verdict_text}
-use Rattle.tcc_large_check.specs.declared.judgement.LargeClaim.{LargeClaim}
-use Rattle.tcc_large_check.specs.declared.judgement.LargeJudgement.{LargeJudgement}
-use Rattle.tcc_large_check.specs.declared.judgement.LargeJudgement.TheVariants.{Small, Large}
-use Rattle.tcc_large_check.proofs.LargeShown as check
-use Rattle.tcc_large_check.proofs.Owned.{owned}
+use Rattle.tcc_verdict.specs.LargeChecks.{IsLargeShown, IsLargeTextCheck, IsTrueLargeClaim, IsVerdictFor, large_check, large_claim_of}
+use Rattle.tcc_verdict.specs.LargeTexts.{large_status, large_verdict_text}
+use Rattle.tcc_verdict.specs.declared.large.judgement.LargeClaim.{LargeClaim}
+use Rattle.tcc_verdict.specs.declared.large.judgement.LargeJudgement.{LargeJudgement}
+use Rattle.tcc_verdict.specs.declared.large.judgement.LargeJudgement.TheVariants.{Small, Large}
+use Rattle.tcc_verdict.proofs.LargeShown as check
+use Rattle.tcc_verdict.proofs.Owned.{owned}
 use Rattle.tcc_print.specs.Courses.{Said}
 use Rattle.tcc_print.specs.Printed.{Prints}
 use Rattle.tcc_print.specs.Statuses.{certificate_status, code_of, row_status}

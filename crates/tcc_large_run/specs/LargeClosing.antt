@@ -15,10 +15,10 @@ use Rattle.tcc_check.specs.declared.verdict.Verdict.TheVariants as verdict
 use Rattle.tcc_answer.specs.Claims.{certificate_of}
 use Rattle.tcc_answer.specs.declared.answer.Answer.{Answer}
 use Rattle.tcc_explain.specs.Explained.{IsAnswerOfHistory}
-use Rattle.tcc_large_check.specs.LargeChecks.{IsLargeShown, large_check, large_claim_of}
-use Rattle.tcc_large_check.specs.LargeTexts.{large_verdict_text}
-use Rattle.tcc_large_check.specs.declared.judgement.LargeJudgement.{LargeJudgement}
-use Rattle.tcc_large_check.specs.declared.judgement.LargeJudgement.TheVariants.{Small, Large}
+use Rattle.tcc_verdict.specs.LargeChecks.{IsLargeShown, large_check, large_claim_of}
+use Rattle.tcc_verdict.specs.LargeTexts.{large_verdict_text}
+use Rattle.tcc_verdict.specs.declared.large.judgement.LargeJudgement.{LargeJudgement}
+use Rattle.tcc_verdict.specs.declared.large.judgement.LargeJudgement.TheVariants.{Small, Large}
 use Rattle.tcc_print.specs.Courses.{Gains, Said}
 use Rattle.tcc_print.specs.Statuses.{code_of}
 use Rattle.tcc_print.specs.declared.halt.Halt.{Halt}

@@ -16,9 +16,9 @@ use tcc_check::laws::certified;
 use tcc_explain::laws::one_answer;
 use tcc_graph::LargeGraph;
 use tcc_judge::laws::{kept, own_cycle, own_order, own_short};
-use tcc_large_check::laws::accepted;
 use tcc_rows::laws::finished_is_snapshot;
 use tcc_run::laws::one_run;
+use tcc_verdict::large::laws::accepted;
 
 /// Whatever a run says of a large history, its certificate is the text of a claim that keeps all rules: so the verdict on it is
 /// `Accepted`, and no other.

@@ -20,7 +20,7 @@ use Rattle.tcc_check.specs.declared.verdict.Verdict.TheVariants as verdict
 use Rattle.tcc_judge.specs.Claims.{cycle_claim_of, short_claim_of}
 use Rattle.tcc_judge.specs.Verdicts.{cycle_rules, rules_of}
 use Rattle.tcc_judge.specs.declared.verdict.Rule.{Rule}
-use Rattle.tcc_large_check.specs.LargeChecks.{IsTrueLargeClaim}
+use Rattle.tcc_verdict.specs.LargeChecks.{IsTrueLargeClaim}
 
 pub record Laws : Type 0 where
   pub true_small : (h : History) (k : Certificate) → Certifies h k → IsTrueClaim h k
