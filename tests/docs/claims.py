@@ -52,7 +52,7 @@ CLAIMS = (
           (("tcc_verdict/src/large/laws.rt", "accepted"),)),
     Claim("large", "What `tcc explain --large` prints",
           "The main theorem of a run with `--large`, of records up to the large limits.",
-          (("tcc_large_run/src/laws.rt", "headline"),)),
+          (("tcc_run/src/large/laws.rt", "headline"),)),
     Claim("survey", "What `tcc survey` prints",
           "What a run of the survey says of the bytes that it reads and writes.",
           (("tcc_survey_run/src/running.rt", "run_survey"), ("tcc_survey_run/src/running.rt", "run_survey_watched"))),

@@ -4,4 +4,6 @@ pub mod Interleaved
 pub mod Runs
 pub mod Closing
 pub mod Audited
+pub mod LargeClosing
+pub mod LargeRuns
 pub mod private
