@@ -11,7 +11,10 @@ use std::sync::Wait;
 use std::thread::{self, Threads};
 use std::time::Clock;
 use tcc_base::Workers;
-use tcc_cli::{VERSION, Apart, Quiet, RecordInput, Request, Telling, are_waited_for, check_files, exit_code, is_waited_for, open_both, open_input, open_output, open_outputs, print_unopened, read, size_of};
+use tcc_cli::{
+    Apart, Quiet, RecordInput, Request, Telling, VERSION, are_waited_for, check_files, exit_code,
+    is_waited_for, open_both, open_input, open_output, open_outputs, print_unopened, read, size_of,
+};
 use tcc_full::{Asked, Limits, RunContext, run_full, tell_unread};
 use tcc_run::{OpenGate, Options, run_explain, run_large};
 use tcc_survey_run::{SurveyOptions, run_survey, run_survey_watched};

@@ -8,16 +8,16 @@ ghost use Rattle.tcc_base.specs.declared.workers.TheConstants.{MAX_WORKERS};
 ghost use Rattle.tcc_cli.specs.CommandLines.{Asks, AsksBy, AsksExplain, AsksFiles, AsksSurvey, AsksWatch, EndsUnasked, GoesTogether, IsAsked, IsFlag, IsInput, IsRequired, WasAsked, IsLevel, IsWorkers, PrintsHelp, SaysWorkers, certificate_option, check_command, explain_command, flag, flag_text, level_option, level_text, level_word, option_text, history_path, require_option, required_text, slice_option, survey_command, watch_command, path, path_option, tcc_command, valued_option, workers_option, workers_text};
 
 use crate::help;
-use clap::{Arg, ArgAction, ArgMatches, Command, Error};
 use clap::builder::ValueParser;
 use clap::error::ErrorKind;
+use clap::{Arg, ArgAction, ArgMatches, Command, Error};
 use std::alloc::{AllocError, Global};
 use std::env;
 use std::io::{self, Write};
 use tcc_base::{MAX_WORKERS, Workers};
 use tcc_graph::Level;
-use tcc_print::{Options, Status};
 use tcc_print::printing::{print_memory, print_text};
+use tcc_print::{Options, Status};
 
 /// What the program is asked to do.
 #[derive(Drop)]

@@ -9,8 +9,8 @@ use std::sync::Wait;
 use std::thread::Threads;
 use tcc_answer::Answer;
 use tcc_book::{Book, Pass};
-use tcc_explain::{Gate, Workers, explain};
 use tcc_explain::laws::written;
+use tcc_explain::{Gate, Workers, explain};
 use tcc_graph::Level;
 
 /// The first answer, at a level, for exactly what the passes recorded, where they are those of all sessions of the book;

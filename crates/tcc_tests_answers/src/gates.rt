@@ -3,11 +3,11 @@
 use crate::answers::{OWN_TEXT, answer_of, text_of, workers_of};
 use crate::books::{opened, recorder};
 use std::alloc::Global;
-use std::{io, thread};
 use std::process::Abort;
 use std::sync::Wait;
 use std::sync::atomic::{AtomicU64, Ordering};
 use std::thread::Threads;
+use std::{io, thread};
 use tcc_answer::Answer;
 use tcc_book::Book;
 use tcc_explain::{Workers, explain, explain_next};

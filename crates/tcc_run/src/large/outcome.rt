@@ -18,9 +18,9 @@ use tcc_cert::{LargeCertificate, Links, Numbers, Table, order_claim};
 use tcc_explain::Gate;
 use tcc_graph::{LargeGraph, Level, Link};
 use tcc_order::laws::order_or_cycle;
-use tcc_print::{Options, RunContext, Statement, Status};
 use tcc_print::printing::{send_answer, send_unresolved};
 use tcc_print::status::answer_status;
+use tcc_print::{Options, RunContext, Statement, Status};
 use tcc_reads::ReadFault;
 use tcc_txn::{LargeSnapshot, NoMemory};
 

@@ -1,4 +1,4 @@
-//! From the bytes of records to their answers: at each seal, and at the end.
+//! From the bytes of records to their answers with `--large`: at each seal, and at the end.
 ghost use Rattle.std.specs.Prelude.{◌≡◌, ℕ, List, [], None, Some, IfErr, IfOk, IfSome, MatchResult, OnOk, option_map};
 ghost use Rattle.tcc_rows.specs.{Ahead.fault_met, Answers.Answers, Answers.answers_to, Lines.Record, Reached.IsWithin, declared.rows.Item.Item};
 ghost use Rattle.tcc_rows.specs.Recordings.{FailsBehind, IsRecording, TakesMoment, after_items};
@@ -16,9 +16,9 @@ use std::io::{Read, Write};
 use std::thread::Threads;
 use tcc_base::send;
 use tcc_graph::Link;
-use tcc_print::{Last, Options, RunContext, again, say_again, say_anew};
 use tcc_print::notes::{note_last, note_no_slice};
 use tcc_print::printing::{print_device, print_endless, print_memory};
+use tcc_print::{Last, Options, RunContext, again, say_again, say_anew};
 use tcc_rows::{LargeRecording, Moment, RowFault, RowFaultKind};
 use tcc_txn::{LargeSnapshot, NoMemory};
 use tcc_verdict::stop;

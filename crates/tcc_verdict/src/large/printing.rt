@@ -8,9 +8,9 @@ use std::alloc::Global;
 use std::io::Write;
 use tcc_check::Claim;
 use tcc_judge::Verdict;
-use tcc_print::{Halt, Status, accepted_text, rejected_text, verdict_text};
 use tcc_print::printing::{print_halt, print_memory, print_text};
 use tcc_print::status::verdict_status;
+use tcc_print::{Halt, Status, accepted_text, rejected_text, verdict_text};
 use tcc_txn::NoMemory;
 
 /// The line of a claim of version 3 that was accepted.
