@@ -31,18 +31,18 @@ FAULT = re.compile(r"(Row|Cert)FaultKind::(\w+)[^=]*=> Told::new\(\"\w+\", Statu
 QUOTED = re.compile(r"`([^`]+)`")
 LIMITS = ("{MAX_SESSIONS} sessions, {MAX_TRANSACTIONS} transactions%s of {MAX_OPERATIONS} operations%s, {MAX_KEYS} keys, "
           "{MAX_SEALS} seals%s {MAX_INPUT_BYTES} bytes")
-LARGE = "{LARGE_SESSIONS} sessions, {LARGE_TRANSACTIONS} transactions, {LARGE_KEYS} keys%s {LARGE_INPUT_BYTES} bytes"
+LARGE = "{LARGE_SESSIONS} sessions, {LARGE_TRANSACTIONS} transactions, {LARGE_KEYS} keys, {LARGE_SEALS} seals%s {LARGE_INPUT_BYTES} bytes"
 IN_GUIDE = """| of a history, at most | by default | with `--large` |
 |---|---|---|
 | sessions | {MAX_SESSIONS} | {LARGE_SESSIONS} |
 | transactions, aborted ones counted | {MAX_TRANSACTIONS} | {LARGE_TRANSACTIONS} |
 | operations of a transaction | {MAX_OPERATIONS} | {MAX_OPERATIONS} |
 | keys | {MAX_KEYS} | {LARGE_KEYS} |
-| seals | {MAX_SEALS} | {MAX_SEALS} |
+| seals | {MAX_SEALS} | {LARGE_SEALS} |
 | bytes | {MAX_INPUT_BYTES} | {LARGE_INPUT_BYTES} |
 """
 IN_PAGE = (".SH LIMITS\n" + LIMITS % (", aborted ones counted,", " each", ",") + ".\n.PP\nWith \\fB\\-\\-large\\fR " + LARGE % ","
-           + "; as many operations and seals.\n")
+           + "; as many operations.\n")
 HELD = {
     "README.md": ("up to {MAX_SESSIONS} sessions and {MAX_TRANSACTIONS} transactions, or {LARGE_SESSIONS} and 16 million with `--large`",),
     "docs/GUIDE.md": (
@@ -64,7 +64,7 @@ HELD = {
         "| TooManySeals | `seal` number {MAX_SEALS+1} |",
         "gave more than {MAX_INPUT_BYTES} bytes",
         "TooManySessions at a {LARGE_SESSIONS+1}th session, TooManyTransactions at transaction {LARGE_TRANSACTIONS+1}, TooManyKeys "
-        "at a {LARGE_KEYS+1}th key, and Read after {LARGE_INPUT_BYTES} bytes",
+        "at a {LARGE_KEYS+1}th key, TooManySeals at `seal` number {LARGE_SEALS+1}, and Read after {LARGE_INPUT_BYTES} bytes",
         "but a {MAX_SEALS+1}th is TooManySeals"),
     "docs/tcc.1": ("names: 1 to {MAX_NAME_BYTES} bytes", "N threads, 1 to {MAX_WORKERS}, search"),
     "docs/HEADLINE.md": ("`Workers`, a type of 1 to {MAX_WORKERS}",),
