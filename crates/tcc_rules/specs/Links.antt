@@ -5,8 +5,8 @@ use Rattle.tcc_graph.specs.Levels.{Judged}
 use Rattle.tcc_graph.specs.Links.{cost, link_from}
 use Rattle.tcc_graph.specs.declared.link.Link.{Link}
 use Rattle.tcc_cert.specs.CycleRules.{IsWrongFrom, ends_at}
-use Rattle.tcc_check.specs.declared.links.LinksJudge.{LinksJudge}
-use Rattle.tcc_check.specs.declared.links.LinksSeen.{LinksSeen}
+use Rattle.tcc_rules.specs.declared.links.LinksJudge.{LinksJudge}
+use Rattle.tcc_rules.specs.declared.links.LinksSeen.{LinksSeen}
 
 -- the first link that is wrong, from 1
 pub record IsFirstWrongFrom (j : Judged) (from : ℕ) (links : List Link) (i : ℕ) : Type 0 where

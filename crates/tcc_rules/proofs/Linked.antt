@@ -11,8 +11,8 @@ use Rattle.tcc_graph.specs.declared.link.Link.{Link}
 use Rattle.tcc_graph.proofs.Linking.{cost_append, one_cost}
 use Rattle.tcc_cert.specs.CycleRules.{AreLinksRight, IsLinkRight, IsLinksFault, IsLinkWrong, IsWrongFrom, ends_at}
 use Rattle.tcc_cert.proofs.Ends.{ends_at-push, ends_at_some}
-use Rattle.tcc_check.specs.declared.links.LinksSeen.{LinksSeen}
-use Rattle.tcc_check.specs.Links.{AreSeenTo, IsFirstWrongFrom, begins_at, ends_or, first_wrong, left_behind}
+use Rattle.tcc_rules.specs.declared.links.LinksSeen.{LinksSeen}
+use Rattle.tcc_rules.specs.Links.{AreSeenTo, IsFirstWrongFrom, begins_at, ends_or, first_wrong, left_behind}
 
 -- ---- the next link
 

@@ -1,8 +1,8 @@
 -- Where the first begins and the last ends, the first wrong one, and what is left of the cost.
 use Rattle.std.proofs.Common.{◌∙◌, arith, sym}
 use Rattle.std.proofs.lemmas.Bool.{iff_false}
-use Rattle.tcc_check.proofs.Linked.{fault_cost, fault_open, fault_wrong, right_links, used_up, where_ends, whole_cost}
-use Rattle.tcc_check.proofs.links.broken_at.Goals as goal
+use Rattle.tcc_rules.proofs.Linked.{fault_cost, fault_open, fault_wrong, right_links, used_up, where_ends, whole_cost}
+use Rattle.tcc_rules.proofs.links.broken_at.Goals as goal
 
 pub returns-then-begin-end : goal.returns-then-begin-end
 returns-then-begin-end c j most links so_far =

@@ -4,9 +4,9 @@ use Rattle.std.specs.Prelude.{IsTrue}
 use Rattle.tcc_graph.specs.Levels.{Judged, judged}
 use Rattle.tcc_graph.specs.Links.{link_from}
 use Rattle.tcc_cert.specs.CycleRules.{IsLinkRight}
-use Rattle.tcc_check.specs.Links.{ends_or}
-use Rattle.tcc_check.proofs.Linked.{seen_next}
-use Rattle.tcc_check.proofs.links.with_link.Goals as goal
+use Rattle.tcc_rules.specs.Links.{ends_or}
+use Rattle.tcc_rules.proofs.Linked.{seen_next}
+use Rattle.tcc_rules.proofs.links.with_link.Goals as goal
 
 pub returns : goal.returns
 returns c least i links number inside is so_far =

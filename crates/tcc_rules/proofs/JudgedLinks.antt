@@ -6,10 +6,10 @@ use Rattle.std.proofs.lemmas.List.{get_or_at}
 use Rattle.tcc_graph.specs.Levels.{Judged}
 use Rattle.tcc_graph.specs.Links.{cost}
 use Rattle.tcc_graph.specs.declared.link.Link.{Link}
-use Rattle.tcc_check.specs.Links.{AreJudged, AreSeenTo}
-use Rattle.tcc_check.specs.declared.links.LinksJudge.{LinksJudge}
-use Rattle.tcc_check.specs.declared.links.LinksSeen.{LinksSeen}
-use Rattle.tcc_check.proofs.Linked.{take_whole}
+use Rattle.tcc_rules.specs.Links.{AreJudged, AreSeenTo}
+use Rattle.tcc_rules.specs.declared.links.LinksJudge.{LinksJudge}
+use Rattle.tcc_rules.specs.declared.links.LinksSeen.{LinksSeen}
+use Rattle.tcc_rules.proofs.Linked.{take_whole}
 
 -- one more
 pub judged_more : (j : Judged) (most : ℕ) (links : List Link) (l : Link) (old : LinksJudge) (number : ℕ) (seen : LinksSeen) → AreJudged j most links old

@@ -1,7 +1,7 @@
 -- All links were seen.
 use Rattle.std.proofs.Common.{◌≡◌, ℕ, length, subst, arith}
-use Rattle.tcc_check.specs.Links.{AreSeenTo}
-use Rattle.tcc_check.proofs.links.first_wrong_link.Goals as goal
+use Rattle.tcc_rules.specs.Links.{AreSeenTo}
+use Rattle.tcc_rules.proofs.links.first_wrong_link.Goals as goal
 use Rattle.tcc_graph.specs.Levels.{Judged, judged}
 
 pub loop-before-init : goal.loop-before-init

@@ -6,7 +6,7 @@ use Rattle.tcc_graph.specs.Routes.{IsCycle, LinksLead}
 use Rattle.tcc_graph.specs.declared.link.Link.{Link}
 use Rattle.tcc_cert.specs.CycleRules.{AreLinksRight, IsLinkRight, ends_at}
 use Rattle.tcc_cert.proofs.Ends.{ends_at-push, ends_at_some}
-use Rattle.tcc_check.proofs.Decisions.{link_right, true_at_last}
+use Rattle.tcc_rules.proofs.Decisions.{link_right, true_at_last}
 
 module _ (j : Judged) (most : ℕ) (links : List Link) (good : AreLinksRight j most links) where
   -- each link right, the links lead on from where those before them end

@@ -1,7 +1,7 @@
 //! Why a certificate could not be judged as its text came.
 ghost use Rattle.std.specs.Prelude.{◌≡◌};
-ghost use Rattle.tcc_check.specs.private.Coming.{fault_of};
-ghost use Rattle.tcc_check.specs.declared.stream_fault.StreamFault.TheVariants as fault;
+ghost use Rattle.tcc_rules.specs.private.Faults.{fault_of};
+ghost use Rattle.tcc_rules.specs.declared.stream_fault.StreamFault.TheVariants as fault;
 
 use std::alloc::AllocFailed;
 use tcc_cert::{CertFault, CertFaultKind};

@@ -5,8 +5,8 @@ use Rattle.tcc_graph.specs.declared.link.Link.{Link}
 use Rattle.tcc_cert.specs.CycleRules.{AreLinksRight, IsLinksFault}
 use Rattle.tcc_cert.specs.Rules.{HoldsEverywhere}
 use Rattle.tcc_cert.specs.Tables.{IsFirstAt}
-use Rattle.tcc_check.specs.declared.verdict.Verdict.{Verdict}
-use Rattle.tcc_check.specs.declared.verdict.Verdict.TheVariants as verdict
+use Rattle.tcc_rules.specs.declared.verdict.Verdict.{Verdict}
+use Rattle.tcc_rules.specs.declared.verdict.Verdict.TheVariants as verdict
 
 -- a rule asked of a claim: that it holds, and what is named where it does not
 pub record Asked (R : Type 0) : Type 1 where

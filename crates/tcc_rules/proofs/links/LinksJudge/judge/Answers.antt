@@ -1,6 +1,6 @@
 use Rattle.tcc_graph.specs.Levels.{judged}
-use Rattle.tcc_check.proofs.JudgedLinks.{judged_more}
-use Rattle.tcc_check.proofs.links.LinksJudge.judge.Goals as goal
+use Rattle.tcc_rules.proofs.JudgedLinks.{judged_more}
+use Rattle.tcc_rules.proofs.links.LinksJudge.judge.Goals as goal
 
 pub returns : goal.returns
 returns c most links so_far =

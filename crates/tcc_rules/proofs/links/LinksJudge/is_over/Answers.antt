@@ -1,5 +1,5 @@
-use Rattle.tcc_check.proofs.JudgedLinks.{cost_over, cost_within}
-use Rattle.tcc_check.proofs.links.LinksJudge.is_over.Goals as goal
+use Rattle.tcc_rules.proofs.JudgedLinks.{cost_over, cost_within}
+use Rattle.tcc_rules.proofs.links.LinksJudge.is_over.Goals as goal
 
 pub returns-in-Some : goal.returns-in-Some
 returns-in-Some c j most links is = cost_within j most links c.args.self.now is c.in-Some.is
