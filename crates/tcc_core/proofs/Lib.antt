@@ -31,8 +31,3 @@ pub mod LargestCycle
 pub mod WalkLemmas
 pub mod LinkChoiceLemmas
 pub mod WayLemmas
-pub mod Counting
-pub mod Sharing
-pub mod Keeping
-pub mod Settling
-pub mod Machining
