@@ -18,7 +18,6 @@ pub use explain::run_explain;
 pub use headline::{explain_snapshot, explain_snapshot_next};
 pub use large::{Explained, Stage, Watcher, explain_large_snapshot, run_large};
 pub use naming::names;
-pub use outcome::first_answer;
 pub use tcc_explain::{Gate, OpenGate};
 pub use tcc_print::{Halt, Options, Status, json, printing, texts, verdict_text};
 pub use tcc_rules::{Claim, Judgement};

@@ -1,5 +1,5 @@
 -- What the rules say of the parts of a text that are still to come.
-use Rattle.std.specs.Prelude.{ℕ, ◌≡◌, ◌≢◌, ◌<◌, Bool, true, false, List, Option, None, Some, Result, Ok, Err, if◌then◌else◌}
+use Rattle.std.specs.Prelude.{ℕ, ◌≡◌, ◌≢◌, ◌<◌, Bool, true, false, List, Option, None, Some, Result, Ok, Err}
 use Rattle.tcc_cert.specs.Ahead.{IsAhead}
 use Rattle.tcc_cert.specs.private.Collecting.{EndsIn}
 use Rattle.tcc_cert.specs.Parts.{Parts, IsFirst}
@@ -7,7 +7,6 @@ use Rattle.tcc_reads.specs.History.{History}
 use Rattle.tcc_graph.specs.declared.level.Level.{Level}
 use Rattle.tcc_cert.specs.CycleRules.{BreaksNearPair, BreaksNearStep, BreaksFarLink, BreaksFarStep, BreaksReturn}
 use Rattle.tcc_cert.specs.Tables.{HasSize, HasFarSize, IsCapped, IsFirstAt}
-use Rattle.tcc_cert.specs.declared.fault.CertFault.{CertFault}
 use Rattle.tcc_cert.specs.declared.fault.CertFaultKind.TheVariants as kind
 use Rattle.tcc_cert.specs.declared.part.Part.{Part}
 use Rattle.tcc_cert.specs.declared.reading.parts.CertReader.{CertReader}
