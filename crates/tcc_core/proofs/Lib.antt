@@ -17,11 +17,6 @@ pub mod Kept
 pub mod Ending
 pub mod Rounds
 pub mod Worked
-pub mod Backwards
-pub mod CycleLemmas
-pub mod UpwardLemmas
-pub mod TieLemmas
-pub mod PickedLemmas
 pub mod PartLemmas
 pub mod Twice
 pub mod BoundLemmas

@@ -13,7 +13,7 @@ ghost use Rattle.tcc_txn.specs.{declared.limits.TheConstants.MAX_COUNT, declared
 ghost use Rattle.tcc_reads.specs.{History.count, Sources.history};
 ghost use Rattle.tcc_graph.specs.Ties.{IsFirstCycle, link_kind, link_walk};
 ghost use Rattle.tcc_derive.specs.Backwards.{IsFirstWalk};
-ghost use Rattle.tcc_core.specs.Picked.{IsPickedCycle, IsPickedWalk};
+ghost use Rattle.tcc_derive.specs.Picked.{IsPickedCycle, IsPickedWalk};
 
 /// Where shares settle at a word, the word is none exactly where there is no cycle, and else the cost of a least cycle;
 /// each row, capped at the word where there is one, is the capped distance over numbers from its start upward; and each

@@ -13,10 +13,10 @@ use Rattle.tcc_graph.specs.Ties.{link_cmp, cycle_cmp, IsFirstCycle}
 use Rattle.tcc_graph.specs.declared.link.Link.{Link}
 use Rattle.tcc_graph.proofs.Linking.{lead_split, lead_start, cost_around, some_cost}
 use Rattle.tcc_graph.proofs.Tied.{link_total}
-use Rattle.tcc_core.specs.Picked.{IsPickedCycle}
-use Rattle.tcc_core.proofs.Backwards.{Picks, Picks-at, Picks-from, Picks-first, first_picked, one_picked}
-use Rattle.tcc_core.proofs.CycleLemmas.{same_cost, turned}
-use Rattle.tcc_core.proofs.TieLemmas.{link_tied}
+use Rattle.tcc_derive.specs.Picked.{IsPickedCycle}
+use Rattle.tcc_derive.proofs.Backwards.{Picks, Picks-at, Picks-from, Picks-first, first_picked, one_picked}
+use Rattle.tcc_derive.proofs.CycleLemmas.{same_cost, turned}
+use Rattle.tcc_derive.proofs.TieLemmas.{link_tied}
 
 -- the links, from the last backwards, are a least cycle from s
 abbrev pub IsBack : Judged → ℕ → List Link → Type 0
