@@ -1,9 +1,10 @@
 //! How each contradicted read is usually called: the first name that fits any writer that contradicts it, and the least such writer.
 //! Block by block of sessions, along rows that say what each source reaches (`reverse_clocks`), the writers of a contradicted read's
 //! key are looked at. Where they are few, each is: that takes a step, and a look at its readers for one that contradicts the read and may
-//! have a closer name than that of a chain. Of W many, in each session the first that the source reaches is looked at, those that the
-//! reader reads from, and those from which anybody reads the key, up to the first that no later one can come before. That takes
-//! 64 log W steps, log W for each read of the reader, and log W for each of those writers that the reader's session knows by a chain alone.
+//! have a closer name than that of a chain. Of W many these are looked at: in each session the first that the source reaches, those that
+//! the reader reads from, and those from which anybody reads the key. The last go up to the first that no later one can come before. That
+//! takes 64 log W steps, log W for each read of the reader, and log W for each of those writers that the reader's session knows by a chain
+//! alone.
 ghost use Rattle.std.specs.Prelude.{◌≡◌, ◌<◌, ◌≤◌, ◌+◌, ◌++◌, ◌∷◌, ◌↔◌, [], ℕ, true, List, length, map, slice_index, Contains, IfOk, IsTrue, OnOk};
 ghost use Rattle.tcc_reads.specs.History.{count};
 ghost use Rattle.tcc_graph.specs.{Keys.key_at, Keys.writers, Levels.judged, Orders.IsNumbering};
@@ -36,8 +37,8 @@ use tcc_txn::NoMemory;
 /// Up to so many writers of a key are looked at one by one.
 const FEW: usize = 256;
 
-/// The first name by which a writer or a later one of its session may be called that somebody reads the key from, by the last of
-/// the session that the reader's session has read from.
+/// The first name that may fit a writer from which somebody reads the key, or a later one of its session. It goes by the last of the
+/// session that the reader's session has read from.
 fn reader_name(latest: u32, b: u32) -> UsualName
     ensures { (m : Called) → IsReaderFrom latest b m → rank result ≤ rank m.name }
 {
@@ -48,7 +49,7 @@ fn reader_name(latest: u32, b: u32) -> UsualName
     }
 }
 
-/// The number behind that of a transaction.
+/// The next number.
 fn following(graph: &LargeGraph, b: u32) -> u32
     requires { b < count graph.now }
     ensures { result ≡ b + 1 }
@@ -192,7 +193,7 @@ impl Calling<'_> {
     }
 
     /// The first of what the read is called so far, and of what it is called by the first writer of a session of the block that its
-    /// source reaches. By no later one of the session, unless somebody reads the key from that one or its reader reads from it.
+    /// source reaches. A later one of the session comes before that only where somebody reads the key from it, or the reader reads from it.
     fn with_first(&self, one: Called, among: &[u32], lane: usize) -> Called
         requires calling { IsCalling self.now }
         requires among { AreWritersIn self.now.knowledge.graph.now self.now.from (key_at self.now.knowledge.graph.now self.now.reading.key_index) among.now }
@@ -225,8 +226,8 @@ impl Calling<'_> {
         best.is_before(&Called { name, writer: b })
     }
 
-    /// The first of what the read is called so far, and of what it is called by the writers of a session of the block from which somebody
-    /// reads the key: one after the other, up to the first that no later one can come before.
+    /// The first of what the read is called so far, and of what it is called by some writers of a session of the block. These are the
+    /// ones from which somebody reads the key, up to the first that no later one can come before.
     fn with_reader(&self, one: Called, among: &[u32], lane: usize) -> Called
         requires calling { IsCalling self.now }
         requires among { AreWritersIn self.now.knowledge.graph.now self.now.from (key_at self.now.knowledge.graph.now self.now.reading.key_index) among.now }
