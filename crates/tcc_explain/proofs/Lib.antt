@@ -17,3 +17,4 @@ pub mod TabledWalks
 pub mod TabledRoutes
 pub mod TabledClocks
 pub mod TabledAnswer
+mod WorkedTables

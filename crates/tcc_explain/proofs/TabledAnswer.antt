@@ -104,10 +104,13 @@ module _ (h : History) where
 pub tabled : (j : Judged) (a : Answer) → IsBareAnswer j a → IsAnswerOfHistory j (with_tables j.history a)
 tabled j (answer.Commit c) (is, level, sessions, labels) =
     (is, level, sessions, labels, subst (λ (l : Level). IsClocksAt j.level j.history (clocks_for l j.history)) (sym level) (clocks_at j.history j.level))
-tabled j (answer.Anomaly a) (is, level, labels) =
-    (is, level, labels,
-      subst (λ (l : Level). IsNearTable j (cost a.links) (near_table (record { history = j.history; level = l }) (cost a.links))) (sym level) (near_is j (cost a.links)),
-      subst (λ (l : Level). IsFarTable j (cost a.links) (far_table (record { history = j.history; level = l }) (cost a.links))) (sym level) (far_is j (cost a.links)))
+tabled j (answer.Anomaly a) (is, level, labels) = (
+  is,
+  level,
+  labels,
+  subst (λ (l : Level). IsNearTable j (cost a.links) (near_table (record { history = j.history; level = l }) (cost a.links))) (sym level) (near_is j (cost a.links)),
+  subst (λ (l : Level). IsFarTable j (cost a.links) (far_table (record { history = j.history; level = l }) (cost a.links))) (sym level) (far_is j (cost a.links)),
+)
 
 pub bare : (j : Judged) (a : Answer) → IsAnswerOfHistory j a → IsBareAnswer j a
 bare j (answer.Commit c) (is, level, sessions, labels, clocks) = (is, level, sessions, labels)

@@ -63,7 +63,7 @@ link_is : (j : Judged) (l : Link) → IsLink j l → has_link j (link_cost l) (l
 link_is j (link.Session a b) is = or_left _ _ (pair_from_session j.history a b is)
 link_is j (link.Reads a b x) is = or_left _ _ (pair_from_reads j.history a b x is)
 link_is j (link.Derived b a x c walk) ((apart, (to, reader, read), (from, wrote)), is) =
-    or_right _ _ (any_of (λ c. may_contradict j.history b a c && has_walk j (link_cost (link.Derived b a x c walk) - 1) b c) (numbers j.history) c (number_in j.history c reader)
+    or_right _ _ (any_of (λ d. may_contradict j.history b a d && has_walk j (link_cost (link.Derived b a x c walk) - 1) b d) (numbers j.history) c (number_in j.history c reader)
     (and_from _ _
     (and_from _ _ (and_from _ _ (and_from _ _ (lt-ltb a (count j.history) to) (lt-ltb b (count j.history) from)) (not_equal b a apart))
     (any_of (λ x. writes j.history b x) (reads_from j.history a c) x read wrote))
@@ -88,8 +88,7 @@ links_by j s (suc k) n u v up e =
     let (l, from, to, is, costs) = link_by j q u w one in
     let above : s ≤ w = leb-true s w high in
     let upto = below_range (n + 1) q low in
-    let (links, leads, all, total, long) = links_by j s k (n - q) w v above rest in
-    (
+    let (links, leads, all, total, long) = links_by j s k (n - q) w v above rest in (
       l ∷ links,
       (from, is, subst (λ (z : ℕ). LinksLead j z v links) (sym to) leads),
       All-cons (IsUpward s) l links (omega (arith, up, from), omega (arith, above, to)) all,
