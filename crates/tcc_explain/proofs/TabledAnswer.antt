@@ -1,5 +1,5 @@
 -- Each first answer has its tables: those that its history gives.
-use Rattle.std.proofs.Common.{ℕ, ◌≡◌, ◌<◌, ◌≤◌, ◌+◌, ◌-◌, ◌⊎◌, inl, inr, List, [], length, map, get_or, Some, refl, sym, ◌∙◌, ap, subst, arith}
+use Rattle.std.proofs.Common.{ℕ, ◌≡◌, ◌<◌, ◌+◌, ◌-◌, inl, inr, List, [], length, map, get_or, Some, refl, sym, ◌∙◌, ap, subst, arith}
 use Rattle.std.specs.List.{range_with_len}
 use Rattle.std.proofs.Math.Nat.{zero-add}
 use Rattle.std.proofs.lemmas.List.FromFn.{get_or-map-range_with_len, length-map-range_with_len}
@@ -11,11 +11,8 @@ use Rattle.tcc_graph.specs.Links.{cost}
 use Rattle.tcc_graph.specs.Routes.{IsUpwardRoute}
 use Rattle.tcc_graph.specs.declared.level.Level.{Level}
 use Rattle.tcc_graph.specs.declared.level.Level.TheVariants.{Causal, Atomic}
-use Rattle.tcc_graph.specs.declared.link.Link.{Link}
-use Rattle.tcc_graph.specs.declared.step.Step.{Step}
 use Rattle.tcc_core.specs.Shares.{IsCappedDistance}
-use Rattle.tcc_cert.specs.Tables.{row_of, entry, far_entry}
-use Rattle.tcc_cert.specs.declared.version.Version.TheVariants.{Two}
+use Rattle.tcc_cert.specs.Tables.{entry}
 use Rattle.tcc_answer.specs.declared.answer.Answer.{Answer}
 use Rattle.tcc_answer.specs.declared.answer.Answer.TheVariants as answer
 use Rattle.tcc_explain.specs.Certificates.{IsCappedShortest, IsClocksAt, IsFarTable, IsNearTable}

@@ -1,5 +1,5 @@
 -- Clocks: the last place of each session from which a transaction is reached.
-use Rattle.std.proofs.Common.{ℕ, zero, suc, ◌≡◌, ◌<◌, ◌≤◌, ◌+◌, ◌-◌, ◌==◌, Bool, true, false, cond, ◌&&◌, ◌⊎◌, inl, inr, List, [], ◌∷◌, length, get_or, refl, sym, ◌∙◌, subst, arith}
+use Rattle.std.proofs.Common.{ℕ, zero, suc, ◌≡◌, ◌<◌, ◌≤◌, ◌+◌, ◌-◌, ◌==◌, Bool, true, false, cond, ◌&&◌, ◌⊎◌, inl, inr, List, [], ◌∷◌, length, refl, sym, subst, arith}
 use Rattle.std.specs.Prelude.{max, nat_lt}
 use Rattle.std.specs.List.{Contains, list_any}
 use Rattle.std.proofs.lemmas.Bool.{cases_lt, and_parts, and_from, eqb-true, eq-eqb, ltb-true, lt-ltb}
@@ -12,7 +12,7 @@ use Rattle.tcc_graph.specs.Walks.{IsReached, IsWalk}
 use Rattle.tcc_graph.specs.declared.step.Step.{Step}
 use Rattle.tcc_near.proofs.ShortWalks.{few_steps}
 use Rattle.tcc_explain.specs.Tabled.{greatest, has_walk, is_behind, least_below, steps_lead}
-use Rattle.tcc_explain.proofs.TabledWalks.{IsCapped, any_found, any_of, in_range, led_by, number_below, number_in, shortest_is, steps_of}
+use Rattle.tcc_explain.proofs.TabledWalks.{IsCapped, any_found, any_of, led_by, number_below, number_in, shortest_is, steps_of}
 
 -- ---- the greatest
 

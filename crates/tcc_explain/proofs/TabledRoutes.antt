@@ -1,23 +1,19 @@
 -- Routes by what they cost.
-use Rattle.std.proofs.Common.{ℕ, zero, suc, ◌≡◌, ◌≢◌, ◌<◌, ◌≤◌, ◌+◌, ◌-◌, ◌==◌, Bool, true, false, cond, ◌&&◌, ◌||◌, ◌⊎◌, inl, inr, List, [], ◌∷◌, ◌++◌, length, length-append, get_or, refl, sym, ◌∙◌, ap, subst, arith}
+use Rattle.std.proofs.Common.{ℕ, zero, suc, ◌≡◌, ◌≢◌, ◌<◌, ◌≤◌, ◌+◌, ◌-◌, ◌==◌, Bool, true, false, ◌&&◌, ◌⊎◌, inl, inr, List, [], ◌∷◌, length, refl, sym, ◌∙◌, ap, subst, arith}
 use Rattle.std.specs.Prelude.{All, not, nat_lt, nat_le}
-use Rattle.std.specs.List.{Contains, list_any, range_with_len}
+use Rattle.std.specs.List.{list_any, range_with_len}
 use Rattle.std.proofs.lemmas.Bool.{and_parts, and_from, or_cases, or_left, or_right, eqb-true, eq-eqb, ltb-true, lt-ltb, leb-true, le-leb, ne_eqb}
 use Rattle.std.proofs.lemmas.List.Elements.{All-nil, All-cons, All-head, All-tail}
-use Rattle.tcc_reads.specs.History.{History, count}
+use Rattle.tcc_reads.specs.History.{count}
 use Rattle.tcc_graph.specs.Keys.{numbers, writes}
-use Rattle.tcc_graph.specs.Levels.{Judged, IsAllowedWalk}
-use Rattle.tcc_graph.specs.Links.{IsLink, MayContradict, cost, link_cost, link_from, link_of, link_to}
+use Rattle.tcc_graph.specs.Levels.{Judged}
+use Rattle.tcc_graph.specs.Links.{IsLink, MayContradict, cost, link_cost, link_from, link_to}
 use Rattle.tcc_graph.specs.Relations.{causal_pair, reads_from}
 use Rattle.tcc_graph.specs.Routes.{IsUpward, IsUpwardRoute, LinksLead}
-use Rattle.tcc_graph.specs.declared.level.Level.{Level}
 use Rattle.tcc_graph.specs.declared.link.Link.{Link}
 use Rattle.tcc_graph.specs.declared.link.Link.TheVariants as link
-use Rattle.tcc_graph.specs.declared.step.Step.{Step}
-use Rattle.tcc_graph.specs.declared.step.Step.TheVariants as step
 use Rattle.tcc_graph.proofs.Linking.{cost_cons, some_cost, derived_cost, pair_link}
 use Rattle.tcc_graph.proofs.Pairs.{pair_kinds, pair_from_session, pair_from_reads, link_below}
-use Rattle.tcc_graph.proofs.Walking.{walk_below}
 use Rattle.tcc_explain.specs.Tabled.{has_link, has_route, has_walk, least_below, links_lead, may_contradict}
 use Rattle.tcc_explain.proofs.TabledWalks.{any_found, any_of, in_range, below_range, number_in, number_below, walk_by, walk_of, capped_is, IsCapped}
 

@@ -1,5 +1,5 @@
 -- The tables of two small histories, worked out by hand.
-use Rattle.std.proofs.Common.{ℕ, ◌≡◌, List, [], ◌∷◌, refl}
+use Rattle.std.proofs.Common.{◌≡◌, [], ◌∷◌, refl}
 use Rattle.tcc_graph.specs.Levels.{atomically, causally}
 use Rattle.tcc_graph.proofs.Worked.{stale_read}
 use Rattle.tcc_explain.specs.Tabled.{clock_table, far_table, near_table}
