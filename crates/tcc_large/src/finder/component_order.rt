@@ -1,10 +1,10 @@
 //! An order of all transactions to judge by that a cycle is a least one: a topological order of the condensation, component by
 //! component (`components`), each in an order that keeps all pairs (`kahn`). So what leads back in it are links within one
 //! component alone. It is trusted by nobody, and takes O(N + R + E) for N transactions, R reads and E links.
-use crate::adjacency::Adjacency;
-use crate::components::Components;
-use crate::kahn::Kahn;
-use crate::pairs::Pairs;
+use crate::finder::adjacency::Adjacency;
+use crate::finder::components::Components;
+use crate::finder::kahn::Kahn;
+use crate::finder::pairs::Pairs;
 use std::alloc::Global;
 use tcc_graph::LargeGraph;
 use tcc_order::Stuck;

@@ -2,8 +2,8 @@
 //! and its applications in data flow analysis, 1981): what a search in depth forwards leaves last begins the next component, and
 //! the rest of it is what a search backwards from there comes to. So between two components pairs and links lead onward. It goes
 //! over each pair and link twice: O(N + R + E) for N transactions, R reads and E links.
-use crate::adjacency::{Adjacency, Side};
 use crate::cells::Cells;
+use crate::finder::adjacency::{Adjacency, Side};
 use std::alloc::Global;
 use tcc_txn::NoMemory;
 

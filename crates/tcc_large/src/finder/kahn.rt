@@ -2,8 +2,8 @@
 //! keeps all pairs, and links as far as they go. Each counts the pairs and the links of its group that it waits for; one that waits
 //! for links alone is put next where nothing else can be. Each pair and link is looked at twice: O(N + R + E) for N transactions, R
 //! reads and E links.
-use crate::adjacency::Adjacency;
 use crate::cells::Cells;
+use crate::finder::adjacency::Adjacency;
 use std::alloc::{AllocError, Global};
 use tcc_txn::NoMemory;
 

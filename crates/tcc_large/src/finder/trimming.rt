@@ -1,9 +1,9 @@
 //! Trimming (McLendon et al., Finding strongly connected components in distributed graphs, 2005): of a graph what stands in a
 //! circle, or between two. What has no neighbour that is left, on one side and then on the other, is taken away again and again;
 //! each pair and link is looked at twice for a side: O(N + R + E) for N transactions, R reads and E links.
-use crate::adjacency::{Adjacency, Side};
 use crate::cells::Cells;
-use crate::pairs::{Pair, Pairs};
+use crate::finder::adjacency::{Adjacency, Side};
+use crate::finder::pairs::{Pair, Pairs};
 use std::alloc::{AllocError, Global};
 use tcc_bits::is_marked;
 use tcc_txn::NoMemory;

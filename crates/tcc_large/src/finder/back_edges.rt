@@ -1,7 +1,7 @@
 //! Back edges: links that lead back in an order of transactions that keeps all pairs. Each cycle has one, unless it is one of
 //! pairs.
-use crate::kahn::Kahn;
-use crate::trimming::Trimmed;
+use crate::finder::kahn::Kahn;
+use crate::finder::trimming::Trimmed;
 use std::alloc::{AllocError, Global};
 use tcc_txn::NoMemory;
 

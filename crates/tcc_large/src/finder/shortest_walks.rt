@@ -2,9 +2,9 @@
 //! transaction that was met has the pair that it leads on by, so the steps are read off from the start on. O(N + R) for N
 //! transactions and R reads.
 use crate::cells::Cells;
-use crate::pairs::{Pairs, span};
-use crate::reverse_search::ReverseSearch;
-use crate::work::{SearchError, Work};
+use crate::finder::pairs::{Pairs, span};
+use crate::finder::reverse_search::ReverseSearch;
+use crate::finder::work::{SearchError, Work};
 use std::alloc::{AllocError, Global};
 use tcc_graph::Step;
 use tcc_txn::NoMemory;

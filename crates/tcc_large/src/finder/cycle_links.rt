@@ -1,8 +1,8 @@
 //! From transactions in a circle to the links between them: of each two a pair where there is one, else a derived link with a
 //! shortest walk, which takes a search (`shortest_walks`).
-use crate::pairs::Pairs;
-use crate::shortest_walks::{ShortestWalks, Sought};
-use crate::work::{SearchError, Work};
+use crate::finder::pairs::Pairs;
+use crate::finder::shortest_walks::{ShortestWalks, Sought};
+use crate::finder::work::{SearchError, Work};
 use std::alloc::{AllocError, Global};
 use tcc_graph::{Level, Link, Step, Walk};
 use tcc_txn::{Name, NoMemory};

@@ -1,7 +1,7 @@
 //! Which transactions of each session a search backwards has taken in: a prefix of the session, since all before one stand before
 //! it. So each is handed out once in a search, and to begin the next one takes nothing.
 use crate::cells::Cells;
-use crate::pairs::Pairs;
+use crate::finder::pairs::Pairs;
 use std::alloc::Global;
 use tcc_txn::NoMemory;
 

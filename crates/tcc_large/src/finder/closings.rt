@@ -1,8 +1,8 @@
 //! Closings: the derived links of two steps, by which a cycle of four steps closes whose other steps are two pairs, or another such
 //! link. They are looked for at each reader, in O(R * r) for R reads of which a transaction has r at most.
-use crate::pairs::{Pairs, span};
-use crate::trimming::Trimmed;
-use crate::work::{SearchError, Work};
+use crate::finder::pairs::{Pairs, span};
+use crate::finder::trimming::Trimmed;
+use crate::finder::work::{SearchError, Work};
 use std::alloc::{AllocError, Global};
 
 /// The ends of such links between marked transactions, ascending: to what is read from the last earlier writer of the key in the

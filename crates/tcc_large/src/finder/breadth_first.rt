@@ -1,9 +1,9 @@
 //! Shortest ways by pairs and links among some transactions: breadth-first search, backwards (`reverse_search`). A transaction that
 //! was met leads on to the one that it was met from. O(N + R + E) for N transactions, R reads and E links.
-use crate::pairs::Pairs;
-use crate::reverse_search::ReverseSearch;
-use crate::trimming::Trimmed;
-use crate::work::{SearchError, Work};
+use crate::finder::pairs::Pairs;
+use crate::finder::reverse_search::ReverseSearch;
+use crate::finder::trimming::Trimmed;
+use crate::finder::work::{SearchError, Work};
 use std::alloc::{AllocError, Global};
 use tcc_txn::NoMemory;
 

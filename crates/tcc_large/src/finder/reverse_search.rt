@@ -3,8 +3,8 @@
 //! so a search takes O(N + R + E) for the N transactions, R reads and E links that it comes to, and nothing for those that it
 //! doesn't.
 use crate::cells::Cells;
-use crate::pairs::Pairs;
-use crate::session_prefixes::SessionPrefixes;
+use crate::finder::pairs::Pairs;
+use crate::finder::session_prefixes::SessionPrefixes;
 use std::alloc::{AllocError, Global};
 use tcc_txn::NoMemory;
 

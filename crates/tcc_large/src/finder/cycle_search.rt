@@ -1,14 +1,14 @@
 //! A search for a short cycle, by the links that an order kept until it stopped. What it finds is trusted by nobody, and not always
 //! the least. With N transactions, R reads and E kept links it takes O(N + R + E) steps: what goes over all goes over all once, and
 //! each search stops at a limit of work.
-use crate::adjacency::Adjacency;
-use crate::back_edges::back_edges;
-use crate::breadth_first::BreadthFirst;
-use crate::closings::{between, closings};
-use crate::cycle_links::Linker;
-use crate::pairs::{Pair, Pairs, span};
-use crate::trimming::Trimmed;
-use crate::work::{SearchError, Work, unless_spent};
+use crate::finder::adjacency::Adjacency;
+use crate::finder::back_edges::back_edges;
+use crate::finder::breadth_first::BreadthFirst;
+use crate::finder::closings::{between, closings};
+use crate::finder::cycle_links::Linker;
+use crate::finder::pairs::{Pair, Pairs, span};
+use crate::finder::trimming::Trimmed;
+use crate::finder::work::{SearchError, Work, unless_spent};
 use std::alloc::{AllocError, Global};
 use tcc_bits::Row;
 use tcc_graph::{LargeGraph, Level, Link};
