@@ -100,7 +100,7 @@ pub fn decide(
 }
 
 /// What `decide` answers, an order by so many workers at most, as `place_by` finds it.
-pub fn decide_by(
+pub(crate) fn decide_by(
     rt: &(impl Threads + Sync),
     alloc: Global,
     graph: &LargeGraph,

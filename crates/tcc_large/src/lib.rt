@@ -30,6 +30,6 @@ mod trimming;
 mod work;
 
 pub use answer::LargeAnswer;
-pub use deciding::{decide, decide_by};
+pub use deciding::decide;
 pub use decision::Decision;
 pub use explaining::{explain_large, explain_large_by};
