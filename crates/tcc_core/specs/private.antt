@@ -7,3 +7,6 @@ pub mod Queues
 pub mod Offers
 pub mod Marked
 pub mod Levels
+pub mod Ways
+pub mod Fitting
+pub mod Making
