@@ -72,7 +72,7 @@ asks words =
 abbrev plain : Asked
 plain = record {
   level = Some (codes "causal");
-  workers = Some (codes "1");
+  workers = None;
   json = Some (codes "false");
   quiet = Some (codes "false");
   full = Some (codes "false");

@@ -18,4 +18,4 @@ mod simple_cycle;
 pub use answer::LargeAnswer;
 pub use deciding::decide;
 pub use decision::Decision;
-pub use explaining::explain_large;
+pub use explaining::{explain_large, explain_large_by};
