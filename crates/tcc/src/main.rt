@@ -11,17 +11,15 @@ use std::sync::Wait;
 use std::thread::{self, Threads};
 use std::time::Clock;
 use tcc_base::Workers;
-use tcc_files::{
-    Apart, Quiet, RecordInput, Telling, are_waited_for, check_files, exit_code, is_waited_for,
-    open_both, open_input, open_output, open_outputs, print_unopened, size_of,
+use tcc_cli::{
+    Apart, Quiet, RecordInput, Request, Telling, VERSION, are_waited_for, check_files, exit_code,
+    is_waited_for, open_both, open_input, open_output, open_outputs, print_unopened, read, size_of,
 };
 use tcc_full::{Asked, Limits, RunContext, run_full, tell_unread};
-use tcc_large_check::run_check_large_watched;
-use tcc_large_run::run_large;
-use tcc_run::{OpenGate, Options, run_explain};
+use tcc_run::{OpenGate, Options, run_explain, run_large};
 use tcc_survey_run::{SurveyOptions, run_survey, run_survey_watched};
+use tcc_verdict::run_check_large_watched;
 use tcc_watch_run::run_watch;
-use tcc_words::{Request, VERSION, read};
 use watch::Watch;
 use watched::{WatchedReader, WatchedWriter};
 

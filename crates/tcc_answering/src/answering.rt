@@ -3,13 +3,13 @@
 ghost use Rattle.std.specs.Prelude.{IfOk};
 ghost use Rattle.tcc_answering.specs.Answered.{IsAnswered};
 
+use crate::firsts::{First, first_of};
 use std::thread::Threads;
 use tcc_answer::Answer;
 use tcc_explain::{ExplainFault, Gate, explain};
 use tcc_graph::{LargeGraph, Level};
 use tcc_large::{LargeAnswer, explain_large};
 use tcc_print::RunContext;
-use tcc_proving::{First, first_of};
 use tcc_reads::{ReadFault, ResolveFault};
 use tcc_txn::{LargeSnapshot, NoMemory, Snapshot};
 
