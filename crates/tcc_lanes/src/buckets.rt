@@ -13,7 +13,8 @@ fn grow(alloc: Global, buckets: &mut Vec<Row<usize>>, count: usize) -> Result<()
     ensures kept { OnOk result ((cost : ℕ) → row_of buckets.new.items cost ≡ row_of buckets.old.items cost) }
 {
     for _bucket in buckets.len()..count {
-        buckets.push(Row::new(Vec::new(alloc)))?;
+        let empty = Vec::new(alloc);
+        buckets.push(Row::new(empty))?;
     }
     Ok(())
 }

@@ -1,7 +1,7 @@
 //! The cheapest way back to a member, by the prices of links (Dial, CACM 12(11), 1969): costs are settled level by level, and all that
 //! cost one level are gone on from together. What costs less than a level never changes again. For M members that takes M steps, as many
 //! as the columns with a price of the rows of those that are come to, and one for each level that is met.
-ghost use Rattle.std.specs.Prelude.{◌≡◌, ◌≤◌, ◌<◌, ◌↔◌, ℕ, List, length, slice_index, All, AllPairs, Contains, IfOk, IsTrue, OnOk};
+ghost use Rattle.std.specs.Prelude.{◌≡◌, ◌≤◌, ◌<◌, ◌+◌, ◌↔◌, ℕ, List, length, slice_index, All, AllPairs, Contains, IfOk, IsTrue, OnOk};
 ghost use Rattle.tcc_graph.specs.Levels.{Judged};
 ghost use Rattle.tcc_lanes.specs.declared.pricing.TheConstants.{NONE};
 ghost use Rattle.tcc_lanes.specs.private.Buckets.{AreQueuedOn};

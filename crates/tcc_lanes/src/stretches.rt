@@ -34,20 +34,23 @@ impl Model for PriceRow {
     ghost view = { λ r. prices_in r.stretches.items };
 }
 
-/// Lowers what it costs to come to a member, if that was dearer, and puts it into the bucket of the new cost.
+/// Lowers what it costs to come to a member to a level and a price together, if that was dearer, and puts it into the bucket of the new
+/// cost.
 fn lower_at(
     alloc: Global,
     costs: &mut [u32],
     buckets: &mut Vec<Row<usize>>,
     member: usize,
-    cost: u32,
+    level: u32,
+    price: u32,
 ) -> Result<(), NoMemory>
     requires inside { member < length costs.old }
     ensures same { length costs.new ≡ length costs.old }
-    ensures here { OnOk result (slice_index costs.new member ≡ min (slice_index costs.old member) cost) }
+    ensures here { OnOk result (slice_index costs.new member ≡ min (slice_index costs.old member) (level + price)) }
     ensures rest { OnOk result ((v : ℕ) → v ≢ member → slice_index costs.new v ≡ slice_index costs.old v) }
     ensures queued { OnOk result (AreQueuedOn costs.old buckets.old.items costs.new buckets.new.items) }
 {
+    let cost = level.saturating_add(price);
     if costs[member] <= cost {
         return Ok(());
     }
@@ -76,9 +79,8 @@ fn lower_columns(
     if price == NONE {
         return Ok(());
     }
-    let cost = level.saturating_add(price);
     for v in from..end {
-        lower_at(alloc, costs, buckets, v, cost)?;
+        lower_at(alloc, costs, buckets, v, level, price)?;
     }
     Ok(())
 }

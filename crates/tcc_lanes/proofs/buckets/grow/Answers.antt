@@ -1,4 +1,4 @@
-use Rattle.std.proofs.Common.{◌≡◌, [], ◌∷◌, ◌++◌, List, ℕ, ap, ◌∙◌, arith}
+use Rattle.std.proofs.Common.{◌≡◌, ◌+◌, [], ◌∷◌, ◌++◌, List, ℕ, ap, ◌∙◌, arith}
 use Rattle.std.proofs.lemmas.List.{length_push}
 use Rattle.tcc_lanes.proofs.BucketLemmas.{longer}
 use Rattle.tcc_lanes.proofs.buckets.grow.Goals as goal
@@ -6,7 +6,7 @@ use Rattle.tcc_lanes.proofs.buckets.grow.Goals as goal
 pub loop-bucket-preserved : goal.loop-bucket-preserved
 loop-bucket-preserved c =
     let old = c.loop-bucket.buckets.items in
-    let row : c.new-in-loop-bucket.result ≡ [] = c.new-in-loop-bucket.ensures ∙ c.new-in-loop-bucket-2.ensures.items in
+    let row : c.new.result ≡ [] = c.new.ensures ∙ c.new-empty.ensures.items in
     rw (c.in_ok-push.ensures.items, row) (record {
       long = length_push old [] ∙ ap (λ n. n + 1) c.loop-bucket.invariant.long;
       kept = λ cost. longer old cost ∙ c.loop-bucket.invariant.kept cost;

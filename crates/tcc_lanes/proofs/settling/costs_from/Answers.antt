@@ -85,8 +85,8 @@ loop-level-preserved c =
 pub returns-then-is_past-clause-reached : goal.returns-then-is_past-clause-reached
 returns-then-is_past-clause-reached c = λ j members are.
     let now = c.loop-level in
-    let inside = omega (arith, c.requires.start, are.long) in
-    let past : length now.buckets.items ≤ now.level = rw c.deref-in-loop-level.ensures.value at (c.is_past.ensures.0 c.if-is_past.true) in
+    let inside : c.args.start < length members = omega (arith, c.requires.start, are.long) in
+    let past : length now.buckets.items ≤ now.level = rw c.deref.ensures.value at (c.is_past.ensures.0 c.if-is_past.true) in
     let above : (v : ℕ) → v < length now.costs.items → now.level ≤ get_or now.costs.items v 0 → c.args.most ≤ get_or now.costs.items v 0
     = λ v l more. not_in_past now.level now.costs.items now.buckets.items now.invariant.queued past c.args.most (omega (arith, c.ranges.most.fits)) v l more in (
       c.args.most,

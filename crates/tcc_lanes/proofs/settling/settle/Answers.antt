@@ -5,7 +5,7 @@ use Rattle.std.proofs.lemmas.List.{get_or_read, take_all}
 use Rattle.tcc_bits.proofs.Lists.{nothing_in, one_of_taken}
 use Rattle.tcc_lanes.proofs.BucketLemmas.{queued_more, queued_same}
 use Rattle.tcc_lanes.proofs.SettledCosts.{settled_more, settled_none, settled_same}
-use Rattle.tcc_lanes.proofs.settling.settle.Goals.{then-costs-member, else-costs-member}
+use Rattle.tcc_lanes.proofs.settling.settle.Goals.{then-costs-member+in_ok-relax, else-costs-member}
 use Rattle.tcc_lanes.proofs.settling.settle.Goals as goal
 
 pub loop-member-init : goal.loop-member-init
@@ -29,8 +29,8 @@ loop-member-preserved c =
     let one : (u : ℕ) → Contains (take (k + 1) here) u → Contains (take k here) u ⊎ (u ≡ member)
     = λ u h. ⊎_elim inl (λ e. inr (sym e)) (one_of_taken here k c.loop-member-test.true u h) in
     elim c.if-costs-member.branch [
-      | then-costs-member w ↦
-          let row : c.index-rows-member.result ≡ get_or rows member [] = get_or_read rows member c.index-rows-member.result within c.index-rows-member.is [] in
+      | then-costs-member+in_ok-relax w ↦
+          let row : w.index-rows-member.result ≡ get_or rows member [] = get_or_read rows member w.index-rows-member.result within w.index-rows-member.is [] in
           let each : (v : ℕ) → v < length mid → get_or w.relax.new.costs v 0 ≡ min (get_or mid v 0) (c.args.level + get_or (get_or rows member []) v 0)
           = rw row at w.in_ok-relax.ensures.each in
           rw (w.costs-is, w.buckets-is) (record {
