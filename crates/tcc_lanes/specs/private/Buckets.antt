@@ -1,5 +1,5 @@
 -- Members by what it costs to come to them: whose cost was lowered since stands in the bucket of the dearer one too.
-use Rattle.std.specs.Prelude.{ℕ, ◌<◌, ◌≤◌, ◌≡◌, ◌⊎◌, List, Contains, length, slice_index}
+use Rattle.std.specs.Prelude.{ℕ, ◌<◌, ◌≤◌, ◌⊎◌, List, Contains, length, slice_index}
 use Rattle.tcc_graph.specs.Tables.{row_of}
 use Rattle.tcc_lanes.specs.declared.pricing.TheConstants.{NONE}
 

@@ -1,4 +1,4 @@
-use Rattle.std.proofs.Common.{◌≡◌, [], ◌∷◌, ◌++◌, List, ℕ, set, ap, ◌∙◌, arith}
+use Rattle.std.proofs.Common.{[], ◌∷◌, ◌++◌, List, ℕ, set, ap, ◌∙◌, arith}
 use Rattle.tcc_lanes.proofs.BucketLemmas.{put_in}
 use Rattle.tcc_lanes.proofs.buckets.put.Goals as goal
 

@@ -1,4 +1,4 @@
-use Rattle.std.proofs.Common.{◌≡◌, [], List, ℕ, set, ap, ◌∙◌}
+use Rattle.std.proofs.Common.{[], ◌∙◌}
 use Rattle.std.proofs.lemmas.List.{get_or_read}
 use Rattle.tcc_lanes.proofs.buckets.take.Goals as goal
 

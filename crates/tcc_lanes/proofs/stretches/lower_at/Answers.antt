@@ -1,5 +1,5 @@
-use Rattle.std.proofs.Common.{◌≡◌, ◌<◌, refl}
-use Rattle.tcc_lanes.proofs.BucketLemmas.{queued_one, queued_same}
+use Rattle.std.proofs.Common.{refl}
+use Rattle.tcc_lanes.proofs.BucketLemmas.{queued_one}
 use Rattle.tcc_lanes.proofs.stretches.lower_at.Goals as goal
 
 pub returns-clause-queued : goal.returns-clause-queued
