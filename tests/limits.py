@@ -27,7 +27,7 @@ def of_answer(large: bool) -> Dict[str, int]:
     """The limits of a run, as the line of `--full` has them."""
     known, of = limits(), "LARGE" if large else "MAX"
     return {"bytes": known[of + "_INPUT_BYTES"], "keys": known[of + "_KEYS"], "operations": known["MAX_OPERATIONS"],
-            "seals": known["MAX_SEALS"], "sessions": known[of + "_SESSIONS"], "transactions": known[of + "_TRANSACTIONS"]}
+            "seals": known[of + "_SEALS"], "sessions": known[of + "_SESSIONS"], "transactions": known[of + "_TRANSACTIONS"]}
 
 
 def with_limits(json: Any) -> Any:

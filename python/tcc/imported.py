@@ -12,7 +12,7 @@ from dataclasses import dataclass, field
 from typing import Any, Counter as Count, Dict, Iterator, List, Optional, Sequence, Set, Tuple, Union, cast
 
 from tcc.edn import NoEdn, Reader, atom
-from tcc.limits import DEFAULT, LARGE, MAX_SEALS
+from tcc.limits import DEFAULT, LARGE, LARGE_SEALS, MAX_SEALS
 from tcc.list_terms import ListTerms
 from tcc.lists import APPEND, LIST, READ, WRITE as WRITES, Lists, Step as ListStep, Transaction as ListTransaction
 from tcc.notes import Note
@@ -514,8 +514,11 @@ class Imported:
                 yield "%d %s: tcc takes at most %d, so make %s shorter" % (number, what, LARGE[what], shorter)
             elif number > DEFAULT[what]:
                 yield "%d %s: tcc explain takes at most %d, so say --large" % (number, what, DEFAULT[what])
-        if seal_every and len(self.texts) // seal_every > MAX_SEALS:
-            yield "%d seals: tcc takes at most %d, so say a greater --seal-every" % (len(self.texts) // seal_every, MAX_SEALS)
+        seals = len(self.texts) // seal_every if seal_every else 0
+        if seals > LARGE_SEALS:
+            yield "%d seals: tcc takes at most %d, so say a greater --seal-every" % (seals, LARGE_SEALS)
+        elif seals > MAX_SEALS:
+            yield "%d seals: tcc explain takes at most %d, so say --large" % (seals, MAX_SEALS)
         if self.of_lists is not None:
             words = ListTerms(self.of_lists, {}, *self.true_names())
             for one in self.of_lists.faults[:MOST_FAULTS]:

@@ -13,14 +13,14 @@ from types import TracebackType
 from typing import TYPE_CHECKING, IO, Callable, List, Optional, Sequence, Type, Union
 
 from tcc.known import ENDINGS, SEAL
-from tcc.limits import MAX_SEALS
+from tcc.limits import LARGE_SEALS
 from tcc.looking import PAUSE_SECONDS, Asking, Source, Told
 from tcc.runner import Anomaly, Answer, Consistent, NoAnswer, Path, Unresolved, answer_of, program
 
 if TYPE_CHECKING:
     from tcc.recording import Recorder
 
-# By so much the records grow between two seals: up to a million transactions there is room for all seals.
+# By so much the records grow between two seals.
 GROWTH = 0.05
 LEAST_TRANSACTIONS = 16
 
@@ -96,7 +96,7 @@ class Watching:
                 return
         assert running.stdin is not None and running.stdout is not None
         wanted = LEAST_TRANSACTIONS
-        for _ in range(MAX_SEALS):
+        for _ in range(LARGE_SEALS):
             while self._count < wanted:
                 if self._over.wait(PAUSE_SECONDS):
                     return

@@ -37,7 +37,7 @@ IMAGE = re.compile(r"!\[[^\]]*\]\([^)]*\)")
 LINK = re.compile(r"\[([^\]]*)\]\([^)]*\)")
 TERM = re.compile(r"^\| ([^|]+?) \| [^-]", re.MULTILINE)
 # The crates whose comments have gone through `WORDS`, and what a comment is in their files.
-READ = ("tcc", "tcc_answer", "tcc_checker", "tcc_files", "tcc_full", "tcc_slices", "tcc_survey", "tcc_survey_run", "tcc_words")
+READ = ("tcc", "tcc_answer", "tcc_checker", "tcc_cli", "tcc_full", "tcc_slices", "tcc_survey", "tcc_survey_run")
 COMMENT = {".rt": re.compile(r"(?:^|(?<=\s))//[/!]?(.*)$"), ".antt": re.compile(r"--(.*)$")}
 ITEM = re.compile(r"^\s*(?:[-*]|\d+\.)\s+")
 # A full stop, with what closes after it, before a space and what may begin a sentence.

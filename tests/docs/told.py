@@ -31,23 +31,23 @@ FAULT = re.compile(r"(Row|Cert)FaultKind::(\w+)[^=]*=> Told::new\(\"\w+\", Statu
 QUOTED = re.compile(r"`([^`]+)`")
 LIMITS = ("{MAX_SESSIONS} sessions, {MAX_TRANSACTIONS} transactions%s of {MAX_OPERATIONS} operations%s, {MAX_KEYS} keys, "
           "{MAX_SEALS} seals%s {MAX_INPUT_BYTES} bytes")
-LARGE = "{LARGE_SESSIONS} sessions, {LARGE_TRANSACTIONS} transactions, {LARGE_KEYS} keys%s {LARGE_INPUT_BYTES} bytes"
+LARGE = "{LARGE_SESSIONS} sessions, {LARGE_TRANSACTIONS} transactions, {LARGE_KEYS} keys, {LARGE_SEALS} seals%s {LARGE_INPUT_BYTES} bytes"
 IN_GUIDE = """| of a history, at most | by default | with `--large` |
 |---|---|---|
 | sessions | {MAX_SESSIONS} | {LARGE_SESSIONS} |
 | transactions, aborted ones counted | {MAX_TRANSACTIONS} | {LARGE_TRANSACTIONS} |
 | operations of a transaction | {MAX_OPERATIONS} | {MAX_OPERATIONS} |
 | keys | {MAX_KEYS} | {LARGE_KEYS} |
-| seals | {MAX_SEALS} | {MAX_SEALS} |
+| seals | {MAX_SEALS} | {LARGE_SEALS} |
 | bytes | {MAX_INPUT_BYTES} | {LARGE_INPUT_BYTES} |
 """
 IN_PAGE = (".SH LIMITS\n" + LIMITS % (", aborted ones counted,", " each", ",") + ".\n.PP\nWith \\fB\\-\\-large\\fR " + LARGE % ","
-           + "; as many operations and seals.\n")
+           + "; as many operations.\n")
 HELD = {
     "README.md": ("up to {MAX_SESSIONS} sessions and {MAX_TRANSACTIONS} transactions, or {LARGE_SESSIONS} and 16 million with `--large`",),
     "docs/GUIDE.md": (
         "more than {MAX_SESSIONS} sessions or {MAX_TRANSACTIONS} transactions",
-        "lets N threads search for an anomaly, 1 to {MAX_WORKERS}."),
+        "lets N threads search or order, 1 to {MAX_WORKERS}."),
     "recipes/README.md": (
         "takes {MAX_SESSIONS} sessions and {MAX_TRANSACTIONS} transactions, aborted ones counted, and `tcc explain --large` "
         "{LARGE_SESSIONS} and {LARGE_TRANSACTIONS}",),
@@ -64,14 +64,14 @@ HELD = {
         "| TooManySeals | `seal` number {MAX_SEALS+1} |",
         "gave more than {MAX_INPUT_BYTES} bytes",
         "TooManySessions at a {LARGE_SESSIONS+1}th session, TooManyTransactions at transaction {LARGE_TRANSACTIONS+1}, TooManyKeys "
-        "at a {LARGE_KEYS+1}th key, and Read after {LARGE_INPUT_BYTES} bytes",
+        "at a {LARGE_KEYS+1}th key, TooManySeals at `seal` number {LARGE_SEALS+1}, and Read after {LARGE_INPUT_BYTES} bytes",
         "but a {MAX_SEALS+1}th is TooManySeals"),
     "docs/tcc.1": ("names: 1 to {MAX_NAME_BYTES} bytes", "N threads, 1 to {MAX_WORKERS}, search"),
     "docs/HEADLINE.md": ("`Workers`, a type of 1 to {MAX_WORKERS}",),
     "docs/GLOSSARY.md": ("without `--large`: {MAX_SESSIONS} sessions, {MAX_TRANSACTIONS} transactions,",),
     "docs/MODEL.md": ("more than {MAX_TRANSACTIONS} transactions, or those of more than {MAX_SESSIONS} sessions",),
-    "crates/tcc_words/src/command_line.rt": ("so many workers, 1 to {!MAX_WORKERS};",),
-    "crates/tcc_words/src/help.rt": (
+    "crates/tcc_cli/src/command_line.rt": ("so many threads, 1 to {!MAX_WORKERS};",),
+    "crates/tcc_cli/src/help.rt": (
         "1 to {!MAX_NAME_BYTES} of A-Z",
         "up to {!LARGE_TRANSACTIONS} transactions, {!LARGE_SESSIONS} sessions and {!LARGE_KEYS} keys, in place of\n"
         "{!MAX_TRANSACTIONS}, {!MAX_SESSIONS} and {!MAX_KEYS}",
@@ -155,7 +155,7 @@ def faults_of_kinds() -> Iterator[Outcome]:
 def faults_of_help() -> Iterator[Outcome]:
     """Whether help has each status that explain and check can end with, and no other."""
     wanted = {code for code, _ in statuses()}
-    shown = re.findall(r"^  (\d+)  +\S", source("tcc_words/src/help.rt"), re.MULTILINE)
+    shown = re.findall(r"^  (\d+)  +\S", source("tcc_cli/src/help.rt"), re.MULTILINE)
     yield "statuses of help", None if {int(one) for one in shown} == wanted else "they aren't those of status.rt"
 
 

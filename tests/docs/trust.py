@@ -21,7 +21,7 @@ OPENS_BODY = re.compile(r" *(?:\)|(?:pub )?(?:const )?fn ).*[{;]$")
 HEAD = re.compile(r"(?:abbrev |unfoldable )?pub (?:record |data )?([\w'-]+)")
 WORD = re.compile(r"[^\W\d][\w'-]*(?:\.[^\W\d][\w'-]*)*|◌?[^\s\w()\[\]{},;.]+")
 # Modules whose calls are called by public ones about the process's own words and files, of which no clause can speak.
-BEHIND = {"tcc_words": ("command_line", "checker"), "tcc_files": ("opening",)}
+BEHIND = {"tcc_cli": ("command_line", "checker", "opening")}
 QUOTED = re.compile(r"`([^`\n]+)`")
 
 

@@ -4,8 +4,7 @@ use std::io::{self, Write};
 use std::sync::{Condvar, Mutex, Wait};
 use std::time::{Clock, Duration, Instant};
 use tcc_base::Progress;
-use tcc_large_run::{Stage, Watcher};
-use tcc_run::Gate;
+use tcc_run::{Gate, Stage, Watcher};
 
 /// For so many seconds of a run nothing is shown.
 const QUIET_SECONDS: u64 = 2;

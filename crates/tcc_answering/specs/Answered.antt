@@ -7,7 +7,7 @@ use Rattle.tcc_reads.specs.Sources.{history}
 use Rattle.tcc_graph.specs.Levels.{judged}
 use Rattle.tcc_graph.specs.declared.level.Level.{Level}
 use Rattle.tcc_explain.specs.Explained.{IsAnswerOfHistory}
-use Rattle.tcc_proving.specs.Firsts.{IsFirst}
+use Rattle.tcc_answering.specs.Firsts.{IsFirst}
 use Rattle.tcc_answering.specs.declared.answering.Answered.{Answered}
 use Rattle.tcc_answering.specs.declared.answering.Answered.TheVariants as answered
 

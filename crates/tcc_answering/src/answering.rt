@@ -3,13 +3,13 @@
 ghost use Rattle.std.specs.Prelude.{IfOk};
 ghost use Rattle.tcc_answering.specs.Answered.{IsAnswered};
 
+use crate::firsts::{First, first_of};
 use std::thread::Threads;
 use tcc_answer::Answer;
 use tcc_explain::{ExplainFault, Gate, explain};
 use tcc_graph::{LargeGraph, Level};
-use tcc_large::{LargeAnswer, explain_large};
+use tcc_large::{LargeAnswer, explain_large_by};
 use tcc_print::RunContext;
-use tcc_proving::{First, first_of};
 use tcc_reads::{ReadFault, ResolveFault};
 use tcc_txn::{LargeSnapshot, NoMemory, Snapshot};
 
@@ -46,7 +46,7 @@ pub fn small_answer<T: Threads + Sync, G: Gate>(
     }
 }
 
-/// What is answered for a snapshot of any size; a small one is searched by the workers of the run.
+/// What is answered for a snapshot of any size, by the workers of the run: they search a small one, and order a large one.
 pub fn answer_of<T: Threads + Sync, G: Gate>(
     run: &RunContext<T, G>,
     snapshot: &LargeSnapshot,
@@ -58,7 +58,7 @@ pub fn answer_of<T: Threads + Sync, G: Gate>(
     if let Some(small) = snapshot.small_copy(alloc)? {
         return small_answer(run, &small, level);
     }
-    match explain_large(alloc, snapshot, level) {
+    match explain_large_by(run.rt, alloc, snapshot, level, run.options.workers) {
         Ok((answer, order)) => {
             let LargeAnswer { graph, decision } = answer;
             let first = first_of(alloc, &graph, level, decision, &order)?;

@@ -3,8 +3,7 @@
 #![tactic(auto)]
 
 use std::process::ExitCode;
-use tcc_files::{Telling, check_files, exit_code};
-use tcc_words::read_check;
+use tcc_cli::{Telling, check_files, exit_code, read_check};
 
 fn main(rt: HostRuntime) -> ExitCode {
     let mut out = Telling::new(rt.stdout(), "standard output", rt.stderr());

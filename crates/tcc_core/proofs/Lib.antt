@@ -17,3 +17,12 @@ pub mod Kept
 pub mod Ending
 pub mod Rounds
 pub mod Worked
+pub mod PartLemmas
+pub mod Twice
+pub mod BoundLemmas
+pub mod SessionLemmas
+pub mod LargestWalk
+pub mod LargestCycle
+pub mod WalkLemmas
+pub mod LinkChoiceLemmas
+pub mod WayLemmas

@@ -3,4 +3,5 @@ pub mod Searches
 pub mod Shares
 pub mod Seeds
 pub mod Frontiers
+pub mod Returns
 pub mod private

@@ -7,3 +7,4 @@ pub mod Queues
 pub mod Offers
 pub mod Marked
 pub mod Levels
+pub mod Ways

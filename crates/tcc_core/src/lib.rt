@@ -1,19 +1,23 @@
-//! One search for what each transaction's routes cost at least, and the law by which many searches settle the least
-//! cycle.
+//! One search for what each transaction's routes cost at least, the law by which many searches settle the least cycle, and the first of
+//! the least cycles, picked from the back by what they found.
 #![tactic(auto)]
 
 mod again;
 mod bucket_queue;
+mod first_return;
 mod frontier;
 pub mod laws;
 mod levels;
 mod marked;
+mod path_reconstruction;
 mod queue;
 mod relaxing;
 mod search;
 mod seeding;
 mod settled;
 
+pub use first_return::FirstReturn;
+pub use path_reconstruction::first_cycle;
 pub use search::Search;
 pub use seeding::seed;
 pub use settled::Settled;

@@ -6,7 +6,6 @@ use std::io::{self, Read, Write};
 use std::sync::Wait;
 use std::thread::Threads;
 use tcc_answer::{Answer, write_json, write_text};
-use tcc_audit::audit;
 use tcc_book::{Book, Pass};
 use tcc_cert::read;
 use tcc_check::{Verdict, check};
@@ -14,7 +13,7 @@ use tcc_explain::{OpenGate, Workers, explain};
 use tcc_graph::{Graph, Level};
 use tcc_reads::{ResolveFault, resolve};
 use tcc_rows::{Item, Rows};
-use tcc_run::{Options, run_explain};
+use tcc_run::{Options, audit, run_explain};
 use tcc_txn::{Name, NoMemory, Op, Snapshot, Txn};
 
 /// What some records finish, in the order in which it ends.

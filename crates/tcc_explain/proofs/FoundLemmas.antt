@@ -10,8 +10,8 @@ use Rattle.tcc_core.specs.Shares.{SettleAt, IsCappedDistance}
 use Rattle.tcc_core.proofs.Settlement.{word_or_cycle, least_cycle}
 use Rattle.tcc_steal.specs.Findings.{IsFirst, IsFound}
 use Rattle.tcc_steal.specs.declared.found.Found.{Found}
-use Rattle.tcc_cycle.specs.Returns.{IsFirstReturn}
-use Rattle.tcc_cycle.specs.declared.first_return.FirstReturn.{FirstReturn}
+use Rattle.tcc_core.specs.Returns.{IsFirstReturn}
+use Rattle.tcc_core.specs.declared.first_return.FirstReturn.{FirstReturn}
 use Rattle.tcc_explain.specs.private.Capping.{AreFarRows}
 use Rattle.tcc_explain.specs.private.Stages.{IsSearched}
 

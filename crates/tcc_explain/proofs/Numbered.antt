@@ -7,7 +7,7 @@ use Rattle.tcc_reads.specs.History.{Entry, initial, count, owner, place}
 use Rattle.tcc_reads.specs.Sites.{Stand, is_committed, stands, committed}
 use Rattle.tcc_reads.specs.Sources.{entry_of, history}
 use Rattle.tcc_reads.proofs.Rising.{each_filter, each_map, each_at, from_placed}
-use Rattle.tcc_cycle.proofs.SessionLemmas.{owned_of, apart_of}
+use Rattle.tcc_core.proofs.SessionLemmas.{owned_of, apart_of}
 use Rattle.tcc_explain.specs.Certificates.{IsNumbered}
 
 module _ (s : Sessions) where

@@ -32,7 +32,7 @@ use Rattle.tcc_cert.proofs.ClaimsBack.{text-back}
 use Rattle.tcc_answer.specs.Claims.{certificate_of}
 use Rattle.tcc_answer.specs.declared.answer.Answer.{Answer}
 use Rattle.tcc_answer.specs.declared.answer.Answer.TheVariants as answer
-use Rattle.tcc_cycle.proofs.BoundLemmas.{few_links, walks_few, cycle_bounded}
+use Rattle.tcc_core.proofs.BoundLemmas.{few_links, walks_few, cycle_bounded}
 use Rattle.tcc_explain.specs.Certificates.{IsNearTable, IsFarTable, IsClocksAt}
 use Rattle.tcc_explain.specs.Explained.{IsAnswerOfHistory}
 use Rattle.tcc_explain.specs.Keys.{HasNames}

@@ -8,8 +8,8 @@ use Rattle.tcc_answer.specs.declared.answer.Answer.{Answer}
 use Rattle.tcc_answer.specs.declared.answer.Answer.TheVariants as answer
 use Rattle.tcc_answering.specs.declared.answering.Answered.{Answered}
 use Rattle.tcc_answering.specs.declared.answering.Answered.TheVariants as found
-use Rattle.tcc_proving.specs.declared.answers.First.{First}
-use Rattle.tcc_proving.specs.declared.answers.First.TheVariants as first
+use Rattle.tcc_answering.specs.declared.firsts.First.{First}
+use Rattle.tcc_answering.specs.declared.firsts.First.TheVariants as first
 use Rattle.tcc_print.specs.Statuses.{order_status}
 use Rattle.tcc_print.specs.declared.status.Status.{Status}
 use Rattle.tcc_print.specs.declared.status.Status.TheVariants.{Anomaly, ReadFaults}

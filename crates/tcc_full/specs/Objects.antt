@@ -2,10 +2,10 @@
 use Rattle.std.specs.Prelude.{ℕ, ◌-◌, Bool, true, false, List, length, map, Option, None, Some, codes}
 use Rattle.serde_json.specs.Data.{Data, null, boolean, number, unsigned, string, array, object, no_members, member}
 use Rattle.serde_json.specs.View.{items_of}
-use Rattle.tcc_txn.specs.Limits.{most_bytes, most_keys, most_sessions, most_transactions}
+use Rattle.tcc_txn.specs.Limits.{most_bytes, most_keys, most_seals, most_sessions, most_transactions}
 use Rattle.tcc_txn.specs.declared.limits.Limits.{Limits}
 use Rattle.tcc_txn.specs.declared.limits.Limits.TheVariants.{Large, Small}
-use Rattle.tcc_txn.specs.declared.limits.TheConstants.{MAX_OPERATIONS, MAX_SEALS}
+use Rattle.tcc_txn.specs.declared.limits.TheConstants.{MAX_OPERATIONS}
 use Rattle.tcc_reads.specs.History.{History, count}
 use Rattle.tcc_reads.specs.declared.fault.ReadFault.{ReadFault}
 use Rattle.tcc_reads.specs.declared.fault.ReadFaultKind.{ReadFaultKind}
@@ -41,7 +41,7 @@ limits_json limits = object
     (member (codes "bytes") (number (unsigned (most_bytes limits)))
     (member (codes "keys") (number (unsigned (most_keys limits)))
     (member (codes "operations") (number (unsigned MAX_OPERATIONS))
-    (member (codes "seals") (number (unsigned MAX_SEALS))
+    (member (codes "seals") (number (unsigned (most_seals limits)))
     (member (codes "sessions") (number (unsigned (most_sessions limits)))
     (member (codes "transactions") (number (unsigned (most_transactions limits)))
     no_members))))))

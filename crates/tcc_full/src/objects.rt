@@ -22,7 +22,7 @@ use tcc_print::status::row_status;
 use tcc_print::texts::read_word;
 use tcc_reads::{ReadFault, ReadFaultKind};
 use tcc_rows::RowFault;
-use tcc_txn::{Bounds, Limits, MAX_OPERATIONS, MAX_SEALS, NoMemory};
+use tcc_txn::{Bounds, Limits, MAX_OPERATIONS, NoMemory};
 
 /// What was asked for, and of which version of the program.
 #[derive(Clone, Copy)]
@@ -65,7 +65,7 @@ fn limits_json(alloc: Global, limits: Limits) -> Result<Value, AllocError>
         "bytes": limits.bytes(),
         "keys": limits.keys(),
         "operations": MAX_OPERATIONS,
-        "seals": MAX_SEALS,
+        "seals": limits.seals(),
         "sessions": limits.sessions(),
         "transactions": limits.transactions()
     })

@@ -4,15 +4,17 @@ ghost use Rattle.tcc_graph.specs.{declared.level.Level.Level, Routes.AreCycle, L
 ghost use Rattle.tcc_large.specs.{Decisions.IsDecision, private.Retracing.IsStuckAt, private.Retracing.judged_at};
 ghost use Rattle.tcc_order.specs.Placements.{IsPlacement};
 
-use crate::component_order::order_to_judge;
-use crate::cycle_search::found_cycle;
 use crate::decision::Decision;
+use crate::finder::component_order::order_to_judge;
+use crate::finder::cycle_search::found_cycle;
 use crate::predecessor_cycle::StuckOrder;
 use crate::simple_cycle::simple_cycle;
 use std::alloc::Global;
+use std::thread::Threads;
+use tcc_base::Workers;
 use tcc_first::first_short;
 use tcc_graph::{LargeGraph, Level, Link, is_cycle, steps_of};
-use tcc_order::{Placement, place};
+use tcc_order::{Placement, place, place_by};
 use tcc_txn::NoMemory;
 
 /// The links of a cycle of a history at a level in which an order stops. The finder is asked first, and what it finds is judged.
@@ -55,17 +57,17 @@ fn wants_order(decision: &Decision) -> Result<bool, NoMemory> {
     }
 }
 
-/// The first commit order of a history at a level; or the links of a cycle: of a least one where it costs four steps at most, and of the
-/// first by the rule of ties wherever some cycle costs three at most. It passes no transaction twice. With a cycle of four steps or more
-/// comes an order of all transactions to judge by.
-pub fn decide(
+/// What is decided of a history by its placement: with a cycle of four steps or more comes an order of all transactions to judge by.
+fn decided(
     alloc: Global,
     graph: &LargeGraph,
     level: Level,
+    placement: Placement,
 ) -> Result<(Decision, Option<Vec<u32>>), NoMemory>
+    requires { IsPlacement (judged graph.now level) placement }
     ensures { IfOk result (λ found. IsDecision (judged graph.now level) found.0) }
 {
-    match place(alloc, graph, level)? {
+    match placement {
         Placement::Order(order) => Ok((Decision::Order(order), None)),
         Placement::Stuck(stuck) => {
             let at = StuckOrder {
@@ -82,4 +84,31 @@ pub fn decide(
             Ok((decision, order))
         }
     }
+}
+
+/// The first commit order of a history at a level; or the links of a cycle: of a least one where it costs four steps at most, and of the
+/// first by the rule of ties wherever some cycle costs three at most. It passes no transaction twice. With a cycle of four steps or more
+/// comes an order of all transactions to judge by.
+pub fn decide(
+    alloc: Global,
+    graph: &LargeGraph,
+    level: Level,
+) -> Result<(Decision, Option<Vec<u32>>), NoMemory>
+    ensures { IfOk result (λ found. IsDecision (judged graph.now level) found.0) }
+{
+    decided(alloc, graph, level, place(alloc, graph, level)?)
+}
+
+/// What `decide` answers, an order by so many workers at most, as `place_by` finds it.
+pub(crate) fn decide_by(
+    rt: &(impl Threads + Sync),
+    alloc: Global,
+    graph: &LargeGraph,
+    level: Level,
+    workers: Workers,
+) -> Result<(Decision, Option<Vec<u32>>), NoMemory>
+    ensures { IfOk result (λ found. IsDecision (judged graph.now level) found.0) }
+{
+    let placement = place_by(rt, alloc, graph, level, workers)?;
+    decided(alloc, graph, level, placement)
 }

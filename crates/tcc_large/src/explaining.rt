@@ -4,8 +4,10 @@ ghost use Rattle.tcc_reads.specs.Refusals.{IsRefusal};
 ghost use Rattle.tcc_large.specs.Explained.{IsLargeAnswer};
 
 use crate::answer::LargeAnswer;
-use crate::deciding::decide;
+use crate::deciding::{decide, decide_by};
 use std::alloc::Global;
+use std::thread::Threads;
+use tcc_base::Workers;
 use tcc_graph::{LargeGraph, Level};
 use tcc_reads::{ResolveFault, resolve_large};
 use tcc_txn::LargeSnapshot;
@@ -23,5 +25,20 @@ pub fn explain_large(
 {
     let graph = LargeGraph::build(alloc, resolve_large(alloc, snapshot)?)?;
     let (decision, order) = decide(alloc, &graph, level)?;
+    Ok((LargeAnswer { graph, decision }, order))
+}
+
+/// What `explain_large` answers, an order by so many workers at most. Whatever their number, the order is the first one.
+pub fn explain_large_by(
+    rt: &(impl Threads + Sync),
+    alloc: Global,
+    snapshot: &LargeSnapshot,
+    level: Level,
+    workers: Workers,
+) -> Result<(LargeAnswer, Option<Vec<u32>>), ResolveFault>
+    ensures { MatchResult result (λ found. IsLargeAnswer snapshot.now level found.0) (IsRefusal snapshot.now) }
+{
+    let graph = LargeGraph::build(alloc, resolve_large(alloc, snapshot)?)?;
+    let (decision, order) = decide_by(rt, alloc, &graph, level, workers)?;
     Ok((LargeAnswer { graph, decision }, order))
 }

@@ -15,6 +15,7 @@ use crate::rows::empty_rows;
 use crate::shares::causal_links_by;
 use std::alloc::Global;
 use std::thread::Threads;
+use tcc_base::Workers;
 use tcc_bits::Row;
 use tcc_clocks::previous_of_each;
 use tcc_graph::{LargeGraph, Level};
@@ -63,7 +64,7 @@ fn links_by_workers(
     alloc: Global,
     graph: &LargeGraph,
     parents: &[u32],
-    workers: u32,
+    workers: Workers,
 ) -> Result<Links, NoMemory>
     requires numbered { IsBySession graph.now.entries }
     requires parents { ArePrevious graph.now parents.now }
@@ -86,7 +87,7 @@ fn links_kept_by(
     graph: &LargeGraph,
     level: Level,
     parents: &[u32],
-    workers: u32,
+    workers: Workers,
 ) -> Result<Links, NoMemory>
     requires numbered { IsBySession graph.now.entries }
     requires parents { ArePrevious graph.now parents.now }
@@ -98,6 +99,29 @@ fn links_kept_by(
     }
 }
 
+/// Where all transactions are placed by causal pairs and the links that are kept, or where an order stops.
+fn placed_with(
+    alloc: Global,
+    graph: &LargeGraph,
+    level: Level,
+    parents: &[u32],
+    links: Links,
+) -> Result<Placement, NoMemory>
+    requires numbered { IsBySession graph.now.entries }
+    requires parents { ArePrevious graph.now parents.now }
+    requires links { AreFound (judged graph.now level) links }
+    ensures { IfOk result (IsPlacement (judged graph.now level)) }
+{
+    let kept = match links {
+        Links::Kept(kept) => kept,
+        Links::Circle(stuck) => return Ok(Placement::Stuck(stuck)),
+    };
+    match first_placing(alloc, graph, parents, &kept)? {
+        Placed::Order(order) => Ok(Placement::Order(order)),
+        Placed::Stuck(placed) => Ok(Placement::Stuck(Stuck { kept, placed })),
+    }
+}
+
 /// The first commit order of a history at a level, compared as lists of numbers; or where it stops: links of the level, and
 /// transactions of which each is held back by another, by causal pairs and these links.
 pub fn place(alloc: Global, graph: &LargeGraph, level: Level) -> Result<Placement, NoMemory>
@@ -105,14 +129,8 @@ pub fn place(alloc: Global, graph: &LargeGraph, level: Level) -> Result<Placemen
 {
     graph.numbered();
     let parents = previous_of_each(alloc, graph)?;
-    let kept = match links_kept(alloc, graph, level, &parents)? {
-        Links::Kept(kept) => kept,
-        Links::Circle(stuck) => return Ok(Placement::Stuck(stuck)),
-    };
-    match first_placing(alloc, graph, &parents, &kept)? {
-        Placed::Order(order) => Ok(Placement::Order(order)),
-        Placed::Stuck(placed) => Ok(Placement::Stuck(Stuck { kept, placed })),
-    }
+    let links = links_kept(alloc, graph, level, &parents)?;
+    placed_with(alloc, graph, level, &parents, links)
 }
 
 /// What `place` answers, with its links at `Causal` worked out side by side, by so many workers at most: fewer where their tables
@@ -122,20 +140,14 @@ pub fn place_by(
     alloc: Global,
     graph: &LargeGraph,
     level: Level,
-    workers: u32,
+    workers: Workers,
 ) -> Result<Placement, NoMemory>
     ensures { IfOk result (IsPlacement (judged graph.now level)) }
 {
     graph.numbered();
     let parents = previous_of_each(alloc, graph)?;
-    let kept = match links_kept_by(rt, alloc, graph, level, &parents, workers)? {
-        Links::Kept(kept) => kept,
-        Links::Circle(stuck) => return Ok(Placement::Stuck(stuck)),
-    };
-    match first_placing(alloc, graph, &parents, &kept)? {
-        Placed::Order(order) => Ok(Placement::Order(order)),
-        Placed::Stuck(placed) => Ok(Placement::Stuck(Stuck { placed, kept })),
-    }
+    let links = links_kept_by(rt, alloc, graph, level, &parents, workers)?;
+    placed_with(alloc, graph, level, &parents, links)
 }
 
 /// The first commit order of a history at a level, compared as lists of numbers; none exactly where there is a cycle.

@@ -14,6 +14,7 @@ use crate::rows::{MadeRows, empty_rows};
 use rayon::prelude::*;
 use std::alloc::Global;
 use std::thread::Threads;
+use tcc_base::Workers;
 use tcc_bits::Row;
 use tcc_clocks::{WIDE, needed_blocks, owners, steps_along};
 use tcc_graph::LargeGraph;
@@ -123,7 +124,7 @@ pub(crate) fn causal_links_by(
     graph: &LargeGraph,
     parents: &[u32],
     order: &[u32],
-    workers: u32,
+    workers: Workers,
 ) -> MadeRows<u32>
     requires parents { ArePrevious graph.now parents.now }
     requires numbering { IsNumbering (count graph.now) order.now }
@@ -141,7 +142,7 @@ pub(crate) fn causal_links_by(
         needed: &needed,
     };
     let blocks = graph.sessions().len().div_ceil(WIDE);
-    let count = shares_for(workers, blocks as u32, graph.count());
+    let count = shares_for(workers.count(), blocks as u32, graph.count());
     let shares = Shares {
         count,
         size: blocks.div_ceil(count as usize),

@@ -1,9 +1,9 @@
 -- What standard error tells a person of the fault of a record: what the record has, and what is expected there.
 use Rattle.std.specs.Prelude.{ℕ, ◌/◌, ◌%◌, Bool, ◌&&◌, not, nat_eq, nat_le, nat_lt, List, [], ◌∷◌, ◌++◌, length, take, flat_map, slice_get, slice_index_or, Option, None, Some, codes, decimal, if◌then◌else◌}
-use Rattle.tcc_txn.specs.Limits.{most_bytes, most_keys, most_sessions, most_transactions}
+use Rattle.tcc_txn.specs.Limits.{most_bytes, most_keys, most_seals, most_sessions, most_transactions}
 use Rattle.tcc_txn.specs.declared.limits.Limits.{Limits}
 use Rattle.tcc_txn.specs.declared.limits.Limits.TheVariants.{Small, Large}
-use Rattle.tcc_txn.specs.declared.limits.TheConstants.{MAX_OPERATIONS, MAX_SEALS}
+use Rattle.tcc_txn.specs.declared.limits.TheConstants.{MAX_OPERATIONS}
 use Rattle.tcc_rows.specs.declared.fault.RowFault.{RowFault}
 use Rattle.tcc_rows.specs.declared.fault.RowFaultKind.{RowFaultKind}
 use Rattle.tcc_rows.specs.declared.fault.RowFaultKind.TheVariants as row_kind
@@ -122,7 +122,7 @@ limit_text limits row_kind.TooManyTransactions =
     most_text (most_transactions limits)
     (wider limits (codes "transactions, aborted ones counted, see --large") (codes "transactions, aborted ones counted"))
 limit_text limits row_kind.TooManyKeys = most_text (most_keys limits) (wider limits (codes "keys, see --large") (codes "keys"))
-limit_text limits row_kind.TooManySeals = most_text MAX_SEALS (codes "seals")
+limit_text limits row_kind.TooManySeals = most_text (most_seals limits) (wider limits (codes "seals, see --large") (codes "seals"))
 limit_text limits row_kind.Read = most_text (most_bytes limits) (codes "bytes, from a reader that does not fail")
 limit_text limits _ = []
 

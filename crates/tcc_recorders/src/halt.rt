@@ -3,9 +3,9 @@
 use std::alloc::AllocError;
 use std::io::{self, ErrorKind};
 use tcc_answer::WriteFault;
-use tcc_audit::AuditFault;
 use tcc_book::{OpenFault, RecordFault, SealFault, WholeFault};
 use tcc_explain::ExplainFault;
+use tcc_run::AuditFault;
 use tcc_txn::{NameFault, NoMemory, TxnFault};
 use thiserror::Error;
 

@@ -20,10 +20,10 @@ use std::thread::Threads;
 use std::{env, io, thread};
 use store::Store;
 use tcc_answer::write_text;
-use tcc_audit::audit;
 use tcc_book::{Book, Pass};
 use tcc_explain::{OpenGate, Workers, explain};
 use tcc_graph::Level;
+use tcc_run::audit;
 
 /// The clients, with their sessions open in the book.
 fn open_all(rt: &impl Wait, alloc: Global, book: &Book) -> Result<Vec<Client>, Halt> {

@@ -6,7 +6,7 @@ use Rattle.std.specs.Option.{option_map_or}
 use Rattle.std.proofs.lemmas.Bool.{cases_lt}
 use Rattle.std.proofs.lemmas.Bool.Decides.{nat_tests}
 use Rattle.csv.specs.Reading.{default_config, records, strip_bom}
-use Rattle.tcc_txn.specs.Limits.{most_bytes, most_keys, most_sessions, most_transactions}
+use Rattle.tcc_txn.specs.Limits.{most_bytes, most_keys, most_seals, most_sessions, most_transactions}
 use Rattle.tcc_txn.specs.declared.limits.Limits.TheVariants.{Small, Large}
 use Rattle.tcc_txn.specs.declared.limits.TheConstants.{MAX_INPUT_BYTES, MAX_OPERATIONS, LARGE_INPUT_BYTES}
 use Rattle.std.specs.FinMap.{empty}
@@ -16,7 +16,7 @@ use Rattle.tcc_rows.specs.BothLimits.{KeepsSmall, ends_beyond_small, is_beyond_s
 use Rattle.tcc_rows.specs.ByteLimit.{marked}
 use Rattle.tcc_rows.specs.Failing.{AreLawfulWithin, FailsAtWithin, items_before_within, records_before}
 use Rattle.tcc_rows.specs.Lines.{Record, is_cut, line_of}
-use Rattle.tcc_rows.specs.Past.{begin_count, fault_in_time, fault_within, is_begun, is_late, item_of, keys, least, open_sessions, ops_since, sessions}
+use Rattle.tcc_rows.specs.Past.{begin_count, fault_in_time, fault_within, is_begun, is_late, item_of, keys, least, open_sessions, ops_since, sessions, seal_count}
 use Rattle.tcc_rows.specs.declared.fault.RowFault.{RowFault}
 use Rattle.tcc_rows.specs.declared.fault.RowFaultKind.{RowFaultKind}
 use Rattle.tcc_rows.specs.declared.fault.RowFaultKind.TheVariants as kind
@@ -50,7 +50,8 @@ at-both true k x y more e = refl
 at-both false k x y more e = more e
 
 same-in_time : (past : List Line) (last : Line) → is_limits (fault_in_time Small past last) ≡ false → fault_in_time Large past last ≡ fault_in_time Small past last
-same-in_time past line.Seal e = refl
+same-in_time past line.Seal e =
+    at-limit (most_seals Small) (most_seals Large) (seal_count (line.Seal ∷ past)) kind.TooManySeals None None (omega arith) refl (λ _. refl) e
 same-in_time past (line.Finish session committed) e = refl
 same-in_time past (line.Unknown session) e = refl
 same-in_time past (line.Begin session) e =

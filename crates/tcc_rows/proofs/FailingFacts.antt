@@ -11,7 +11,7 @@ use Rattle.std.proofs.lemmas.List.{take-append-drop}
 use Rattle.tcc_rows.specs.Answers.{Answers, after_item, answers_after_within, answers_to, go_on, judged_within}
 use Rattle.tcc_rows.specs.private.Failing as failing
 use Rattle.tcc_rows.specs.Failing.{AreLawfulWithin, FailsAtWithin, given_before_within, items_before_within, records_before}
-use Rattle.tcc_txn.specs.Limits.{most_keys, most_sessions, most_transactions}
+use Rattle.tcc_txn.specs.Limits.{most_keys, most_seals, most_sessions, most_transactions}
 use Rattle.tcc_txn.specs.Bytes.{same}
 use Rattle.tcc_rows.specs.Lines.{Record, accessed, in_session, is_cut, line_of, op_of, value_of}
 use Rattle.tcc_txn.specs.Names.{name_fault}
@@ -19,7 +19,7 @@ use Rattle.tcc_rows.specs.Past.{begin_count, fault_in_time, fault_within, is_beg
 use Rattle.tcc_rows.specs.Recordings.{HasSealsBefore, after_items, is_seal, seals_in}
 use Rattle.tcc_rows.specs.Settling.{settled_after}
 use Rattle.tcc_rows.proofs.Settled.{held_after, settled-append}
-use Rattle.tcc_txn.specs.declared.limits.TheConstants.{MAX_OPERATIONS, MAX_SEALS}
+use Rattle.tcc_txn.specs.declared.limits.TheConstants.{MAX_OPERATIONS}
 use Rattle.tcc_txn.specs.declared.limits.Limits.{Limits}
 use Rattle.tcc_txn.specs.declared.limits.Limits.TheVariants.{Small}
 use Rattle.tcc_txn.specs.declared.op.Op.{Op}
@@ -91,7 +91,7 @@ one-of false x y e f = f
 
 module _ (limits : Limits) where
   fault-in_time : (past : List Line) (last : Line) → none_at_end (fault_in_time limits past last) ≡ true
-  fault-in_time past line.Seal = one-of (nat_lt MAX_SEALS (seal_count (line.Seal ∷ past))) (Some kind.TooManySeals) None refl refl
+  fault-in_time past line.Seal = one-of (nat_lt (most_seals limits) (seal_count (line.Seal ∷ past))) (Some kind.TooManySeals) None refl refl
   fault-in_time past (line.Begin session) =
       one-of (is_begun session past) (Some kind.AlreadyBegun) _ refl
       (one-of (nat_lt (most_sessions limits) (length (sessions (line.Begin session ∷ past)))) (Some kind.TooManySessions) _ refl

@@ -6,11 +6,12 @@ use Rattle.tcc_rows.specs.declared.fault.RowFault.{RowFault}
 use Rattle.tcc_rows.specs.declared.fault.RowFaultKind.{RowFaultKind}
 use Rattle.tcc_rows.specs.declared.fault.RowFaultKind.TheVariants as kind
 
--- too many sessions, transactions or keys: the large limits have more room for these, and for nothing else that records show
+-- too many sessions, transactions, keys or seals: the large limits have more room for these, and for nothing else that records show
 abbrev pub is_beyond_small : RowFaultKind → Bool
 is_beyond_small kind.TooManySessions = true
 is_beyond_small kind.TooManyTransactions = true
 is_beyond_small kind.TooManyKeys = true
+is_beyond_small kind.TooManySeals = true
 is_beyond_small _ = false
 
 -- the answers end with such a fault

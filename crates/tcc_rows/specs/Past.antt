@@ -6,12 +6,12 @@ use Rattle.std.specs.Ordering.{nat_cmp}
 use Rattle.std.specs.Cmp.Lexicographic.{slice_cmp}
 use Rattle.std.specs.declared.cmp.Ordering.{Ordering}
 use Rattle.std.specs.declared.cmp.Ordering.TheVariants.{Less, Equal, Greater}
-use Rattle.tcc_txn.specs.Limits.{most_keys, most_sessions, most_transactions}
+use Rattle.tcc_txn.specs.Limits.{most_keys, most_seals, most_sessions, most_transactions}
 use Rattle.tcc_txn.specs.Bytes.{same}
 use Rattle.tcc_txn.specs.Transactions.{op_key}
 use Rattle.tcc_txn.specs.declared.limits.Limits.{Limits}
 use Rattle.tcc_txn.specs.declared.limits.Limits.TheVariants.{Small}
-use Rattle.tcc_txn.specs.declared.limits.TheConstants.{MAX_OPERATIONS, MAX_SEALS}
+use Rattle.tcc_txn.specs.declared.limits.TheConstants.{MAX_OPERATIONS}
 use Rattle.tcc_txn.specs.declared.op.Op.{Op}
 use Rattle.tcc_txn.specs.declared.op.Op.TheVariants.{Get, Put}
 use Rattle.tcc_rows.specs.declared.rows.Item.{Item}
@@ -115,7 +115,7 @@ is_late past (line.Operation session op) = is_ended session past
 
 -- the least kind of fault that a line is after others within the limits, if it is one and its session hasn't ended
 abbrev pub fault_in_time : Limits → List Line → Line → Option RowFaultKind
-fault_in_time limits past line.Seal = if nat_lt MAX_SEALS (seal_count (line.Seal ∷ past)) then Some kind.TooManySeals else None
+fault_in_time limits past line.Seal = if nat_lt (most_seals limits) (seal_count (line.Seal ∷ past)) then Some kind.TooManySeals else None
 fault_in_time limits past (line.Begin session) =
     if is_begun session past then Some kind.AlreadyBegun
     else if nat_lt (most_sessions limits) (length (sessions (line.Begin session ∷ past))) then Some kind.TooManySessions

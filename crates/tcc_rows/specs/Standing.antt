@@ -4,13 +4,12 @@ use Rattle.std.specs.List.{list_any}
 use Rattle.std.specs.BTreeSet.{BTreeSet, contains}
 use Rattle.std.specs.Ordering.{nat_cmp}
 use Rattle.std.specs.Cmp.Lexicographic.{slice_cmp}
-use Rattle.tcc_txn.specs.Limits.{most_keys, most_sessions, most_transactions}
+use Rattle.tcc_txn.specs.Limits.{most_keys, most_seals, most_sessions, most_transactions}
 use Rattle.tcc_txn.specs.Bytes.{same}
 use Rattle.tcc_txn.specs.Symbols.{is_symbol}
 use Rattle.tcc_rows.specs.Seats.{Seats, seat_at}
 use Rattle.tcc_rows.specs.Past.{begin_count, is_begun, is_ended, keys, ops_since, seal_count, sessions}
 use Rattle.tcc_txn.specs.declared.limits.Limits.{Limits}
-use Rattle.tcc_txn.specs.declared.limits.TheConstants.{MAX_SEALS}
 use Rattle.tcc_txn.specs.declared.op.Op.{Op}
 use Rattle.tcc_rows.specs.Line.{Line}
 use Rattle.tcc_rows.specs.declared.rows.progress.Progress.{Progress}
@@ -47,4 +46,4 @@ pub record IsAfter (limits : Limits) (past : List Line) (p : Progress) : Type 0 
   pub begun : p.begun ≡ begin_count past
   pub few_begun : begin_count past ≤ most_transactions limits
   pub sealed : p.seals ≡ seal_count past
-  pub few_sealed : seal_count past ≤ MAX_SEALS
+  pub few_sealed : seal_count past ≤ most_seals limits

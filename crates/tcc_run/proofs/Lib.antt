@@ -6,3 +6,15 @@ pub mod OneRun
 pub mod Runs
 pub mod Explains
 pub mod Earlier
+mod SoFar
+pub mod ClaimTexts
+pub mod FirstLines
+pub mod GoesOut
+pub mod Files
+pub mod Outcomes
+pub mod OneText
+pub mod Own
+pub mod Accepted
+pub mod LargeCloses
+pub mod LargeRuns
+pub mod WithinSmall

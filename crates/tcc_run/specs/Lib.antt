@@ -3,4 +3,7 @@ pub mod HeadlineRuns
 pub mod Interleaved
 pub mod Runs
 pub mod Closing
+pub mod Audited
+pub mod LargeClosing
+pub mod LargeRuns
 pub mod private

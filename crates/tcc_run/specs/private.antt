@@ -1,2 +1,4 @@
 -- What nobody has to believe: private functions say it to one another, or proofs to themselves.
 pub mod Stages
+pub mod Laws
+pub mod LargeStages

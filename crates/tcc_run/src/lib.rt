@@ -1,16 +1,24 @@
 //! Runs of `tcc` from bytes to bytes: what `tcc explain` and `tcc check` write for what they read, and the statuses that
-//! they end with. Nothing here knows of command lines or files, so other programs can make the same runs.
+//! they end with; and the answer for what recorders in threads left in a book. Nothing here knows of command lines or files, so other
+//! programs can make the same runs.
 #![tactic(auto)]
 
+mod audit_fault;
+mod auditing;
 mod explain;
 mod headline;
+pub mod large;
 pub mod laws;
+mod naming;
 mod outcome;
 
+pub use audit_fault::AuditFault;
+pub use auditing::audit;
 pub use explain::run_explain;
 pub use headline::{explain_snapshot, explain_snapshot_next};
-pub use outcome::first_answer;
-pub use tcc_check::{Claim, Judgement};
+pub use large::{Explained, Stage, Watcher, explain_large_snapshot, run_large};
+pub use naming::names;
 pub use tcc_explain::{Gate, OpenGate};
 pub use tcc_print::{Halt, Options, Status, json, printing, texts, verdict_text};
+pub use tcc_rules::{Claim, Judgement};
 pub use tcc_verdict::run_check;

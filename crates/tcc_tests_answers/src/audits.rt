@@ -8,10 +8,10 @@ use std::test::Fail;
 use std::thread;
 use std::thread::Threads;
 use tcc_answer::Answer;
-use tcc_audit::{AuditFault, audit};
 use tcc_book::{Book, Pass, WholeFault};
 use tcc_explain::{ExplainFault, OpenGate, Workers};
 use tcc_graph::Level;
+use tcc_run::{AuditFault, audit};
 use tcc_txn::{MAX_SESSIONS, MAX_TRANSACTIONS, Name, Op, Txn};
 
 /// Whether the audit gives the text.

@@ -3,10 +3,10 @@ use std::alloc::Global;
 use std::sync::Wait;
 use std::thread::Threads;
 use tcc_answer::Answer;
-use tcc_audit::{AuditFault, audit};
 use tcc_book::{Book, Pass};
 use tcc_explain::{OpenGate, Workers};
 use tcc_graph::Level;
+use tcc_run::{AuditFault, audit};
 use tcc_txn::{Name, Op, Txn};
 
 /// The passes of some sessions, opened in this order.

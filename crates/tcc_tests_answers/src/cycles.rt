@@ -3,7 +3,7 @@ use crate::answers::{STALE, TORN, answer_of, workers_of};
 use std::process::Abort;
 use std::thread::Threads;
 use tcc_answer::Answer;
-use tcc_cycle::laws::{bounded, parts, picked};
+use tcc_core::laws::{bounded, parts, picked};
 use tcc_graph::{Level, Link};
 
 /// Two that read one another, where a dearer cycle starts at a lower number.

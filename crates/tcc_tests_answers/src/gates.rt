@@ -9,12 +9,11 @@ use std::sync::atomic::{AtomicU64, Ordering};
 use std::thread::Threads;
 use std::{io, thread};
 use tcc_answer::Answer;
-use tcc_audit::audit;
 use tcc_book::Book;
 use tcc_explain::{Workers, explain, explain_next};
 use tcc_graph::Level;
 use tcc_rows::snapshot_of;
-use tcc_run::{Gate, Options, explain_snapshot, run_explain};
+use tcc_run::{Gate, Options, audit, explain_snapshot, run_explain};
 use tcc_txn::Snapshot;
 
 /// A read of the initial value behind an own write, once in each of two sessions: five starts.

@@ -1,7 +1,9 @@
-//! Tests of certificates, as they are written and read, and of answers, as values, as text and as JSON.
+//! Tests of certificates, as they are written, read and judged, and of answers, as values, as text and as JSON.
 #![tactic(auto)]
 
 #[cfg(test)]
 mod answer;
 #[cfg(test)]
 mod cert;
+#[cfg(test)]
+mod check;

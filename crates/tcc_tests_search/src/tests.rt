@@ -8,4 +8,6 @@ mod histories;
 mod large;
 mod near;
 mod order;
+mod packed;
+mod workers;
 mod world;

@@ -22,9 +22,9 @@ pub use alike::{Alike, are_same};
 pub use key_hints::KeyHints;
 pub use key_numbers::KeyNumbers;
 pub use limits::{
-    Bounds, LARGE_COUNT, LARGE_INPUT_BYTES, LARGE_KEYS, LARGE_SESSIONS, LARGE_TRANSACTIONS,
-    LargeLimits, Limits, MAX_COUNT, MAX_INPUT_BYTES, MAX_KEYS, MAX_NAME_BYTES, MAX_OPERATIONS,
-    MAX_SEALS, MAX_SESSIONS, MAX_TRANSACTIONS, SmallLimits,
+    Bounds, LARGE_COUNT, LARGE_INPUT_BYTES, LARGE_KEYS, LARGE_SEALS, LARGE_SESSIONS,
+    LARGE_TRANSACTIONS, LargeLimits, Limits, MAX_COUNT, MAX_INPUT_BYTES, MAX_KEYS, MAX_NAME_BYTES,
+    MAX_OPERATIONS, MAX_SEALS, MAX_SESSIONS, MAX_TRANSACTIONS, SmallLimits,
 };
 pub use list::ListOf;
 pub use memory::NoMemory;

@@ -1,7 +1,7 @@
 //! The limits of an input, each in one place.
 ghost use Rattle.std.specs.Prelude.{◌≡◌};
 ghost use Rattle.tcc_txn.specs.declared.limits.Limits.TheVariants.{Small, Large};
-ghost use Rattle.tcc_txn.specs.Limits.{most_bytes, most_keys, most_of, most_sessions, most_transactions};
+ghost use Rattle.tcc_txn.specs.Limits.{most_bytes, most_keys, most_of, most_seals, most_sessions, most_transactions};
 
 // Those of each input.
 
@@ -9,8 +9,6 @@ ghost use Rattle.tcc_txn.specs.Limits.{most_bytes, most_keys, most_of, most_sess
 pub const MAX_NAME_BYTES: usize = 32;
 /// The operations of a transaction.
 pub const MAX_OPERATIONS: usize = 256;
-/// The seals of an input.
-pub const MAX_SEALS: usize = 256;
 
 // The small ones.
 
@@ -22,6 +20,8 @@ pub const MAX_TRANSACTIONS: usize = 4095;
 pub const MAX_COUNT: usize = MAX_TRANSACTIONS + 1;
 /// The keys of an input.
 pub const MAX_KEYS: usize = 1024;
+/// The seals of an input.
+pub const MAX_SEALS: usize = 256;
 /// The bytes of an input.
 pub const MAX_INPUT_BYTES: u64 = 134_217_728;
 
@@ -35,15 +35,17 @@ pub const LARGE_TRANSACTIONS: usize = 16_777_215;
 pub const LARGE_COUNT: usize = LARGE_TRANSACTIONS + 1;
 /// The keys of a large input.
 pub const LARGE_KEYS: usize = 16_777_216;
+/// The seals of a large input: an answer a second for twelve days.
+pub const LARGE_SEALS: usize = 1_048_576;
 /// The bytes of a large input.
 pub const LARGE_INPUT_BYTES: u64 = 17_179_869_184;
 
-/// The limits that an input or a snapshot keeps; those on names, operations and seals are the same in both.
+/// The limits that an input or a snapshot keeps; those on names and operations are the same in both.
 #[derive(Clone, Copy, Debug, PartialEq, Eq)]
 pub enum Limits {
-    /// `MAX_SESSIONS`, `MAX_TRANSACTIONS`, `MAX_KEYS` and `MAX_INPUT_BYTES`.
+    /// `MAX_SESSIONS`, `MAX_TRANSACTIONS`, `MAX_KEYS`, `MAX_SEALS` and `MAX_INPUT_BYTES`.
     Small,
-    /// `LARGE_SESSIONS`, `LARGE_TRANSACTIONS`, `LARGE_KEYS` and `LARGE_INPUT_BYTES`.
+    /// `LARGE_SESSIONS`, `LARGE_TRANSACTIONS`, `LARGE_KEYS`, `LARGE_SEALS` and `LARGE_INPUT_BYTES`.
     Large,
 }
 
@@ -77,6 +79,13 @@ impl Limits {
         ensures { result ≡ most_keys self }
     {
         self.most_of(MAX_KEYS, LARGE_KEYS)
+    }
+
+    /// The most seals.
+    pub fn seals(self) -> usize
+        ensures { result ≡ most_seals self }
+    {
+        self.most_of(MAX_SEALS, LARGE_SEALS)
     }
 
     /// The most bytes.

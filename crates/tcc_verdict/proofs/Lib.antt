@@ -2,3 +2,8 @@ pub mod Checked
 pub mod Shown
 pub mod NotesLemmas
 mod FieldsLemmas
+pub mod Owned
+pub mod Faults
+pub mod Judgements
+pub mod TrueClaims
+pub mod LargeShown

@@ -1,4 +1,6 @@
 pub mod Checking
 pub mod Checks
 pub mod Stopping
+pub mod LargeTexts
+pub mod LargeChecks
 pub mod private

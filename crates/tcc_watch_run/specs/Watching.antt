@@ -17,7 +17,7 @@ use Rattle.tcc_print.specs.Printed.{CutsOff}
 use Rattle.tcc_print.specs.Statuses.{code_of, order_status}
 use Rattle.tcc_print.specs.declared.options.Options.{Options}
 use Rattle.tcc_print.specs.declared.status.Status.TheVariants.{Anomaly}
-use Rattle.tcc_large_run.specs.LargeRuns.{IsSaidWithLarge, answers_of}
+use Rattle.tcc_run.specs.LargeRuns.{IsSaidWithLarge, answers_of}
 
 -- consistent: N transactions, S sessions
 abbrev pub consistent_text : ℕ → ℕ → List ℕ

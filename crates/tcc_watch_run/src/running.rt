@@ -2,7 +2,7 @@
 ghost use Rattle.std.specs.Prelude.{◌≡◌, ◌≢◌, ℕ, List, [], None, IfOk, IfSome, MatchResult, OnOk};
 ghost use Rattle.tcc_rows.specs.{Ahead.fault_met, Reached.IsWithin, Recordings.IsRecording};
 ghost use Rattle.tcc_txn.specs.{Nested.IsNested, Snapshots.Sessions, declared.limits.Limits.TheVariants.Large};
-ghost use Rattle.tcc_large_run.specs.LargeRuns.{answers_of, records_of};
+ghost use Rattle.tcc_run.specs.LargeRuns.{answers_of, records_of};
 ghost use Rattle.tcc_print.specs.{Saying.IsTold, Saying.SaysAt, private.Courses.AllAnswered, private.Courses.EndsEarly};
 ghost use Rattle.tcc_watch_run.specs.Watching.{IsWatchRun, moments_of};
 ghost use Rattle.tcc_watch_run.specs.private.Following.{HasCaughtUp, IsFollowing};
@@ -14,10 +14,10 @@ use crate::told::Told;
 use std::alloc::Global;
 use std::io::{Read, Write};
 use std::thread::Threads;
-use tcc_large_run::Watcher;
 use tcc_print::printing::{print_endless, print_memory};
 use tcc_print::{Last, Options, RunContext, again};
 use tcc_rows::{LargeRecording, Moment};
+use tcc_run::Watcher;
 use tcc_txn::{LargeSnapshot, NoMemory};
 use tcc_verdict::stop;
 

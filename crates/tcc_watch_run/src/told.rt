@@ -11,9 +11,9 @@ use crate::following::Follower;
 use crate::lines::{consistent_line, still_line};
 use std::alloc::Global;
 use std::thread::Threads;
-use tcc_large_run::{Explained, Watcher, explain_large_snapshot};
 use tcc_print::{Options, RunContext, Status};
 use tcc_reads::ReadFault;
+use tcc_run::{Explained, Watcher, explain_large_snapshot};
 use tcc_txn::{LargeSnapshot, NoMemory};
 use tcc_watch::Verdict;
 

@@ -6,8 +6,8 @@ use Rattle.tcc_reads.specs.History.{History}
 use Rattle.tcc_reads.specs.Sources.{history}
 use Rattle.tcc_graph.specs.Levels.{Judged}
 use Rattle.tcc_graph.specs.Tables.{row_of}
-use Rattle.tcc_cycle.specs.Returns.{IsFirstReturn}
-use Rattle.tcc_cycle.specs.declared.first_return.FirstReturn.{FirstReturn}
+use Rattle.tcc_core.specs.Returns.{IsFirstReturn}
+use Rattle.tcc_core.specs.declared.first_return.FirstReturn.{FirstReturn}
 use Rattle.tcc_graph.specs.Labels.{labels_of}
 use Rattle.tcc_explain.specs.private.Capping.{AreFarRows}
 use Rattle.tcc_explain.specs.declared.explaining.Searched.{Searched}

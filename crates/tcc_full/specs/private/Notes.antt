@@ -1,8 +1,8 @@
 -- What is noted of what is answered.
 use Rattle.std.specs.Prelude.{ℕ, List, [], Option, Some, length}
 use Rattle.tcc_txn.specs.Snapshots.{Sessions}
-use Rattle.tcc_proving.specs.declared.answers.First.{First}
-use Rattle.tcc_proving.specs.declared.answers.First.TheVariants as first
+use Rattle.tcc_answering.specs.declared.firsts.First.{First}
+use Rattle.tcc_answering.specs.declared.firsts.First.TheVariants as first
 use Rattle.tcc_print.specs.Notes.{AddsEach, IsNoted, last_note, order_note, read_notes}
 use Rattle.tcc_answering.specs.declared.answering.Answered.{Answered}
 use Rattle.tcc_answering.specs.declared.answering.Answered.TheVariants as found

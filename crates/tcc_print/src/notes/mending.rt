@@ -5,7 +5,7 @@ ghost use Rattle.tcc_print.specs.RowNotes.{expected_text, limit_text, most_text,
 use std::alloc::Global;
 use tcc_answer::pieces::push;
 use tcc_rows::RowFaultKind;
-use tcc_txn::{Limits, MAX_OPERATIONS, MAX_SEALS, NoMemory};
+use tcc_txn::{Limits, MAX_OPERATIONS, NoMemory};
 
 /// What the note of a fault shows of the record.
 #[derive(Clone, Copy)]
@@ -121,7 +121,10 @@ fn push_limit(
             let things = "operations in a transaction";
             push_most(alloc, text, MAX_OPERATIONS as u64, things)
         }
-        RowFaultKind::TooManySeals => push_most(alloc, text, MAX_SEALS as u64, "seals"),
+        RowFaultKind::TooManySeals => {
+            let things = wider(limits, "seals, see --large", "seals");
+            push_most(alloc, text, limits.seals() as u64, things)
+        }
         _ => Ok(()),
     }
 }

@@ -19,7 +19,7 @@ use csv::ByteRecord;
 use std::alloc::Global;
 use std::collections::BTreeSet;
 use std::mem;
-use tcc_txn::{KeyHints, Limits, MAX_SEALS, Name, Op, SymbolTable, Txn};
+use tcc_txn::{KeyHints, Limits, Name, Op, SymbolTable, Txn};
 
 /// The limits; each session with the operations of the transaction that it has begun; the sessions that have ended; the
 /// keys so far; how many transactions were begun and how many seals there were; the numbers of the keys of the transaction
@@ -129,7 +129,7 @@ impl Progress {
         ensures passed { (limits : Limits) (past : List Line) → IsAfter limits past self.old → PassesLine limits past line.Seal result self.new }
         ensures refused { IfErr result (λ kind. kind ≡ RowFaultKind.TooManySeals) }
     {
-        if self.seals >= MAX_SEALS {
+        if self.seals >= self.limits.seals() {
             return Err(RowFaultKind::TooManySeals);
         }
         self.seals += 1;

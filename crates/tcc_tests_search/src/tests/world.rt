@@ -5,8 +5,8 @@ use std::process::Abort;
 use std::test::Fail;
 use tcc_derive::Prices;
 use tcc_graph::Level;
-use tcc_world::Event::{End, Look, Offer, Settle, Take};
-use tcc_world::{Event, RunFault, StepFault, World};
+use tcc_steal::Event::{End, Look, Offer, Settle, Take};
+use tcc_steal::{Event, RunFault, StepFault, World};
 
 /// The stale read twice, in two sessions.
 const TWO_STALE_READS: &str = "a,begin\na,w,x,1\na,commit\na,begin\na,r,x,0\na,commit\n\

@@ -3,7 +3,7 @@ use Rattle.std.specs.Prelude.{◌≡◌, ◌≢◌, ◌⊎◌, Bool, true, false
 use Rattle.tcc_txn.specs.Finished.{transaction_count}
 use Rattle.tcc_txn.specs.Snapshots.{Sessions}
 use Rattle.tcc_txn.specs.declared.limits.Limits.TheVariants.{Large}
-use Rattle.tcc_large_run.specs.LargeRuns.{IsSaidWithLarge}
+use Rattle.tcc_run.specs.LargeRuns.{IsSaidWithLarge}
 use Rattle.tcc_print.specs.Courses.{Said}
 use Rattle.tcc_print.specs.Saying.{Course}
 use Rattle.tcc_print.specs.declared.last.Last.{Last}

@@ -4,7 +4,7 @@ use Rattle.tcc_txn.specs.Nested.{IsNested}
 use Rattle.tcc_txn.proofs.Nesting.{nested_on}
 use Rattle.tcc_print.proofs.AtMoments.{ends-there, goes-on, has-ended}
 use Rattle.tcc_print.proofs.Courses.{ends-fault, none-answered, wants_memory}
-use Rattle.tcc_large_run.specs.LargeRuns.{records_of}
+use Rattle.tcc_run.specs.LargeRuns.{records_of}
 use Rattle.tcc_watch_run.specs.Watching.{moments_of}
 use Rattle.tcc_watch_run.specs.private.Stages.{course}
 use Rattle.tcc_watch_run.proofs.Earlier.{knows_at}

@@ -6,7 +6,7 @@ use Rattle.tcc_rows.specs.Reached.{IsWithin}
 use Rattle.tcc_rows.specs.Recordings.{IsRecording}
 use Rattle.tcc_txn.specs.Nested.{IsNested}
 use Rattle.tcc_txn.specs.declared.limits.Limits.TheVariants.{Large}
-use Rattle.tcc_large_run.specs.LargeRuns.{answers_of}
+use Rattle.tcc_run.specs.LargeRuns.{answers_of}
 use Rattle.tcc_print.proofs.Courses.{HasAnswered}
 use Rattle.tcc_watch_run.specs.Watching.{moments_of}
 use Rattle.tcc_watch_run.specs.private.Following.{IsFollowing}

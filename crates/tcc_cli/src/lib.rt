@@ -1,0 +1,27 @@
+//! The command lines of `tcc` and of the checker, and the files that they name: what the words ask for, which files are opened and made,
+//! and what is reported where one fails.
+#![tactic(auto)]
+
+mod checker;
+mod checking;
+mod command_line;
+mod ending;
+mod files;
+mod help;
+mod input;
+mod opening;
+mod quiet;
+mod telling;
+mod terminal;
+
+pub use checker::{read_check, read_check_words};
+pub use checking::{check_files, check_opened, open_both};
+pub use command_line::{Files, Request, read, read_words};
+pub use ending::exit_code;
+pub use files::{open_input, open_output, open_outputs, print_unopened};
+pub use help::VERSION;
+pub use input::RecordInput;
+pub use opening::Apart;
+pub use quiet::Quiet;
+pub use telling::Telling;
+pub use terminal::{are_waited_for, is_waited_for, size_of};

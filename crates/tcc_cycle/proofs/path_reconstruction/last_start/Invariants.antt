@@ -1,6 +1,0 @@
-use Rattle.std.proofs.Common.{ℕ, ◌<◌, ◌≤◌}
-use Rattle.tcc_cycle.specs.private.Ways.{IsBefore}
-use Rattle.tcc_cycle.proofs.path_reconstruction.last_start.Given as goal
-
-abbrev pub invariant-loop-from : goal.invariant-loop-from
-invariant-loop-from l = (u : ℕ) (c : ℕ) → l.back.start ≤ u → u < l.from → IsBefore l.prices l.back l.to l.left u c → ⊥

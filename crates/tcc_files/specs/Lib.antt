@@ -1,4 +1,0 @@
-pub mod Files
-pub mod FileIds
-pub mod Opened
-pub mod HandedOn

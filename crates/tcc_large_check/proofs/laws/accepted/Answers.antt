@@ -1,6 +1,0 @@
--- By the laws of the judge, for a history whose transactions stand by session.
-use Rattle.tcc_large_check.proofs.TrueClaims.{true_claim}
-use Rattle.tcc_large_check.proofs.laws.accepted.Goals as goal
-
-pub returns : goal.returns
-returns c = true_claim

@@ -1,3 +1,0 @@
-pub mod LargeTexts
-pub mod LargeChecks
-pub mod private

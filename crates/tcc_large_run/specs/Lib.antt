@@ -1,3 +1,0 @@
-pub mod LargeClosing
-pub mod LargeRuns
-pub mod private

@@ -1,3 +1,0 @@
--- What nobody has to believe: private functions say it to one another, or proofs to themselves.
-pub mod Laws
-pub mod Stages

@@ -1,0 +1,57 @@
+//! What a run says of a snapshot, for who says it elsewhere.
+ghost use Rattle.std.specs.Prelude.{◌≡◌, IfOk};
+ghost use Rattle.tcc_run.specs.{LargeRuns.IsExplained, private.LargeStages.outcome_said};
+
+use crate::large::outcome::Outcome;
+use crate::large::running::decide;
+use crate::large::watching::Watcher;
+use std::alloc::Global;
+use std::thread::Threads;
+use tcc_print::{Options, RunContext, Statement, Status};
+use tcc_reads::ReadFault;
+use tcc_txn::{LargeSnapshot, NoMemory};
+
+/// What is said of a snapshot.
+#[derive(Drop)]
+pub struct Explained {
+    /// As it goes out.
+    pub text: Vec<u8>,
+    /// How a run ends whose last text it is.
+    pub status: Status,
+    /// The read faults that it tells; none where it tells an answer.
+    pub faults: Vec<ReadFault>,
+}
+
+/// The read faults that are told.
+fn faults_of(alloc: Global, outcome: Outcome) -> Vec<ReadFault> {
+    match outcome {
+        Outcome::Unresolved(faults) => faults,
+        _ => Vec::new(alloc),
+    }
+}
+
+/// How an outcome goes out.
+fn text_of(alloc: Global, options: &Options, outcome: &Outcome) -> Result<Vec<u8>, NoMemory>
+    ensures { IfOk result (λ text. text.items ≡ (outcome_said options.now outcome.now).text) }
+{
+    let mut text = Vec::new(alloc);
+    match outcome.send(alloc, options, &mut text) {
+        Ok(()) => Ok(text),
+        Err(_) => Err(NoMemory),
+    }
+}
+
+/// What `run_large` says of a snapshot, with no certificate.
+pub fn explain_large_snapshot<T: Threads + Sync, G: Watcher>(
+    run: &RunContext<T, G>,
+    snapshot: &LargeSnapshot,
+) -> Result<Explained, NoMemory>
+    ensures { IfOk result (IsExplained run.now.options.now snapshot.now) }
+{
+    let outcome = decide(run, snapshot, false)?;
+    Ok(Explained {
+        text: text_of(run.alloc, run.options, &outcome)?,
+        status: outcome.status(run.options.required),
+        faults: faults_of(run.alloc, outcome),
+    })
+}

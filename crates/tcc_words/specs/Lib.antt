@@ -1,2 +1,0 @@
-pub mod Checkers
-pub mod CommandLines

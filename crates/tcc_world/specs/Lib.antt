@@ -1,6 +1,0 @@
-pub mod Worlds
-pub mod Steps
-pub mod Soundness
-pub mod Machines
-pub mod Outcomes
-pub mod private
