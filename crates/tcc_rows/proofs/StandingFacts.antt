@@ -1,8 +1,8 @@
 -- What is kept of the lines, after one more of them.
 use Rattle.std.proofs.Common.{◌≡◌, ℕ, ◌+◌, ◌<◌, ◌≤◌, ◌⊎◌, Bool, true, false, ◌||◌, List, [], ◌∷◌, ◌++◌, length, Option, None}
-use Rattle.std.proofs.Common.{Some, Ok, Err, Result, length-append, refl, sym, ap, ◌∙◌, rules, arith, cond, nat_lt}
+use Rattle.std.proofs.Common.{Some, Ok, Err, Result, length-append, refl, sym, ap, ◌∙◌, arith, cond, nat_lt}
 use Rattle.std.proofs.Common.{inl, inr}
-use Rattle.std.specs.Prelude.{IfErr, IsSome, is_some}
+use Rattle.std.specs.Prelude.{IfErr, is_some}
 use Rattle.std.specs.List.{list_any}
 use Rattle.std.specs.BTreeSet.{BTreeSet, contains}
 use Rattle.std.specs.Ordering.{is_eq, nat_cmp}
