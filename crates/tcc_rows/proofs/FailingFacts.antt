@@ -21,7 +21,6 @@ use Rattle.tcc_rows.specs.Settling.{settled_after}
 use Rattle.tcc_rows.proofs.Settled.{held_after, settled-append}
 use Rattle.tcc_txn.specs.declared.limits.TheConstants.{MAX_OPERATIONS}
 use Rattle.tcc_txn.specs.declared.limits.Limits.{Limits}
-use Rattle.tcc_txn.specs.declared.limits.Limits.TheVariants.{Small}
 use Rattle.tcc_txn.specs.declared.op.Op.{Op}
 use Rattle.tcc_txn.specs.declared.op.Op.TheVariants.{Put}
 use Rattle.tcc_rows.specs.declared.rows.Item.{Item}

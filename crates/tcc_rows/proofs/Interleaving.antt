@@ -7,9 +7,8 @@ use Rattle.std.specs.Option.{option_map_or}
 use Rattle.std.specs.FinMap as finite
 use Rattle.std.specs.Cmp.Lexicographic.{nat_list_cmp_total}
 use Rattle.std.proofs.lemmas.Map.Lookups.{exact_bytes}
-use Rattle.tcc_rows.specs.Answers.{Answers, after_item, answers_of, go_on, records_of, judged_within}
+use Rattle.tcc_rows.specs.Answers.{Answers, after_item, go_on, judged_within}
 use Rattle.tcc_rows.specs.private.Words.{answers_after, judged}
-use Rattle.tcc_rows.specs.Items.{finished_in}
 use Rattle.tcc_rows.specs.Interleaved.{AreInterleaved, is_by}
 use Rattle.tcc_txn.specs.Bytes.{same}
 use Rattle.tcc_rows.specs.Lines.{Record, in_session, is_cut, line_of, op_of}

@@ -1,4 +1,4 @@
--- The least session of a map that has begun a transaction is the least one that has.
+-- The least session with a seat that has begun a transaction is the least one that has.
 use Rattle.std.proofs.Common.{◌≡◌, ◌≢◌, ℕ, Bool, true, false, List, [], ◌∷◌, Option, None, Some, refl, sym, ap, ◌∙◌, cond}
 use Rattle.std.specs.Prelude.{All, filter, fold, is_some, ◌||◌}
 use Rattle.std.specs.List.{list_any}
@@ -7,13 +7,13 @@ use Rattle.std.specs.Option.{option_map_or}
 use Rattle.std.specs.Ordering.{nat_cmp, ordering_reverse}
 use Rattle.std.specs.declared.cmp.Ordering.{Ordering}
 use Rattle.std.specs.declared.cmp.Ordering.TheVariants.{Less, Equal, Greater}
-use Rattle.std.specs.Cmp.Lexicographic.{slice_cmp, nat_list_cmp_total, texts_ties}
+use Rattle.std.specs.Cmp.Lexicographic.{slice_cmp, nat_list_cmp_total}
 use Rattle.std.specs.FinMap.{nat_cmp-IsAntisymmetric, slice_cmp-IsAntisymmetric}
-use Rattle.std.specs.BTreeMap.{get, is_at}
 use Rattle.std.proofs.lemmas.List.Elements.{All-head, All-tail}
 use Rattle.tcc_txn.specs.Bytes.{same}
 use Rattle.tcc_rows.specs.Past.{is_begun, least, lesser, open_sessions, ops_since, sessions}
-use Rattle.tcc_rows.specs.Standing.{HoldsSeats, Seats}
+use Rattle.tcc_rows.specs.Seats.{Seats, seat_at}
+use Rattle.tcc_rows.specs.Standing.{HoldsSeats}
 use Rattle.tcc_rows.specs.private.Passing.{lower}
 use Rattle.tcc_txn.specs.declared.limits.Limits.{Limits}
 use Rattle.tcc_txn.specs.declared.op.Op.{Op}
@@ -144,11 +144,6 @@ stays ((name, Some ops) ∷ es) a =
     let (m, found, under) = stays es (lesser a name) in
     (m, found, up-to-trans m (lesser a name) a under (lesser-up-to a name).0)
 
--- a look-up by order is one by equality
-lookup-same : (t : List ℕ) (es : List Entry) → lookup (is_at (slice_cmp nat_cmp t)) es ≡ lookup (same t) es
-lookup-same t [] = refl
-lookup-same t (e ∷ es) = λ i. cond (sym (texts_ties t e.0) i) (Some e.1) (lookup-same t es i)
-
 -- one that has begun is not below the least
 least-under : (es : List Entry) (before : Option (List ℕ)) (t : List ℕ) (ops : List Op) → lookup (same t) es ≡ Some (Some ops)
     → (m : List ℕ) × (fold lower before es ≡ Some m) × IsUpTo m t
@@ -187,7 +182,7 @@ least-begun P ((name, Some ops) ∷ es) (Some b) m was each e =
 module _ (limits : Limits) where
   -- a session that has begun a transaction has the seat of one
   begun-seat : (t : List ℕ) (past : List Line) (seats : Seats) → HoldsSeats limits past seats → is_begun t past ≡ true
-      → get (slice_cmp nat_cmp) seats t ≡ Some (Some (ops_since t past))
+      → seat_at seats t ≡ Some (Some (ops_since t past))
   begun-seat t past seats holds begun = holds.each t ∙ rw begun refl
 
   open-taken : (o : Option (List Op)) → is_some o ≡ true → (ops : List Op) × (o ≡ Some ops)
@@ -195,33 +190,33 @@ module _ (limits : Limits) where
   open-taken (Some ops) e = (ops, refl)
 
   -- an entry of one that has begun
-  entry-begun : (past : List Line) (seats : Seats) → HoldsSeats limits past seats → (e : Entry) → get (slice_cmp nat_cmp) seats e.0 ≡ Some e.1 → is_some e.1 ≡ true
+  entry-begun : (past : List Line) (seats : Seats) → HoldsSeats limits past seats → (e : Entry) → seat_at seats e.0 ≡ Some e.1 → is_some e.1 ≡ true
       → is_begun e.0 past ≡ true
   entry-begun past seats holds e there is_open =
       let (ops, taken) = open-taken e.1 is_open in
       (seat-taken _ _ _ ops (sym (holds.each e.0) ∙ there ∙ ap Some taken)).0
 
-  -- the least session of the map that has begun a transaction is the least one that has
-  pub fold-is-least : (past : List Line) (seats : Seats) → HoldsSeats limits past seats → All (λ (e : Entry). get (slice_cmp nat_cmp) seats e.0 ≡ Some e.1) seats.entries
-      → fold lower None seats.entries ≡ least (open_sessions past)
-  fold-is-least past seats holds found = by (fold lower None seats.entries) refl
+  -- the least session with a seat that has begun a transaction is the least one that has
+  pub fold-is-least : (past : List Line) (seats : Seats) → HoldsSeats limits past seats → All (λ (e : Entry). seat_at seats e.0 ≡ Some e.1) seats
+      → fold lower None seats ≡ least (open_sessions past)
+  fold-is-least past seats holds found = by (fold lower None seats) refl
     where
-      under : (t : List ℕ) → is_begun t past ≡ true → (m : List ℕ) × (fold lower None seats.entries ≡ Some m) × IsUpTo m t
-      under t begun = least-under seats.entries None t (ops_since t past) (sym (lookup-same t seats.entries) ∙ begun-seat t past seats holds begun)
+      under : (t : List ℕ) → is_begun t past ≡ true → (m : List ℕ) × (fold lower None seats ≡ Some m) × IsUpTo m t
+      under t begun = least-under seats None t (ops_since t past) (begun-seat t past seats holds begun)
 
-      none : fold lower None seats.entries ≡ None → (t : List ℕ) → is_begun t past ≡ true → ⊥
+      none : fold lower None seats ≡ None → (t : List ℕ) → is_begun t past ≡ true → ⊥
       none f t begun = let (m, there, up_to) = under t begun in cc (f, there)
 
-      below : (s : List ℕ) → fold lower None seats.entries ≡ Some s → (t : List ℕ) → is_begun t past ≡ true → IsUpTo s t
+      below : (s : List ℕ) → fold lower None seats ≡ Some s → (t : List ℕ) → is_begun t past ≡ true → IsUpTo s t
       below s f t begun =
           let (m, there, up_to) = under t begun in
           let one : m ≡ s = cc (f, there) in
           rw (← one) up_to
 
-      by : (o : Option (List ℕ)) → fold lower None seats.entries ≡ o → o ≡ least (open_sessions past)
+      by : (o : Option (List ℕ)) → fold lower None seats ≡ o → o ≡ least (open_sessions past)
       by None f = rw (none-open (λ t. is_begun t past) (sessions past) (none f)) refl
       by (Some s) f =
           let begun : is_begun s past ≡ true =
-          least-begun (λ t. is_begun t past ≡ true) seats.entries None s (λ a at. cc at)
+          least-begun (λ t. is_begun t past ≡ true) seats None s (λ a at. cc at)
           (λ k d inside. entry-begun past seats holds _ (found k d inside)) f in
           sym (least-is (λ t. is_begun t past) s (sessions past) begun (begun-seen s past begun) (below s f))

@@ -16,6 +16,7 @@ mod RecordSteps
 mod RecordingSteps
 mod SealedAlike
 mod Settled
+mod SeatFacts
 mod SettlingLimits
 mod StandingFacts
 mod WorkedTexts

@@ -1,14 +1,15 @@
 -- The fields of a record, and the number that a field writes.
-use Rattle.std.proofs.Common.{◌≡◌, ◌≢◌, ℕ, zero, suc, ◌<◌, ◌^◌, Bool, true, false, List, [], ◌∷◌}
-use Rattle.std.proofs.Common.{length, get_or, refl, sym, ap, rules, arith, cond, nat_lt, inl, inr}
+use Rattle.std.proofs.Common.{◌≡◌, ℕ, zero, suc, ◌+◌, ◌*◌, ◌-◌, ◌<◌, ◌≤◌, ◌^◌, Bool, true, false, List, [], ◌∷◌}
+use Rattle.std.proofs.Common.{length, take, drop, get_or, refl, ap, rules, arith, cond, nat_lt, ltb, inl, inr}
 use Rattle.std.proofs.Common.{◌∙◌}
-use Rattle.std.specs.Prelude.{IsSome, option_map, Option, None, Some, Result, Ok, Err, IsUtf8, ◌&&◌, is_some, codes}
-use Rattle.std.specs.Result.{result_ok, OkIff}
+use Rattle.std.specs.Prelude.{IsSome, option_map, Option, None, Some, Result, Ok, Err, ◌&&◌, is_some, codes}
+use Rattle.std.specs.Char.{digit_value, is_ascii_digit}
 use Rattle.std.specs.Str.{all_ascii_digits}
-use Rattle.std.specs.Str.Parse.{ParsesUnsigned, digits_value}
+use Rattle.std.specs.Str.Parse.{digits_value}
 use Rattle.std.proofs.lemmas.Bool.Decides.{nat_tests}
-use Rattle.std.proofs.lemmas.Str.{IsUtf8-from_ascii}
-use Rattle.std.proofs.lemmas.Str.Parse.{numerals_by_value, parse_plain, tells_all_ascii_digits}
+use Rattle.std.proofs.lemmas.Int.Digits.{digits_value_more}
+use Rattle.std.proofs.lemmas.List.{at_drop_more, drop_all, take_all}
+use Rattle.std.proofs.lemmas.Str.Parse.{digits_value-take-le}
 use Rattle.csv.specs.Records.{field_at}
 use Rattle.tcc_txn.specs.Bytes.{same}
 use Rattle.tcc_rows.specs.Lines.{Record, digits_of, in_session, line_of, op_of}
@@ -23,39 +24,67 @@ use Rattle.tcc_rows.specs.Line as line
 use Rattle.tcc_rows.specs.declared.fault.RowFaultKind.TheVariants as kind
 use Rattle.tcc_rows.specs.declared.rows.progress.Progress.{Progress}
 
--- digits are text
-ascii-digits : (bytes : List ℕ) → all_ascii_digits bytes ≡ true → (i : ℕ) → get_or bytes i 0 < 128
-ascii-digits [] e i = omega arith
-ascii-digits (c ∷ cs) e zero = let here = (tells_all_ascii_digits.parts c cs e).0 in omega (arith, here)
-ascii-digits (c ∷ cs) e (suc i) = ascii-digits cs (tells_all_ascii_digits.parts c cs e).1 i
-
 digits-by : (a b : Bool) (n : ℕ) → (a ≡ true → b ≡ true → ⊥) → cond (a && b) (Some n) None ≡ None
 digits-by true true n h = absurd (h refl refl)
 digits-by true false n h = refl
 digits-by false b n h = refl
 
--- what is no text writes no number
-pub digits_of-no_text : (bytes : List ℕ) → ¬ (IsUtf8 bytes) → digits_of bytes ≡ None
-digits_of-no_text [] not_text = refl
-digits_of-no_text (c ∷ cs) not_text =
-    digits-by _ _ _ (λ digits _. not_text (IsUtf8-from_ascii (c ∷ cs) (ascii-digits (c ∷ cs) digits)))
-
 below : (m n : ℕ) → nat_lt m n ≡ true → m < n
 below m n e = grind (arith, nat_tests)
 
--- what is parsed is the number that the digits write
-pub digits_of-parsed : {E : Type 0} (bytes : List ℕ) (r : Result ℕ E) → ParsesUnsigned 64 10 bytes r → get_or bytes 0 0 ≢ 43 → result_ok r ≡ digits_of bytes
-digits_of-parsed bytes r parsed unsigned = by bytes r (parse_plain (numerals_by_value _ tells_all_ascii_digits) 64 bytes r parsed unsigned)
-  where
-    by : {E : Type 0} (bytes : List ℕ) (r : Result ℕ E) → OkIff r ((all_ascii_digits bytes ≡ true) × (0 < length bytes) × (digits_value 10 bytes < 2 ^ 64))
-        (digits_value 10 bytes) → result_ok r ≡ digits_of bytes
-    by [] (Ok x) is = absurd (omega (arith, is.0.1))
-    by (c ∷ cs) (Ok x) is =
-        let small : nat_lt (digits_value 10 (c ∷ cs)) (2 ^ 64) ≡ true = grind (arith, nat_tests, is.0.2) in
-        rw (is.0.0, small) (ap Some is.1)
-    by [] (Err e) is = refl
-    by (c ∷ cs) (Err e) is =
-        sym (digits-by _ _ _ (λ digits small. is (digits, omega arith, below _ _ small)))
+-- what has another byte writes no number
+pub digits_of-other : (bytes : List ℕ) → all_ascii_digits bytes ≡ false → digits_of bytes ≡ None
+digits_of-other [] other = refl
+digits_of-other (c ∷ cs) other = rw other refl
+
+-- digits that write too much for 64 bits
+pub digits_of-large : (bytes : List ℕ) → 2 ^ 64 ≤ digits_value 10 bytes → digits_of bytes ≡ None
+digits_of-large [] large = refl
+digits_of-large (c ∷ cs) large =
+    digits-by (all_ascii_digits (c ∷ cs)) (nat_lt (digits_value 10 (c ∷ cs)) (2 ^ 64)) _ (λ _ small. absurd (omega (arith, large, below _ _ small)))
+
+-- digits for which 64 bits have room
+pub digits_of-all : (bytes : List ℕ) (value : ℕ) → 0 < length bytes → all_ascii_digits bytes ≡ true → value ≡ digits_value 10 bytes → value < 2 ^ 64
+    → Some value ≡ digits_of bytes
+digits_of-all [] value some digits is room = absurd (omega (arith, some))
+digits_of-all (c ∷ cs) value some digits is room =
+    let small : nat_lt (digits_value 10 (c ∷ cs)) (2 ^ 64) ≡ true = grind (arith, nat_tests, is, room) in
+    rw (digits, small) (ap Some is)
+
+-- one more digit
+pub digits-more : (ds : List ℕ) (i : ℕ) → i < length ds → is_ascii_digit (get_or ds i 0) ≡ true
+    → all_ascii_digits (drop i ds) ≡ all_ascii_digits (drop (i + 1) ds)
+digits-more ds i lt is = at_drop_more all_ascii_digits ds i 0 lt ∙ rw is refl
+
+pub digits-end : (ds : List ℕ) (i : ℕ) → i < length ds → is_ascii_digit (get_or ds i 0) ≡ false → all_ascii_digits (drop i ds) ≡ false
+digits-end ds i lt isnt = at_drop_more all_ascii_digits ds i 0 lt ∙ rw isnt refl
+
+pub digit-bounds : (c : ℕ) → is_ascii_digit c ≡ true → (48 ≤ c) × (c ≤ 57)
+digit-bounds c is = (grind (arith, nat_tests), grind (arith, nat_tests))
+
+digit-value : (c : ℕ) → 48 ≤ c → c ≤ 57 → digit_value c ≡ c - 48
+digit-value c low high =
+    let above : ltb c 48 ≡ false = grind (arith, nat_tests) in
+    let within : ltb c 58 ≡ true = grind (arith, nat_tests) in
+    rw (above, within) refl
+
+pub value-more : (ds : List ℕ) (i value : ℕ) → i < length ds → is_ascii_digit (get_or ds i 0) ≡ true → value ≡ digits_value 10 (take i ds)
+    → value * 10 + (get_or ds i 0 - 48) ≡ digits_value 10 (take (i + 1) ds)
+value-more ds i value lt is so_far =
+    let bounds = digit-bounds (get_or ds i 0) is in
+    let digit = digit-value (get_or ds i 0) bounds.0 bounds.1 in
+    rw (digits_value_more 10 ds i lt, digit) (omega (arith, so_far))
+
+-- at the end all are digits, and all are read
+pub digits-whole : (ds : List ℕ) (i : ℕ) → length ds ≤ i → all_ascii_digits (drop i ds) ≡ true
+digits-whole ds i end = ap all_ascii_digits (drop_all i ds end) ∙ refl
+
+pub value-whole : (ds : List ℕ) (i : ℕ) → length ds ≤ i → digits_value 10 (take i ds) ≡ digits_value 10 ds
+value-whole ds i end = ap (digits_value 10) (take_all i ds end)
+
+-- what some of the digits write has room, where all have it
+pub value-large : (ds : List ℕ) (i : ℕ) → 2 ^ 64 ≤ digits_value 10 (take i ds) → 2 ^ 64 ≤ digits_value 10 ds
+value-large ds i large = omega (arith, large, digits_value-take-le 10 ds i (omega arith))
 
 -- a record has a field at each index below its length
 pub field-there : {A : Type 0} (f : A → List ℕ) (o : Option A) (fields : Record) (index : ℕ) → index < length fields

@@ -17,14 +17,14 @@ use Rattle.tcc_txn.specs.declared.op.Op.{Op}
 use Rattle.tcc_rows.specs.Items.{finished_in, with_item}
 use Rattle.tcc_rows.specs.Line.{Line}
 use Rattle.tcc_rows.specs.Line as line
-use Rattle.tcc_rows.specs.Past.{begins, is_begun, is_ended, is_mark, ops_since, writes_of}
+use Rattle.tcc_rows.specs.Past.{is_begun, is_ended, ops_since, writes_of}
 use Rattle.tcc_rows.specs.Settling.{Pending, is_read, is_read_by, is_seen, seen_among, settled_after, shown, told, unseen_among, with_shown}
 use Rattle.tcc_rows.specs.declared.rows.Item.{Item}
 use Rattle.tcc_rows.specs.declared.rows.Item.TheVariants as item
 use Rattle.tcc_rows.specs.declared.fault.RowFaultKind.TheVariants as kind
-use Rattle.tcc_rows.proofs.FinishedFacts.{AreLawful, finished_by, finished_in-push, fold-append, in-time, items_in, no-begin-fault, no-finish-fault, tied-same}
+use Rattle.tcc_rows.proofs.FinishedFacts.{AreLawful, finished_by, finished_in-push, fold-append, in-time, items_in, no-finish-fault, tied-same}
 use Rattle.tcc_rows.proofs.Interleaving.{SameLines, does, finished-same, ops-kept}
-use Rattle.tcc_rows.proofs.PastFacts.{same-itself, same-name}
+use Rattle.tcc_rows.proofs.PastFacts.{same-name}
 use Rattle.tcc_rows.proofs.ReadsFacts.{IsSilent, reads_by, read-told, read-with, seen-more, seen-same}
 use Rattle.tcc_rows.proofs.Settled.{held_after}
 use Rattle.tcc_rows.proofs.WritesFacts.{writes-silent}

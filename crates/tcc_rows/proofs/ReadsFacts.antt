@@ -1,5 +1,5 @@
 -- Which values were read, after one more transaction.
-use Rattle.std.proofs.Common.{◌≡◌, ℕ, Bool, true, false, cond, ◌&&◌, ◌||◌, T, List, [], ◌∷◌, ◌++◌, length, refl, ap, sym, ◌∙◌, arith, Option, None, Some}
+use Rattle.std.proofs.Common.{◌≡◌, ℕ, Bool, true, false, ◌||◌, T, List, [], ◌∷◌, ◌++◌, length, refl, ap, sym, ◌∙◌, arith, None}
 use Rattle.std.specs.Prelude.{fold, map, unwrap_or}
 use Rattle.std.specs.FinMap as finite
 use Rattle.std.specs.FinMap.Entries.{find, is_sorted, put}
@@ -13,7 +13,7 @@ use Rattle.tcc_txn.specs.Transactions.{Transaction}
 use Rattle.tcc_txn.specs.declared.op.Op.{Op}
 use Rattle.tcc_txn.specs.declared.op.Op.TheVariants.{Get, Put}
 use Rattle.tcc_txn.proofs.Growing.{both-parts, find-absent}
-use Rattle.tcc_txn.proofs.GrownSnapshot.{entries-with_transaction, grown}
+use Rattle.tcc_txn.proofs.GrownSnapshot.{entries-with_transaction}
 use Rattle.tcc_txn.proofs.SortedParts.{name_cmp}
 use Rattle.tcc_rows.specs.Items.{with_item}
 use Rattle.tcc_rows.specs.Settling.{Pending, is_read, is_read_by, is_read_in, is_seen, is_seen_write, told}

@@ -1,18 +1,13 @@
 -- Settled items, piece by piece.
-use Rattle.std.proofs.Common.{◌≡◌, ℕ, zero, suc, ◌+◌, ◌⊎◌, inl, inr, Bool, true, false, cond, ◌||◌, List, [], ◌∷◌, ◌++◌, filter, length, map, refl, sym, ap, subst, ◌∙◌, arith}
+use Rattle.std.proofs.Common.{◌≡◌, ◌+◌, ◌⊎◌, inl, inr, Bool, true, false, List, [], ◌∷◌, ◌++◌, length, map, refl, sym, ap, ◌∙◌, arith}
 use Rattle.std.proofs.Common.{append_assoc, append-nil, length-append}
-use Rattle.std.specs.Prelude.{fold}
-use Rattle.std.specs.List.{list_any}
 use Rattle.std.proofs.lemmas.List.Elements.{filter-append}
 use Rattle.tcc_txn.specs.Finished.{with_transaction}
 use Rattle.tcc_txn.specs.Snapshots.{Sessions}
-use Rattle.tcc_txn.specs.Transactions.{Transaction}
-use Rattle.tcc_rows.specs.Items.{with_item}
-use Rattle.tcc_rows.specs.Recordings.{IsAtMoment, has_seal, is_seal, items_until, seals_in}
+use Rattle.tcc_rows.specs.Recordings.{IsAtMoment, has_seal, is_seal, seals_in}
 use Rattle.tcc_rows.specs.Settling.{Pending, seen_among, settled_after, shown, told, unseen_among, with_shown}
 use Rattle.tcc_rows.specs.declared.rows.Item.{Item}
 use Rattle.tcc_rows.specs.declared.rows.Item.TheVariants as item
-use Rattle.tcc_rows.proofs.FinishedFacts.{fold-append}
 
 -- what is finished and what is pending after some items
 abbrev pub held_after : Sessions → Pending → List Item → Sessions × Pending

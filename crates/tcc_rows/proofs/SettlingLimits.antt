@@ -1,6 +1,6 @@
 -- What settled answers finish keeps the limits, since all keeps them with all whose outcome nobody told.
 use Rattle.std.proofs.Common.{◌≡◌, ℕ, ◌+◌, ◌≤◌, Bool, true, false, cond, not, ◌||◌, List, [], ◌∷◌, ◌++◌, filter, length, map, refl, sym, ap, subst, ◌∙◌, arith}
-use Rattle.std.proofs.Common.{length-append, Option, None, Some}
+use Rattle.std.proofs.Common.{length-append}
 use Rattle.std.specs.Prelude.{fold, is_none, unwrap_or}
 use Rattle.std.specs.FinMap as finite
 use Rattle.std.specs.List.{list_any}
@@ -12,7 +12,6 @@ use Rattle.std.proofs.lemmas.List.Folds.{list_any-append}
 use Rattle.std.proofs.lemmas.Map.Made.{length-le_from_is_member}
 use Rattle.tcc_txn.specs.Bytes.{same}
 use Rattle.tcc_txn.specs.Finished.{IsWithinLimits, transaction_count, with_transaction}
-use Rattle.tcc_txn.specs.Limits.{most_sessions, most_transactions}
 use Rattle.tcc_txn.specs.Snapshots.{Sessions}
 use Rattle.tcc_txn.specs.Transactions.{Transaction}
 use Rattle.tcc_txn.specs.declared.limits.Limits.{Limits}
@@ -22,7 +21,7 @@ use Rattle.tcc_rows.specs.Items.{finished_in, with_item}
 use Rattle.tcc_rows.specs.Settling.{Pending, is_seen, seen_among, settled_after, shown, told, unseen_among, with_shown}
 use Rattle.tcc_rows.specs.declared.rows.Item.{Item}
 use Rattle.tcc_rows.specs.declared.rows.Item.TheVariants as item
-use Rattle.tcc_rows.proofs.FinishedFacts.{all-limits, all_in, distinct-keys, fold-append, has, has-insert, with_any}
+use Rattle.tcc_rows.proofs.FinishedFacts.{all-limits, distinct-keys, fold-append, has, has-insert, with_any}
 
 -- ---- more of some sessions
 

@@ -1,10 +1,9 @@
 -- What is kept of the lines, after one more of them.
 use Rattle.std.proofs.Common.{◌≡◌, ℕ, ◌+◌, ◌<◌, ◌≤◌, ◌⊎◌, Bool, true, false, ◌||◌, List, [], ◌∷◌, ◌++◌, length, Option, None}
-use Rattle.std.proofs.Common.{Some, Ok, Err, Result, length-append, refl, sym, ap, ◌∙◌, rules, arith, cond, nat_lt}
+use Rattle.std.proofs.Common.{Some, Ok, Err, Result, length-append, refl, sym, ap, ◌∙◌, arith, cond, nat_lt}
 use Rattle.std.proofs.Common.{inl, inr}
-use Rattle.std.specs.Prelude.{IfErr, IsSome, is_some}
+use Rattle.std.specs.Prelude.{IfErr, is_some}
 use Rattle.std.specs.List.{list_any}
-use Rattle.std.specs.BTreeMap.{get, btree_map_len, Updates}
 use Rattle.std.specs.BTreeSet.{BTreeSet, contains}
 use Rattle.std.specs.Ordering.{is_eq, nat_cmp}
 use Rattle.std.specs.Cmp.Lexicographic.{slice_cmp, texts_ties}
@@ -14,8 +13,9 @@ use Rattle.tcc_txn.specs.Bytes.{same}
 use Rattle.tcc_txn.specs.Symbols.{is_symbol, with_symbol}
 use Rattle.tcc_txn.proofs.NumberedNames.{symbol-more}
 use Rattle.tcc_rows.specs.Past.{begin_count, fault_within, is_begun, is_ended, keys, ops_since, sessions, with_name}
-use Rattle.tcc_rows.specs.Standing.{Seats, HoldsEnded, HoldsNames, HoldsSeats, IsAfter, seat}
-use Rattle.tcc_rows.specs.private.Passing.{NotesName, PassesLine}
+use Rattle.tcc_rows.specs.Seats.{Seats, seat_at}
+use Rattle.tcc_rows.specs.Standing.{HoldsEnded, HoldsNames, HoldsSeats, IsAfter, seat}
+use Rattle.tcc_rows.specs.private.{Passing.NotesName, Passing.PassesLine, Seating.PutsSeat}
 use Rattle.tcc_txn.specs.Transactions.{op_key}
 use Rattle.tcc_txn.specs.declared.limits.Limits.{Limits}
 use Rattle.tcc_txn.specs.declared.op.Op.{Op}
@@ -34,13 +34,8 @@ use Rattle.tcc_txn.specs.declared.limits.TheConstants.{MAX_OPERATIONS}
 pub record Seated (past : List Line) (s : List ℕ) (op : Op) (old : Progress) (seats : Seats) : Type 0 where
   pub begun : is_begun s past ≡ true
   pub room : length (ops_since s past) < MAX_OPERATIONS
-  pub updates : Updates (slice_cmp nat_cmp) old.sessions seats s (Some (Some (ops_since s past ++ op ∷ [])))
-  pub count : btree_map_len seats ≡ btree_map_len old.sessions
-
--- what the map has after a seat was put there
-put : (old new : Seats) (s : List ℕ) (w : Option (Option (List Op))) → Updates (slice_cmp nat_cmp) old new s w → (q : List ℕ)
-    → get (slice_cmp nat_cmp) new q ≡ cond (same s q) w (get (slice_cmp nat_cmp) old q)
-put old new s w updates q = updates.0 q ∙ ap (λ b. cond b w (get (slice_cmp nat_cmp) old q)) (sym (texts_ties s q))
+  pub updates : PutsSeat old.sessions s (Some (ops_since s past ++ op ∷ [])) seats
+  pub count : length seats ≡ length old.sessions
 
 cond-or : (b c : Bool) → (b || c) ≡ cond b true c
 cond-or true c = refl
@@ -93,19 +88,19 @@ module _ (limits : Limits) where
 
   -- what a look at the seat of a session says of a begin
   pub begins-again : (past : List Line) (s : List ℕ) (seats : Seats) → HoldsSeats limits past seats
-      → get (slice_cmp nat_cmp) seats s ≡ Some None → (is_begun s past ≡ false) × (length (with_name s (sessions past)) ≤ most_sessions limits)
+      → seat_at seats s ≡ Some None → (is_begun s past ≡ false) × (length (with_name s (sessions past)) ≤ most_sessions limits)
   begins-again past s seats holds there =
       let free = seat-free _ _ _ (sym (holds.each s) ∙ there) in
       (free.0, rw (with_name-seen s (sessions past) free.1) holds.few)
 
   pub begins-first : (past : List Line) (s : List ℕ) (seats : Seats) → HoldsSeats limits past seats
-      → get (slice_cmp nat_cmp) seats s ≡ None → (is_begun s past ≡ false) × (length (with_name s (sessions past)) ≡ btree_map_len seats + 1)
+      → seat_at seats s ≡ None → (is_begun s past ≡ false) × (length (with_name s (sessions past)) ≡ length seats + 1)
   begins-first past s seats holds absent =
       let free = seat-none _ _ _ (sym (holds.each s) ∙ absent) in
       (free.0, rw (with_name-new s (sessions past) free.1) (omega (arith, holds.count)))
 
   pub begun-there : (past : List Line) (s : List ℕ) (seats : Seats) (ops : List Op) → HoldsSeats limits past seats
-      → get (slice_cmp nat_cmp) seats s ≡ Some (Some ops) → (is_begun s past ≡ true) × (ops_since s past ≡ ops)
+      → seat_at seats s ≡ Some (Some ops) → (is_begun s past ≡ true) × (ops_since s past ≡ ops)
   begun-there past s seats ops holds there = seat-taken _ _ _ _ (sym (holds.each s) ∙ there)
 
   -- how many sessions there are, by whether one was there
@@ -114,14 +109,14 @@ module _ (limits : Limits) where
   is_some-seat ops false = refl
 
   one-more-session : (past : List Line) (s : List ℕ) (seats : Seats) → HoldsSeats limits past seats → is_begun s past ≡ false
-      → btree_map_len seats + cond (is_some (get (slice_cmp nat_cmp) seats s)) 0 1 ≡ length (with_name s (sessions past))
+      → length seats + cond (is_some (seat_at seats s)) 0 1 ≡ length (with_name s (sessions past))
   one-more-session past s seats holds free = by (list_any (same s) (sessions past)) refl
     where
-      at : is_some (get (slice_cmp nat_cmp) seats s) ≡ list_any (same s) (sessions past)
+      at : is_some (seat_at seats s) ≡ list_any (same s) (sessions past)
       at = ap is_some (holds.each s) ∙ rw free (is_some-seat (ops_since s past) _)
 
       by : (b : Bool) → list_any (same s) (sessions past) ≡ b
-          → btree_map_len seats + cond (is_some (get (slice_cmp nat_cmp) seats s)) 0 1 ≡ length (with_name s (sessions past))
+          → length seats + cond (is_some (seat_at seats s)) 0 1 ≡ length (with_name s (sessions past))
       by true seen = rw (at, seen) (omega (arith, holds.count))
       by false new = rw (at, new) (omega (arith, holds.count))
 
@@ -129,8 +124,8 @@ module _ (limits : Limits) where
   pub after-begin : (past : List Line) (s : List ℕ) (old new : Progress) → IsAfter limits past old
       → is_ended s past ≡ false → is_begun s past ≡ false → length (with_name s (sessions past)) ≤ most_sessions limits
       → old.begun < most_transactions limits
-      → Updates (slice_cmp nat_cmp) old.sessions new.sessions s (Some (Some []))
-      → btree_map_len new.sessions ≡ btree_map_len old.sessions + cond (is_some (get (slice_cmp nat_cmp) old.sessions s)) 0 1
+      → PutsSeat old.sessions s (Some []) new.sessions
+      → length new.sessions ≡ length old.sessions + cond (is_some (seat_at old.sessions s)) 0 1
       → new.ended ≡ old.ended → new.keys ≡ old.keys → new.begun ≡ old.begun + 1 → new.seals ≡ old.seals → new.limits ≡ old.limits
       → (fault_within limits past (line.Begin s) ≡ None) × IsAfter limits (line.Begin s ∷ past) new
   after-begin past s old new is late free few room updates more ended_kept keys_kept one_more seals_kept limits_kept =
@@ -141,7 +136,7 @@ module _ (limits : Limits) where
         record {
           kept = limits_kept ∙ is.kept;
           seats = record {
-            each = λ q. put old.sessions new.sessions s (Some (Some [])) updates q ∙ rw (is.seats.each q) (sym (seat-begun s q past));
+            each = λ q. updates q ∙ rw (is.seats.each q) (sym (seat-begun s q past));
             count = more ∙ one-more-session past s old.sessions is.seats free;
             few = few;
           };
@@ -156,9 +151,9 @@ module _ (limits : Limits) where
 
   -- a transaction is finished
   pub after-finish : (past : List Line) (s : List ℕ) (committed : Bool) (ops : List Op) (old new : Progress) → IsAfter limits past old
-      → is_ended s past ≡ false → get (slice_cmp nat_cmp) old.sessions s ≡ Some (Some ops)
-      → Updates (slice_cmp nat_cmp) old.sessions new.sessions s (Some None)
-      → btree_map_len new.sessions ≡ btree_map_len old.sessions
+      → is_ended s past ≡ false → seat_at old.sessions s ≡ Some (Some ops)
+      → PutsSeat old.sessions s None new.sessions
+      → length new.sessions ≡ length old.sessions
       → new.ended ≡ old.ended → new.keys ≡ old.keys → new.begun ≡ old.begun → new.seals ≡ old.seals → new.limits ≡ old.limits
       → (fault_within limits past (line.Finish s committed) ≡ None) × IsAfter limits (line.Finish s committed ∷ past) new
   after-finish past s committed ops old new is late sits updates same_number ended_kept keys_kept begun_kept seals_kept limits_kept =
@@ -167,7 +162,7 @@ module _ (limits : Limits) where
         record {
           kept = limits_kept ∙ is.kept;
           seats = record {
-            each = λ q. put old.sessions new.sessions s (Some None) updates q ∙ rw (is.seats.each q) (sym (seat-finished s q committed past taken.0));
+            each = λ q. updates q ∙ rw (is.seats.each q) (sym (seat-finished s q committed past taken.0));
             count = same_number ∙ is.seats.count;
             few = is.seats.few;
           };
@@ -182,9 +177,9 @@ module _ (limits : Limits) where
 
   -- a transaction ends, and nobody told how
   pub after-leave : (past : List Line) (s : List ℕ) (ops : List Op) (old new : Progress) → IsAfter limits past old
-      → is_ended s past ≡ false → get (slice_cmp nat_cmp) old.sessions s ≡ Some (Some ops)
-      → Updates (slice_cmp nat_cmp) old.sessions new.sessions s (Some None)
-      → btree_map_len new.sessions ≡ btree_map_len old.sessions
+      → is_ended s past ≡ false → seat_at old.sessions s ≡ Some (Some ops)
+      → PutsSeat old.sessions s None new.sessions
+      → length new.sessions ≡ length old.sessions
       → HoldsEnded (line.Unknown s ∷ past) new.ended → new.keys ≡ old.keys → new.begun ≡ old.begun → new.seals ≡ old.seals → new.limits ≡ old.limits
       → (fault_within limits past (line.Unknown s) ≡ None) × IsAfter limits (line.Unknown s ∷ past) new
   after-leave past s ops old new is late sits updates same_number one_more keys_kept begun_kept seals_kept limits_kept =
@@ -193,7 +188,7 @@ module _ (limits : Limits) where
         record {
           kept = limits_kept ∙ is.kept;
           seats = record {
-            each = λ q. put old.sessions new.sessions s (Some None) updates q ∙ rw (is.seats.each q) (sym (seat-left s q past taken.0));
+            each = λ q. updates q ∙ rw (is.seats.each q) (sym (seat-left s q past taken.0));
             count = same_number ∙ is.seats.count;
             few = is.seats.few;
           };
@@ -215,7 +210,7 @@ module _ (limits : Limits) where
 
   -- an operation that is refused
   pub operation-refused : (past : List Line) (s : List ℕ) (op : Op) (k : RowFaultKind) (begun : Option (List Op)) (seats : Seats) (new : Option (List Op))
-      → is_ended s past ≡ false → HoldsSeats limits past seats → get (slice_cmp nat_cmp) seats s ≡ Some begun → AddsOp {U = Unit {0}} op begun (Err k) new
+      → is_ended s past ≡ false → HoldsSeats limits past seats → seat_at seats s ≡ Some begun → AddsOp {U = Unit {0}} op begun (Err k) new
       → (fault_within limits past (line.Operation s op) ≡ Some k) ⊎ (k ≡ kind.NoMemory)
   operation-refused past s op k None seats new late holds sits refused =
       let free = seat-free _ _ _ (sym (holds.each s) ∙ sits) in
@@ -243,7 +238,7 @@ module _ (limits : Limits) where
         record {
           kept = is.kept;
           seats = record {
-            each = λ q. put old.sessions seats s (Some (Some (ops_since s past ++ op ∷ []))) seated.updates q ∙ rw (is.seats.each q) (sym (seat-operated s q op past seated.begun));
+            each = λ q. seated.updates q ∙ rw (is.seats.each q) (sym (seat-operated s q op past seated.begun));
             count = seated.count ∙ is.seats.count;
             few = is.seats.few;
           };
@@ -268,16 +263,15 @@ module _ (limits : Limits) where
 
   -- an operation that was added has its seat
   pub seated-added : {U : Type 0} (past : List Line) (s : List ℕ) (op : Op) (old : Progress) (seats : Seats) (begun new : Option (List Op)) (done : U)
-      → IsAfter limits past old → get (slice_cmp nat_cmp) old.sessions s ≡ Some begun → AddsOp op begun (Ok done) new
-      → (IsSome (get (slice_cmp nat_cmp) old.sessions s) → Updates (slice_cmp nat_cmp) old.sessions seats s (Some new)) → btree_map_len seats ≡ btree_map_len old.sessions
+      → IsAfter limits past old → seat_at old.sessions s ≡ Some begun → AddsOp op begun (Ok done) new
+      → PutsSeat old.sessions s new seats → length seats ≡ length old.sessions
       → Seated past s op old seats
   seated-added past s op old seats None new done is sits added updates count = absurd added
   seated-added past s op old seats (Some ops) new done is sits added updates count =
       let there = begun-there past s old.sessions ops is.seats sits in
-      let found : IsSome (get (slice_cmp nat_cmp) old.sessions s) = rw sits (search rules) in
       record {
         begun = there.0;
         room = rw there.1 added.0;
-        updates = rw (there.1, ← added.1) (updates found);
+        updates = rw (there.1, ← added.1) updates;
         count = count;
       }

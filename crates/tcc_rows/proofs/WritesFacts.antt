@@ -1,5 +1,5 @@
 -- The writes among the operations of a transaction make one too, and one that reads nothing shows nothing.
-use Rattle.std.proofs.Common.{ℕ, ◌≡◌, ◌≤◌, ◌+◌, Bool, true, false, cond, ◌&&◌, ◌||◌, List, [], ◌∷◌, length, filter, refl, sym, ap, ◌∙◌, arith}
+use Rattle.std.proofs.Common.{ℕ, ◌≡◌, ◌≤◌, ◌+◌, Bool, true, false, cond, List, [], ◌∷◌, length, refl, sym, ap, ◌∙◌, arith}
 use Rattle.std.specs.Prelude.{nat_lt, MatchResult, Option, Some, None, Result, Ok, Err}
 use Rattle.std.specs.Result.{IsOk}
 use Rattle.std.specs.List.{list_any, position, position_from}

@@ -13,5 +13,6 @@ pub mod Recordings
 pub mod Settling
 pub mod Midway
 pub mod RecordsLeft
+pub mod Seats
 pub mod Standing
 pub mod private

@@ -1,13 +1,13 @@
 -- What is kept of the lines so far and how it stands to them.
 use Rattle.std.specs.Prelude.{ℕ, ◌≡◌, ◌≤◌, Bool, if◌then◌else◌, List, length, Option, None, Some}
 use Rattle.std.specs.List.{list_any}
-use Rattle.std.specs.BTreeMap.{BTreeMap, btree_map_len, get}
 use Rattle.std.specs.BTreeSet.{BTreeSet, contains}
 use Rattle.std.specs.Ordering.{nat_cmp}
 use Rattle.std.specs.Cmp.Lexicographic.{slice_cmp}
 use Rattle.tcc_txn.specs.Limits.{most_keys, most_seals, most_sessions, most_transactions}
 use Rattle.tcc_txn.specs.Bytes.{same}
 use Rattle.tcc_txn.specs.Symbols.{is_symbol}
+use Rattle.tcc_rows.specs.Seats.{Seats, seat_at}
 use Rattle.tcc_rows.specs.Past.{begin_count, is_begun, is_ended, keys, ops_since, seal_count, sessions}
 use Rattle.tcc_txn.specs.declared.limits.Limits.{Limits}
 use Rattle.tcc_txn.specs.declared.op.Op.{Op}
@@ -21,14 +21,10 @@ seat begun ops seen = if begun then Some (Some ops) else if seen then Some None 
 abbrev pub seat_of : List ℕ → List Line → Option (Option (List Op))
 seat_of name past = seat (is_begun name past) (ops_since name past) (list_any (same name) (sessions past))
 
--- a seat for each of some sessions
-abbrev pub Seats : Type 0
-Seats = BTreeMap (List ℕ) (Option (List Op))
-
--- the map has a seat for each session so far, of which there are not too many
+-- each session so far has its seat, and there are not too many
 pub record HoldsSeats (limits : Limits) (past : List Line) (seats : Seats) : Type 0 where
-  pub each : (name : List ℕ) → get (slice_cmp nat_cmp) seats name ≡ seat_of name past
-  pub count : btree_map_len seats ≡ length (sessions past)
+  pub each : (name : List ℕ) → seat_at seats name ≡ seat_of name past
+  pub count : length seats ≡ length (sessions past)
   pub few : length (sessions past) ≤ most_sessions limits
 
 -- the set has the sessions that have ended

@@ -5,6 +5,7 @@ pub mod StagesAfter
 pub mod Stages
 pub mod Limited
 pub mod Passing
+pub mod Seating
 pub mod Words
 pub mod Turns
 pub mod Unread

@@ -11,6 +11,7 @@ mod limited;
 mod line;
 mod progress;
 mod records;
+mod seats;
 
 use crate::{RowFault, RowFaultKind};
 use line::{Turn, read_line};

@@ -28,12 +28,15 @@ impl Model for Draft {
 }
 
 impl Draft {
-    pub(crate) fn new(alloc: Global) -> Draft
+    /// No operations; the numbers have the room of those that were noted before.
+    pub(crate) fn new(alloc: Global, room: Vec<u32>) -> Draft
         ensures { result ≡ [] }
     {
+        let mut numbers = room;
+        numbers.clear();
         Draft {
             ops: Vec::new(alloc),
-            numbers: Vec::new(alloc),
+            numbers,
         }
     }
 

@@ -1,12 +1,11 @@
 //! What one record says by itself.
-ghost use Rattle.std.specs.Prelude.{◌≡◌, ◌≢◌, ◌<◌, ◌∷◌, [], length, slice_index, IfErr};
+ghost use Rattle.std.specs.Prelude.{◌≡◌, ◌≢◌, ◌<◌, ◌≤◌, ◌+◌, ◌*◌, ◌-◌, ◌^◌, ◌∷◌, [], length, IfErr, MatchOption};
 ghost use Rattle.csv.specs.Records.{field_at, fields_of};
 ghost use Rattle.tcc_rows.specs.{private.Words.access_of, private.Words.session_of, private.Turns.read_as};
 ghost use Rattle.tcc_rows.specs.Lines.{digits_of, line_of, op_of, value_of};
 
 use crate::RowFaultKind;
 use csv::ByteRecord;
-use std::str;
 use tcc_txn::{Name, Op};
 
 /// What a lawful record says that is no operation.
@@ -22,15 +21,35 @@ pub(crate) enum Turn {
     Unknown { session: Name },
 }
 
+/// The number behind whose digits one more stands, where 64 bits have room for it.
+fn with_digit(value: u64, digit: u8) -> Option<u64>
+    requires { 48 ≤ digit }
+    ensures { MatchOption result (2 ^ 64 ≤ value * 10 + (digit - 48)) (λ more. (more ≡ value * 10 + (digit - 48)) × (more < 2 ^ 64)) }
+{
+    match value.checked_mul(10) {
+        Some(tens) => tens.checked_add(u64::from(digit - b'0')),
+        None => None,
+    }
+}
+
 /// The number of 64 bits that the digits write.
 fn parse_digits(digits: &[u8]) -> Option<u64>
-    requires { slice_index digits.now 0 ≢ 43 }
     ensures { result ≡ digits_of digits.now }
 {
-    match str::from_utf8(digits) {
-        Ok(text) => text.parse::<u64>().ok(),
-        Err(_) => None,
+    if digits.is_empty() {
+        return None;
     }
+    let mut value: u64 = 0;
+    for digit in digits {
+        if !digit.is_ascii_digit() {
+            return None;
+        }
+        match with_digit(value, *digit) {
+            Some(more) => value = more,
+            None => return None,
+        }
+    }
+    Some(value)
 }
 
 /// The number of 64 bits that the digits write, without sign and without leading zeros.
@@ -38,7 +57,7 @@ fn read_value(digits: &[u8]) -> Option<u64>
     ensures { result ≡ value_of digits.now }
 {
     match digits {
-        [b'+', ..] | [b'0', _, ..] => None,
+        [b'0', _, ..] => None,
         _ => parse_digits(digits),
     }
 }

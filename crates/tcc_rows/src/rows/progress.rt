@@ -1,8 +1,5 @@
 //! What the lines so far have begun, finished and named.
-ghost use Rattle.std.specs.Prelude.{◌≡◌, ℕ, ◌∷◌, [], false, true, List, IfOk, Some, None, All, fold, length, ◌≢◌, IfErr, OnOk};
-ghost use Rattle.std.specs.BTreeMap.{get};
-ghost use Rattle.std.specs.Ordering.{nat_cmp};
-ghost use Rattle.std.specs.Cmp.Lexicographic.{slice_cmp};
+ghost use Rattle.std.specs.Prelude.{◌≡◌, ℕ, ◌∷◌, [], false, true, List, IfOk, None, fold, length, ◌≢◌, IfErr, OnOk};
 ghost use Rattle.std.specs.Option.{option_map_or};
 ghost use Rattle.csv.specs.Records.{fields_of};
 ghost use Rattle.tcc_rows.specs.{Lines.line_of, private.Turns.line_by, private.StagesAfter.stage_after_line, Line.Line};
@@ -14,12 +11,14 @@ ghost use Rattle.tcc_rows.specs.declared.rows.Stage.TheVariants as stage;
 ghost use Rattle.tcc_rows.specs.Line as line;
 
 use super::Item;
-use super::draft::{Draft, add_operation, note_number};
+use super::draft::Draft;
 use super::line::{Turn, field, read_access, read_op, read_session};
+use super::seats::SeatTable;
 use crate::RowFaultKind;
 use csv::ByteRecord;
 use std::alloc::Global;
-use std::collections::{BTreeMap, BTreeSet};
+use std::collections::BTreeSet;
+use std::mem;
 use tcc_txn::{KeyHints, Limits, Name, Op, SymbolTable, Txn};
 
 /// The limits; each session with the operations of the transaction that it has begun; the sessions that have ended; the
@@ -28,7 +27,7 @@ use tcc_txn::{KeyHints, Limits, Name, Op, SymbolTable, Txn};
 #[derive(Drop)]
 pub(crate) struct Progress {
     limits: Limits,
-    sessions: BTreeMap<Name, Option<Draft>>,
+    sessions: SeatTable,
     ended: BTreeSet<Name>,
     keys: SymbolTable,
     begun: usize,
@@ -65,17 +64,18 @@ fn note_ended(ended: &mut BTreeSet<Name>, session: Name) -> Result<(), RowFaultK
 }
 
 /// Whether the session can begin a transaction, as far as the sessions go.
-fn may_begin(
-    sessions: &BTreeMap<Name, Option<Draft>>,
-    session: &Name,
-    limits: Limits,
-) -> Result<(), RowFaultKind>
+fn may_begin(sessions: &SeatTable, session: &Name, limits: Limits) -> Result<(), RowFaultKind>
     ensures may { (past : List Line) → HoldsSeats limits past sessions.now → MayBegin limits past session.now result }
     ensures other { IfErr result (λ kind. kind ≢ RowFaultKind.Read) }
 {
-    match sessions.get(session) {
-        Some(Some(_)) => Err(RowFaultKind::AlreadyBegun),
-        Some(None) => Ok(()),
+    match sessions.find(session) {
+        Some(number) => {
+            if sessions.has_begun(number) {
+                Err(RowFaultKind::AlreadyBegun)
+            } else {
+                Ok(())
+            }
+        }
         None => {
             if sessions.len() >= limits.sessions() {
                 Err(RowFaultKind::TooManySessions)
@@ -97,14 +97,13 @@ fn lesser_of(name: Option<Name>, session: &Name) -> Name
 }
 
 /// The least session that has begun a transaction, in byte order.
-fn least_begun(sessions: &BTreeMap<Name, Option<Draft>>) -> Option<Name>
-    ensures least { result ≡ fold lower None sessions.now.entries }
-    ensures found { All (λ e. get (slice_cmp nat_cmp) sessions.now e.0 ≡ Some e.1) sessions.now.entries }
+fn least_begun(sessions: &[(Name, Option<Draft>)]) -> Option<Name>
+    ensures { result ≡ fold lower None sessions.now }
 {
     let mut least = None;
-    for (session, begun) in sessions.iter() {
-        if begun.is_some() {
-            least = Some(lesser_of(least, session));
+    for seat in sessions {
+        if seat.1.is_some() {
+            least = Some(lesser_of(least, &seat.0));
         }
     }
     least
@@ -116,7 +115,7 @@ impl Progress {
     {
         Progress {
             limits,
-            sessions: BTreeMap::new(alloc),
+            sessions: SeatTable::new(alloc),
             ended: BTreeSet::new(alloc),
             keys: SymbolTable::new(alloc),
             begun: 0,
@@ -149,8 +148,9 @@ impl Progress {
         if self.begun >= self.limits.transactions() {
             return Err(RowFaultKind::TooManyTransactions);
         }
-        match self.sessions.insert(session, Some(Draft::new(alloc))) {
-            Ok(_) => {
+        let room = mem::replace(&mut self.numbers, Vec::new(alloc));
+        match self.sessions.begin(session, Draft::new(alloc, room)) {
+            Ok(()) => {
                 self.begun += 1;
                 Ok(())
             }
@@ -169,12 +169,12 @@ impl Progress {
         if self.ended.contains(&session) {
             return Err(RowFaultKind::SessionEnded);
         }
-        let Some(Some(_)) = self.sessions.get(&session) else {
+        let Some(number) = self.sessions.find(&session) else {
             return Err(RowFaultKind::NotBegun);
         };
-        match self.sessions.insert(session, None) {
-            Ok(Some(Some(draft))) => Ok(draft.finish(committed, &mut self.numbers)),
-            _ => Err(RowFaultKind::NoMemory),
+        match self.sessions.end(number) {
+            Some(draft) => Ok(draft.finish(committed, &mut self.numbers)),
+            None => Err(RowFaultKind::NotBegun),
         }
     }
 
@@ -189,13 +189,16 @@ impl Progress {
         if self.ended.contains(&session) {
             return Err(RowFaultKind::SessionEnded);
         }
-        let Some(Some(_)) = self.sessions.get(&session) else {
+        let Some(number) = self.sessions.find(&session) else {
             return Err(RowFaultKind::NotBegun);
         };
+        if !self.sessions.has_begun(number) {
+            return Err(RowFaultKind::NotBegun);
+        }
         note_ended(&mut self.ended, session)?;
-        match self.sessions.insert(session, None) {
-            Ok(Some(Some(draft))) => Ok(draft.finish_writes()),
-            _ => Err(RowFaultKind::NoMemory),
+        match self.sessions.end(number) {
+            Some(draft) => Ok(draft.finish_writes()),
+            None => Err(RowFaultKind::NoMemory),
         }
     }
 
@@ -210,17 +213,15 @@ impl Progress {
             return Err(RowFaultKind::SessionEnded);
         }
         let key = op.key();
-        match self.sessions.get_mut(&session) {
-            Some(begun) => {
-                if let Err(kind) = add_operation(begun, op) {
-                    return Err(kind);
-                }
-                match note_key(&mut self.keys, key, self.limits) {
-                    Ok(number) => note_number(begun, number),
-                    Err(kind) => Err(kind),
-                }
-            }
-            None => Err(RowFaultKind::NotBegun),
+        let Some(number) = self.sessions.find(&session) else {
+            return Err(RowFaultKind::NotBegun);
+        };
+        if let Err(kind) = self.sessions.operate(number, op) {
+            return Err(kind);
+        }
+        match note_key(&mut self.keys, key, self.limits) {
+            Ok(key) => self.sessions.note(number, key),
+            Err(kind) => Err(kind),
         }
     }
 
@@ -310,6 +311,6 @@ impl Progress {
     pub(crate) fn unfinished(&self) -> Option<Name>
         ensures { (limits : Limits) (past : List Line) → IsAfter limits past self.now → result ≡ least (open_sessions past) }
     {
-        least_begun(&self.sessions)
+        least_begun(self.sessions.all())
     }
 }

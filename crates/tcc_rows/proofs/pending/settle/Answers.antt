@@ -1,4 +1,4 @@
-use Rattle.std.proofs.Common.{◌≡◌, ◌∷◌, true, false, not, refl, sym, ap, ◌∙◌, rules}
+use Rattle.std.proofs.Common.{◌≡◌, ◌∷◌, true, false, not, sym, ap, ◌∙◌, rules}
 use Rattle.tcc_rows.specs.Settling.{is_seen}
 use Rattle.tcc_rows.proofs.PendingFacts.{covered-on, covered-rest, passes-on, refused-on, seen-of}
 use Rattle.tcc_rows.proofs.pending.settle.Goals as goal

@@ -1,4 +1,4 @@
-use Rattle.std.proofs.Common.{◌≡◌, [], false, ap, arith, drop, not, ◌&&◌, ◌∙◌, sym}
+use Rattle.std.proofs.Common.{◌≡◌, [], ap, arith, drop, not, ◌&&◌, ◌∙◌, sym}
 use Rattle.std.specs.FinMap as map
 use Rattle.std.specs.List.{list_any}
 use Rattle.tcc_rows.specs.Settling.{is_read_in}

@@ -1,4 +1,4 @@
-use Rattle.std.proofs.Common.{Ok, refl, sym, ap, subst, ◌∙◌}
+use Rattle.std.proofs.Common.{Ok, sym, ap, subst, ◌∙◌}
 use Rattle.tcc_rows.specs.Ahead.{has_ended}
 use Rattle.tcc_rows.specs.Recordings.{TakesMoment}
 use Rattle.tcc_txn.proofs.Nesting.{nested_on}

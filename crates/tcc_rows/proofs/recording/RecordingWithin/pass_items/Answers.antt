@@ -1,4 +1,4 @@
-use Rattle.std.proofs.Common.{Ok, ◌++◌, refl, sym, ap, subst, ◌∙◌, arith}
+use Rattle.std.proofs.Common.{Ok, refl, sym, ap, subst, ◌∙◌, arith}
 use Rattle.tcc_rows.specs.Ahead.{TakesAnswer, fault_met, stage_after}
 use Rattle.tcc_txn.specs.Nested.{IsNested}
 use Rattle.tcc_rows.specs.Reached.{IsWithin}

@@ -1,10 +1,8 @@
-use Rattle.std.proofs.Common.{◌≡◌, ◌∷◌, ◌++◌, [], map, refl, sym, ap, subst, ◌∙◌, rules, append-nil}
-use Rattle.std.specs.Prelude.{fold}
+use Rattle.std.proofs.Common.{◌≡◌, ◌∷◌, ◌++◌, [], map, sym, ap, subst, ◌∙◌, rules}
 use Rattle.tcc_txn.specs.Finished.{IsWithinLimits, with_transaction}
 use Rattle.tcc_txn.specs.Nested.{IsNested}
 use Rattle.tcc_txn.proofs.Growing.{err-always}
-use Rattle.tcc_txn.proofs.Nesting.{nested_itself, nested_on, nested_transaction}
-use Rattle.tcc_rows.specs.Items.{with_item}
+use Rattle.tcc_txn.proofs.Nesting.{nested_on, nested_transaction}
 use Rattle.tcc_rows.specs.Reached.{row_reached}
 use Rattle.tcc_rows.specs.Settling.{told}
 use Rattle.tcc_rows.specs.declared.rows.Stage.TheVariants as stage

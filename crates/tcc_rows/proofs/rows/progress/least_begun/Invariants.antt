@@ -1,7 +1,7 @@
-use Rattle.std.proofs.Common.{◌≡◌, None}
+use Rattle.std.proofs.Common.{◌≡◌, None, take}
 use Rattle.std.specs.Prelude.{fold}
 use Rattle.tcc_rows.specs.private.Passing.{lower}
 use Rattle.tcc_rows.proofs.rows.progress.least_begun.Given as goal
 
-abbrev pub invariant-loop-session : goal.invariant-loop-session
-invariant-loop-session l = fold lower None l.fn.sessions.entries ≡ fold lower l.least l.session-iterator
+abbrev pub invariant-loop-seat : goal.invariant-loop-seat
+invariant-loop-seat l = l.least ≡ fold lower None (take l.seat-index l.sessions)

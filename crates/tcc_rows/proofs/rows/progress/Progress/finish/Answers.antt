@@ -1,10 +1,13 @@
-use Rattle.std.proofs.Common.{sym, refl, ◌∙◌, arith, ap, Some}
+use Rattle.std.proofs.Common.{sym, refl, ◌∙◌, ap, Some}
+use Rattle.tcc_rows.proofs.SeatFacts.{seat-within}
 use Rattle.tcc_rows.proofs.StandingFacts.{after-finish}
 use Rattle.tcc_rows.proofs.rows.progress.Progress.finish.Goals as goal
 
-pub returns-in-Ok-Some-Some-clause-passed : goal.returns-in-Ok-Some-Some-clause-passed
-returns-in-Ok-Some-Some-clause-passed c limits past is =
-    let found = c.in-Ok-Some-Some in
-    let sits = sym found.ensures.old ∙ found.field-0-is ∙ ap Some found.field-0-0-is in
-    after-finish limits past c.args.session c.args.committed _ c.args.self.now _ is (sym (is.ended c.args.session) ∙ sym c.contains.ensures ∙ c.if-contains.false) sits found.ensures.updates
-    (rw found.field-0-is at found.ensures.len ∙ omega arith) refl refl refl refl refl
+pub end-requires : goal.end-requires
+end-requires c = seat-within c.args.self.now.sessions c.args.session c.in-Some.number c.in-Some.ensures
+
+pub returns-in-Some-end-clause-passed : goal.returns-in-Some-end-clause-passed
+returns-in-Some-end-clause-passed c limits past is =
+    let sits = c.end.ensures.given c.args.session c.in-Some.ensures ∙ ap Some c.in-Some-end.is in
+    after-finish limits past c.args.session c.args.committed _ c.args.self.now _ is (sym (is.ended c.args.session) ∙ sym c.contains.ensures ∙ c.if-contains.false) sits
+    (c.end.ensures.put c.args.session c.in-Some.ensures) c.end.ensures.count refl refl refl refl refl
