@@ -55,7 +55,7 @@ fn keep_once(row: &mut Row<u32>, owners: &[u32], number: u32) -> Result<(), NoMe
 }
 
 /// Keeps the last writer of a session other than `a` up to `top`, where it is past what is known.
-fn keep_last(
+fn keep_latest(
     row: &mut Row<u32>,
     owners: &[u32],
     session: usize,
@@ -122,7 +122,7 @@ pub(crate) fn keep_told(
     for (column, top) in reader.iter().enumerate() {
         if is_new(noted, *top, &known, column) {
             let session = from as usize + column;
-            keep_last(row, owners, session, *top, writers, a, known[column])?;
+            keep_latest(row, owners, session, *top, writers, a, known[column])?;
         }
     }
     Ok(())

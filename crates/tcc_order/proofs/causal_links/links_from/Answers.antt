@@ -18,7 +18,7 @@ loop-block-init c =
     )
 
 pub keep_block-requires-clause-derived : goal.keep_block-requires-clause-derived
-keep_block-requires-clause-derived c = rw c.deref_mut-in-loop-block-3.ensures.value c.loop-block.invariant.2
+keep_block-requires-clause-derived c = rw c.deref_mut.ensures.value c.loop-block.invariant.2
 
 pub loop-block-preserved-then-not-is_needed : goal.loop-block-preserved-then-not-is_needed
 loop-block-preserved-then-not-is_needed c =
@@ -39,7 +39,7 @@ loop-block-preserved c =
     let new = c.keep_block.new.kept in
     let old = c.loop-block.kept.items in
     let inv = c.loop-block.invariant in
-    let same : length new ≡ length old = rw c.deref_mut-in-loop-block-3.ensures.value at c.in_ok-keep_block.ensures.same in
+    let same : length new ≡ length old = rw c.deref_mut.ensures.value at c.in_ok-keep_block.ensures.same in
     let long : c.loop-block.kept.len ≡ length old = search rules in
     let last = c.keep_block.new.last in
     let kept_last : length last ≡ length c.loop-block.last.items = rw c.deref_mut-in-loop-block.ensures.value at c.keep_block.ensures.rows in
@@ -55,7 +55,7 @@ loop-block-preserved c =
       c.in_ok-find_clocks.ensures.long,
       same ∙ inv.1,
       c.in_ok-keep_block.ensures.derived,
-      block_kept h old new c.args.first c.loop-block.block (rw c.deref_mut-in-loop-block-3.ensures.value at c.in_ok-keep_block.ensures.still) inv.3
+      block_kept h old new c.args.first c.loop-block.block (rw c.deref_mut.ensures.value at c.in_ok-keep_block.ensures.still) inv.3
           c.in_ok-keep_block.ensures.enough,
       kept_last ∙ inv.4,
       kept_heads ∙ inv.5,
