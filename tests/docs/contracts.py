@@ -122,7 +122,8 @@ def calls(crate: str) -> Iterator[Call]:
             if not call or not root.has(path, of if call.group(1) else call.group(2)):
                 continue
             indent, name = call.groups()
-            before = of if indent else path.stem if path.stem in root.modules else ""
+            below = path.relative_to(TOP / "crates" / crate / "src").with_suffix("").parts
+            before = of if indent else "::".join(below) if path.stem in root.modules else ""
             head = head_of(lines, number, indent)
             clause = CLAUSE.search(head)
             cites = [one for one in NAME.findall(head[clause.start():]) if one in known] if clause else []

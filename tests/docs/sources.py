@@ -20,11 +20,19 @@ class Root(NamedTuple):
         return path.stem in self.modules or name in self.names
 
 
+def public_modules(folder: pathlib.Path, text: str) -> Iterator[str]:
+    """The modules that a file makes public, and those that these do."""
+    for name in PUBLIC_MODULE.findall(text):
+        yield name
+        below = folder / (name + ".rt")
+        yield from public_modules(folder / name, below.read_text()) if below.exists() else ()
+
+
 def root_of(crate: str) -> Root:
     """What a crate makes public; a program nothing."""
     path = CRATES / crate / "src/lib.rt"
     text = path.read_text() if path.exists() else ""
-    return Root(frozenset(PUBLIC_MODULE.findall(text)), frozenset(re.findall(r"\w+", " ".join(PASSED_ON.findall(text)))))
+    return Root(frozenset(public_modules(path.parent, text)), frozenset(re.findall(r"\w+", " ".join(PASSED_ON.findall(text)))))
 
 
 def with_types(lines: List[str]) -> Iterator[Tuple[int, str, str]]:

@@ -25,6 +25,7 @@ VARIANT = re.compile(r"^    ([A-Z]\w*)", re.MULTILINE)
 DEREF = re.compile(r"^impl Deref for (\w+) \{\n    type Target = (\w+);", re.MULTILINE)
 PASSED_ON = re.compile(r"^pub use [\w:]+::(?:\{([^}]*)\}|(\w+));", re.MULTILINE)
 RENAMED = re.compile(r"^pub use (tcc_\w+)::(\w+) as (\w+);", re.MULTILINE)
+OF_BELOW = re.compile(r"^pub use (tcc_\w+)::(?:\{([^}]*)\}|(\w+));", re.MULTILINE)
 
 
 @functools.lru_cache(maxsize=None)
@@ -37,6 +38,8 @@ def made_public(crate: str) -> Set[str]:
     names = {call.title for call in contracts.calls(crate)} | passed_on
     for below, name, called in RENAMED.findall(root):
         names |= {called} | {called + one[len(name):] for one in made_public(below) if one.startswith(name + "::")}
+    for below, group, single in OF_BELOW.findall(root):
+        names |= {one for one in made_public(below) if one.partition("::")[0] in re.findall(r"\w+", group or single)}
     for path in source.rglob("*.rt"):
         text = path.read_text()
         names |= {name for name in TYPE.findall(text) if name in passed_on}

@@ -227,6 +227,14 @@ def known_by_chain(reads: int, readers: int) -> Transactions:
         yield "c", ["r,x,1"]
 
 
+def behind(sessions: int, count: int, lag: int) -> Transactions:
+    """Sessions in turn write one key, and read it as it was up to so many transactions ago: nearly each read is contradicted by many
+    writers, from each of which somebody reads."""
+    picked = random.Random(1)
+    for n in range(count):
+        yield "s%d" % (n % sessions), ["r,x,%d" % max(0, n - picked.randrange(lag)), "w,x,%d" % (n + 1)]
+
+
 def stale() -> str:
     """A session that doesn't read its own write."""
     return records_of([("a", ["w,x,1"]), ("a", ["r,x,0"])])
@@ -265,7 +273,7 @@ def hard() -> Iterator[Hard]:
                "consistent: 56017 transactions, 4002 sessions\n")
     yield Hard("gathered", large, records_of(gathered(4000, 30000)), "consistent: 64016 transactions, 4002 sessions\n")
     yield Hard("gathered, one stale", large, records_of(gathered(4000, 15000, again=1)), "anomaly: 4 steps, overwritten-read\n")
-    yield Hard("ring", large, records_of(ring(250, 64, 20000)), "anomaly: 753 steps, ")
+    yield Hard("ring", large, records_of(ring(1000, 64, 20000)), "anomaly: 3003 steps, ")
     yield Hard("stale beside", large, records_of(stale_beside(64, 255, 40000)), "anomaly: 3 steps, ")
     yield Hard("circling", large, records_of(circling(4095, 100)), "anomaly: 2 steps, cyclic-causality\n")
     yield Hard("circling at atomic", small, records_of(circling(4095, 100)), "anomaly: 2 steps, cyclic-causality\n")
@@ -274,6 +282,9 @@ def hard() -> Iterator[Hard]:
     yield Hard("surveyed: initial reads", survey, records_of(read_initial(60000, 60000)), "0 contradicted reads of 60001, 0 faults\n")
     yield Hard("surveyed: known by steps", [*survey, "--level", "atomic"], records_of(known_by_steps(60000, 60000)),
                "0 contradicted reads of 60002, 0 faults\n")
+    yield Hard("surveyed: known by a chain, of many writers", survey, records_of(known_by_steps(60000, 60000)),
+               "contradicted c/2 op 1 x 1: knew of a/2, causal chain\n")
+    yield Hard("surveyed: one key, read late", survey, records_of(behind(40, 60000, 2000)), "contradicted ")
     yield Hard("surveyed: a session each", survey, records_of(each_its_own(60000)), "0 contradicted reads of 59999, 0 faults\n")
     yield Hard("surveyed: known by a chain", survey, records_of(known_by_chain(40000, 40000)),
                "contradicted c/2 op 1 x 1: knew of b/1, causal chain\n")

@@ -3,7 +3,7 @@
 ghost use Rattle.std.specs.Prelude.{◌≡◌, IfOk, IfSome, IsTrue, List, Some};
 ghost use Rattle.tcc_cert.specs.{LargeTexts.HaveRunsText, declared.large.Run.Run};
 ghost use Rattle.tcc_judge.specs.{Claims.links_claim_of, Verdicts.cycle_rules};
-ghost use Rattle.tcc_check.specs.Asked.{AllHold};
+ghost use Rattle.tcc_rules.specs.Asked.{AllHold};
 
 use crate::claims::{copied, steps_of};
 use crate::room::have_runs_text;

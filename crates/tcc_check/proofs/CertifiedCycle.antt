@@ -22,7 +22,7 @@ use Rattle.tcc_cert.specs.Tables.{entry, lowest, far_entry}
 use Rattle.tcc_cert.specs.CycleRules.{ends_at}
 use Rattle.tcc_cert.specs.Rules.{CertifiesCycle}
 use Rattle.tcc_cert.specs.declared.certificate.CycleClaim.{CycleClaim}
-use Rattle.tcc_check.proofs.RightLinks.{cycle_of_right}
+use Rattle.tcc_rules.proofs.RightLinks.{cycle_of_right}
 use Rattle.tcc_graph.proofs.Pairs.{step_pair, pair_below, link_below}
 use Rattle.tcc_graph.proofs.Upward.{IsTurned, turn_lowest}
 

@@ -5,12 +5,12 @@ use Rattle.tcc_graph.specs.Levels.{judged}
 use Rattle.tcc_cert.specs.Rules.{Certifies}
 use Rattle.tcc_cert.specs.declared.certificate.Certificate.{Certificate}
 use Rattle.tcc_cert.specs.declared.certificate.Certificate.TheVariants as claim
-use Rattle.tcc_check.specs.declared.verdict.Rule.{Rule}
-use Rattle.tcc_check.specs.declared.verdict.Verdict.{Verdict}
-use Rattle.tcc_check.specs.declared.verdict.Verdict.TheVariants as verdict
+use Rattle.tcc_rules.specs.declared.verdict.Rule.{Rule}
+use Rattle.tcc_rules.specs.declared.verdict.Verdict.{Verdict}
+use Rattle.tcc_rules.specs.declared.verdict.Verdict.TheVariants as verdict
 use Rattle.tcc_check.specs.Verdicts.{IsVerdict, IsRejected, IsTrueClaim, rules_of}
-use Rattle.tcc_check.specs.Asked.{AllHold, IsVerdictOf}
-use Rattle.tcc_check.proofs.Asked.{AreApart, links_apart, not_broken}
+use Rattle.tcc_rules.specs.Asked.{AllHold, IsVerdictOf}
+use Rattle.tcc_rules.proofs.Asked.{AreApart, links_apart, not_broken}
 use Rattle.tcc_check.proofs.CertifiedCycle.{least_cycle}
 use Rattle.tcc_check.proofs.CertifiedOrder.{commit_order}
 

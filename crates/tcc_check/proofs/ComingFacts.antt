@@ -7,9 +7,10 @@ use Rattle.tcc_cert.specs.declared.fault.CertFault.{CertFault}
 use Rattle.tcc_cert.specs.declared.part.Part.{Part}
 use Rattle.tcc_cert.specs.declared.part.Part.TheVariants as part
 use Rattle.tcc_cert.proofs.CollectFacts.{faults-end}
-use Rattle.tcc_check.specs.private.Coming.{FailsAs, fault_of, is_want_of_memory}
-use Rattle.tcc_check.specs.declared.stream_fault.StreamFault.{StreamFault}
-use Rattle.tcc_check.specs.declared.stream_fault.StreamFault.TheVariants.{Text, NoMemory}
+use Rattle.tcc_rules.specs.private.Faults.{fault_of, is_want_of_memory}
+use Rattle.tcc_check.specs.private.Coming.{FailsAs}
+use Rattle.tcc_rules.specs.declared.stream_fault.StreamFault.{StreamFault}
+use Rattle.tcc_rules.specs.declared.stream_fault.StreamFault.TheVariants.{Text, NoMemory}
 
 -- what holds of an error holds of the result that is it
 pub by-error : {X : Type 0} (P : Result X StreamFault → Type 0) (o : Result X StreamFault) (fault : StreamFault) → IsErrAnd o (λ why. why ≡ fault)

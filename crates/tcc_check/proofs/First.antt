@@ -38,10 +38,3 @@ first_in_row broken a b before here first = record {
 
 pub nowhere : (n : ℕ) (broken : ℕ × ℕ → Type 0) → ((a b : ℕ) → broken (a, b) → a < n) → HoldsAbove n broken → HoldsEverywhere broken
 nowhere n broken bound all at p = all at.0 at.1 (bound at.0 at.1 p) p
-
--- positions that are told by other words
-pub first_as : (P Q : ℕ × ℕ → Type 0) → ((at : ℕ × ℕ) → P at → Q at) → ((at : ℕ × ℕ) → Q at → P at) → (at : ℕ × ℕ) → IsFirstAt P at → IsFirstAt Q at
-first_as P Q to back at h = record { here = to at h.here; first = λ earlier l q. h.first earlier l (back earlier q) }
-
-pub nowhere_as : (P Q : ℕ × ℕ → Type 0) → ((at : ℕ × ℕ) → Q at → P at) → HoldsEverywhere P → HoldsEverywhere Q
-nowhere_as P Q back h at q = h at (back at q)

@@ -15,20 +15,20 @@ use Rattle.tcc_cert.specs.declared.part.Part.{Part}
 use Rattle.tcc_cert.specs.declared.part.Part.TheVariants as part
 use Rattle.tcc_cert.proofs.CollectFacts.{ends-read}
 use Rattle.tcc_cert.proofs.PartFacts.{read-whole}
-use Rattle.tcc_check.specs.declared.judgement.Claim.{Claim}
-use Rattle.tcc_check.specs.declared.judgement.Claim.TheVariants as claim
-use Rattle.tcc_check.specs.declared.judgement.Judgement.{Judgement}
-use Rattle.tcc_check.specs.declared.stream_fault.StreamFault.{StreamFault}
-use Rattle.tcc_check.specs.declared.stream_fault.StreamFault.TheVariants.{Text, NoMemory}
-use Rattle.tcc_check.specs.declared.verdict.Rule.TheVariants.{Sizes}
-use Rattle.tcc_check.specs.declared.verdict.Rule.{Rule}
-use Rattle.tcc_check.specs.declared.verdict.Verdict.{Verdict}
+use Rattle.tcc_rules.specs.declared.judgement.Claim.{Claim}
+use Rattle.tcc_rules.specs.declared.judgement.Claim.TheVariants as claim
+use Rattle.tcc_rules.specs.declared.judgement.Judgement.{Judgement}
+use Rattle.tcc_rules.specs.declared.stream_fault.StreamFault.{StreamFault}
+use Rattle.tcc_rules.specs.declared.stream_fault.StreamFault.TheVariants.{Text, NoMemory}
+use Rattle.tcc_rules.specs.declared.verdict.Rule.TheVariants.{Sizes}
+use Rattle.tcc_rules.specs.declared.verdict.Rule.{Rule}
+use Rattle.tcc_rules.specs.declared.verdict.Verdict.{Verdict}
 use Rattle.tcc_check.specs.private.Coming.{FailsAs, Finishes, sized}
 use Rattle.tcc_check.specs.private.Judged.{IsClaimJudged, IsCycleJudged, claim_rules}
 use Rattle.tcc_check.specs.Streams.{IsClaimed, IsJudged, IsStreamFault, claim_of}
 use Rattle.tcc_check.specs.Verdicts.{IsVerdict, cycle_rules, order_rules}
-use Rattle.tcc_check.specs.Asked.{IsVerdictOf, as_whole}
-use Rattle.tcc_check.proofs.Asked.{answer_later}
+use Rattle.tcc_rules.specs.Asked.{IsVerdictOf, as_whole}
+use Rattle.tcc_rules.proofs.Asked.{answer_later}
 use Rattle.tcc_check.proofs.Claims.{verdict_of}
 use Rattle.tcc_check.proofs.ComingFacts.{fails-back}
 

@@ -8,8 +8,6 @@ pub mod Overshot
 pub mod RowRules
 pub mod LinksFrom
 pub mod ByKey
-pub mod Linked
-mod JudgedLinks
 pub mod Placed
 pub mod Gaps
 pub mod Bounds
@@ -17,8 +15,6 @@ pub mod Asked
 pub mod Rules
 pub mod Ordered
 pub mod Entries
-pub mod Decisions
-pub mod RightLinks
 pub mod CertifiedCycle
 pub mod CertifiedOrder
 pub mod Claims

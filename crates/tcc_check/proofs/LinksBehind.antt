@@ -9,7 +9,7 @@ use Rattle.tcc_graph.specs.declared.link.Link.{Link}
 use Rattle.tcc_cert.specs.Parts.{IsFirst, Parts}
 use Rattle.tcc_cert.specs.declared.part.Part.{Part}
 use Rattle.tcc_cert.specs.declared.part.Part.TheVariants as part
-use Rattle.tcc_check.specs.declared.links.LinksSeen.{LinksSeen}
+use Rattle.tcc_rules.specs.declared.links.LinksSeen.{LinksSeen}
 use Rattle.tcc_check.proofs.ComingFacts.{first-fault, first-line, first-parts}
 
 -- so many links come, and then these parts

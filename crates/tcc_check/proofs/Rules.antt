@@ -9,7 +9,7 @@ use Rattle.tcc_check.specs.declared.far_rows.FarFaults.{FarFaults}
 use Rattle.tcc_check.specs.declared.near_rows.NearFaults.{NearFaults}
 use Rattle.tcc_check.specs.private.Coming.{AreFoundBefore, IsFoundBefore, IsNearFoundTo, far_verdict, near_verdict, verdict_by}
 use Rattle.tcc_check.specs.private.Judged.{far_rules, near_rules}
-use Rattle.tcc_check.specs.Asked.{IsVerdictOf}
+use Rattle.tcc_rules.specs.Asked.{IsVerdictOf}
 use Rattle.tcc_check.proofs.First.{nowhere}
 
 module _ (h : History) (level : Level) (near : List (List ℕ)) where

@@ -6,13 +6,13 @@ use Rattle.tcc_cert.specs.Reading.{certificate_read}
 use Rattle.tcc_cert.specs.declared.certificate.Certificate.{Certificate}
 use Rattle.tcc_cert.specs.declared.certificate.Certificate.TheVariants as certificate
 use Rattle.tcc_cert.specs.declared.fault.CertFaultKind.TheVariants as kind
-use Rattle.tcc_check.specs.declared.judgement.Claim.{Claim}
-use Rattle.tcc_check.specs.declared.judgement.Claim.TheVariants as claim
-use Rattle.tcc_check.specs.declared.judgement.Judgement.{Judgement}
-use Rattle.tcc_check.specs.declared.stream_fault.StreamFault.{StreamFault}
-use Rattle.tcc_check.specs.declared.stream_fault.StreamFault.TheVariants.{Text, NoMemory}
-use Rattle.tcc_check.specs.declared.verdict.Rule.{Rule}
-use Rattle.tcc_check.specs.declared.verdict.Verdict.{Verdict}
+use Rattle.tcc_rules.specs.declared.judgement.Claim.{Claim}
+use Rattle.tcc_rules.specs.declared.judgement.Claim.TheVariants as claim
+use Rattle.tcc_rules.specs.declared.judgement.Judgement.{Judgement}
+use Rattle.tcc_rules.specs.declared.stream_fault.StreamFault.{StreamFault}
+use Rattle.tcc_rules.specs.declared.stream_fault.StreamFault.TheVariants.{Text, NoMemory}
+use Rattle.tcc_rules.specs.declared.verdict.Rule.{Rule}
+use Rattle.tcc_rules.specs.declared.verdict.Verdict.{Verdict}
 use Rattle.tcc_check.specs.Verdicts.{IsVerdict}
 
 -- what a certificate claims, without all by which the claim is judged

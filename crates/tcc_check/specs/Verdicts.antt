@@ -13,15 +13,12 @@ use Rattle.tcc_cert.specs.declared.certificate.Certificate.{Certificate}
 use Rattle.tcc_cert.specs.declared.certificate.Certificate.TheVariants as claim
 use Rattle.tcc_cert.specs.declared.certificate.CycleClaim.{CycleClaim}
 use Rattle.tcc_cert.specs.declared.certificate.OrderClaim.{OrderClaim}
-use Rattle.tcc_check.specs.Asked.{Asked, IsFirstBroken, as_whole, at_each, of_links}
-use Rattle.tcc_check.specs.declared.verdict.Rule.{Rule}
-use Rattle.tcc_check.specs.declared.verdict.Rule.TheVariants.{Sizes, Links, NearPairs, NearSteps, FarLinks, FarSteps, Returns, Pairs, Axiom}
-use Rattle.tcc_check.specs.declared.verdict.Verdict.{Verdict}
-use Rattle.tcc_check.specs.declared.verdict.Verdict.TheVariants as verdict
+use Rattle.tcc_rules.specs.Asked.{Asked, IsFirstBroken, as_whole, at_each, of_links}
+use Rattle.tcc_rules.specs.declared.verdict.Rule.{Rule}
+use Rattle.tcc_rules.specs.declared.verdict.Rule.TheVariants.{Sizes, Links, NearPairs, NearSteps, FarLinks, FarSteps, Returns, Pairs, Axiom}
+use Rattle.tcc_rules.specs.declared.verdict.Verdict.{Verdict}
+use Rattle.tcc_rules.specs.declared.verdict.Verdict.TheVariants as verdict
 use Rattle.tcc_graph.specs.Levels.{judged}
-
-abbrev pub rule_number : Rule → ℕ
-rule_number = elim [ Sizes ↦ 1 | Links ↦ 2 | NearPairs ↦ 3 | NearSteps ↦ 4 | FarLinks ↦ 5 | FarSteps ↦ 6 | Returns ↦ 7 | Pairs ↦ 8 | Axiom ↦ 9 ]
 
 -- the rules on the tables of a claim that a cycle is least, in order
 abbrev pub bounds_rules : History → CycleClaim → List (Asked Rule)

@@ -2,12 +2,12 @@
 ghost use Rattle.std.specs.Prelude.{IfOk};
 ghost use Rattle.tcc_check.specs.Verdicts.{IsVerdict};
 
-use crate::Verdict;
 use crate::cycle::cycle_verdict;
 use crate::order::order_verdict;
 use std::alloc::Global;
 use tcc_cert::Certificate;
 use tcc_graph::Graph;
+use tcc_rules::Verdict;
 use tcc_txn::NoMemory;
 
 /// Accepts the certificate exactly where it keeps all rules for its version and its level; otherwise names the first

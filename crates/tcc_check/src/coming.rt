@@ -5,10 +5,10 @@ ghost use Rattle.tcc_cert.specs.Parts.{Parts};
 ghost use Rattle.tcc_cert.specs.declared.part.Part.TheVariants as part;
 ghost use Rattle.tcc_check.specs.private.Coming.{Finishes, Takes};
 
-use crate::StreamFault;
 use std::alloc::Global;
 use std::io::Read;
 use tcc_cert::{CertReader, Numbers, Part, Table};
+use tcc_rules::StreamFault;
 use tcc_txn::NoMemory;
 
 /// The next part.

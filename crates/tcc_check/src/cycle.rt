@@ -3,16 +3,18 @@ ghost use Rattle.std.specs.Prelude.{◌≤◌, ◌↔◌, IsTrue, IfOk};
 ghost use Rattle.tcc_txn.specs.declared.limits.TheConstants.{MAX_COUNT};
 ghost use Rattle.tcc_reads.specs.History.{count};
 ghost use Rattle.tcc_cert.specs.CycleRules.{HasRightSizes};
-ghost use Rattle.tcc_check.specs.{Verdicts.bounds_rules, Verdicts.cycle_rules, Asked.IsVerdictOf};
+ghost use Rattle.tcc_rules.specs.Asked.{IsVerdictOf};
+ghost use Rattle.tcc_check.specs.Verdicts.{bounds_rules, cycle_rules};
 
 use crate::far_rows::far_table;
 use crate::links::links_verdict;
 use crate::near_rows::near_table;
-use crate::sizes::{are_links_below, has_far_size, has_size, is_capped};
-use crate::verdict::{Rule, Verdict, first_rejected, rejected};
+use crate::sizes::{has_far_size, has_size, is_capped};
+use crate::verdict::{first_rejected, rejected};
 use std::alloc::Global;
 use tcc_cert::CycleClaim;
 use tcc_graph::LargeGraph;
+use tcc_rules::{Rule, Verdict, are_links_below};
 use tcc_txn::NoMemory;
 
 /// Whether the tables have the size of the history, and no number is out of its range.

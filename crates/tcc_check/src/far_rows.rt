@@ -7,18 +7,18 @@ ghost use Rattle.tcc_cert.specs.Tables.{HasFarSize, IsCapped, row_of, lowest};
 ghost use Rattle.tcc_cert.specs.declared.part.Part.TheVariants as part;
 ghost use Rattle.tcc_check.specs.private.Coming.{AreFoundBefore, IsFarRight, Leaves, far_verdict};
 ghost use Rattle.tcc_check.specs.private.Judged.{AreLinksOf, IsFarJudged, IsOrderly, far_rules};
-ghost use Rattle.tcc_check.specs.Asked.{IsVerdictOf};
+ghost use Rattle.tcc_rules.specs.Asked.{IsVerdictOf};
 
-use crate::StreamFault;
 use crate::coming::next_part;
 use crate::first_broken::{first_long_step, long_link};
 use crate::near_rows::NearJudged;
 use crate::sizes::{is_row_right, lowest};
-use crate::verdict::{Rule, Verdict, first_of};
+use crate::verdict::first_of;
 use std::alloc::Global;
 use std::io::Read;
 use tcc_cert::{CertReader, Numbers, Part, Version};
 use tcc_graph::LargeGraph;
+use tcc_rules::{Rule, StreamFault, Verdict};
 
 /// For each rule on costs where it is broken first, in the rows that came.
 #[derive(Clone, Copy)]

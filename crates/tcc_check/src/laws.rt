@@ -4,7 +4,7 @@ ghost use Rattle.tcc_reads.specs.History.{History};
 ghost use Rattle.tcc_graph.specs.{Levels.Judged, Levels.judged, Links.cost, Routes.IsLeastCycle, Orders.IsCommitOrder};
 ghost use Rattle.tcc_cert.specs.{declared.certificate.Certificate.Certificate, declared.certificate.CycleClaim.CycleClaim, declared.certificate.OrderClaim.OrderClaim};
 ghost use Rattle.tcc_cert.specs.Rules.{CertifiesCycle, CertifiesOrder, Certifies};
-ghost use Rattle.tcc_check.specs.{Asked.AllHold, declared.verdict.Rule.Rule};
+ghost use Rattle.tcc_rules.specs.{Asked.AllHold, declared.verdict.Rule.Rule};
 ghost use Rattle.tcc_check.specs.Verdicts.{IsRejected, IsTrueClaim, rules_of};
 
 /// The links of a certified cycle are a least cycle at the level of the claim, and cost what is claimed.

@@ -10,18 +10,18 @@ ghost use Rattle.tcc_check.specs.private.Coming.{IsNearFoundTo, IsNearRight, Lea
 ghost use Rattle.tcc_check.specs.private.Judged.{AreNearRowsTo, IsNearJudged, IsOrderly, judged};
 ghost use Rattle.tcc_check.specs.private.Pairs.{AreOrderly, ArePairs};
 
-use crate::StreamFault;
 use crate::adjacency::{Pairs, pairs_of};
 use crate::coming::next_part;
 use crate::first_broken::{first_long_step, long_link};
 use crate::groups::Groups;
 use crate::links_from::link_ends;
 use crate::sizes::is_row_right;
-use crate::verdict::{Rule, Verdict, first_of};
+use crate::verdict::first_of;
 use std::alloc::Global;
 use std::io::Read;
 use tcc_cert::{CertReader, Numbers, Part};
 use tcc_graph::{LargeGraph, Level};
+use tcc_rules::{Rule, StreamFault, Verdict};
 use tcc_txn::NoMemory;
 
 /// For each rule on lengths where it is broken first, in the rows that came.

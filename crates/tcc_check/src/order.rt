@@ -6,7 +6,8 @@ ghost use Rattle.tcc_graph.specs.{Relations.IsCausalPair, Relations.IsReadsPair,
 ghost use Rattle.tcc_cert.specs.Tables.{entry, HasSize, IsFirstAt};
 ghost use Rattle.tcc_cert.specs.OrderRules.{HasClocks, HasInClock, MayReach, HasOrderSizes, KeepsPairs, BreaksAxiom};
 ghost use Rattle.tcc_cert.specs.Rules.{HoldsEverywhere};
-ghost use Rattle.tcc_check.specs.{Asked.IsVerdictOf, private.Searches.IsFoundBelow, private.Readings.AreReadings, Verdicts.order_rules};
+ghost use Rattle.tcc_rules.specs.Asked.{IsVerdictOf};
+ghost use Rattle.tcc_check.specs.{private.Searches.IsFoundBelow, private.Readings.AreReadings, Verdicts.order_rules};
 ghost use Rattle.tcc_check.specs.private.Positions.{ArePositions, IsKept, IsBehind};
 
 use crate::groups::Groups;
@@ -15,10 +16,11 @@ use crate::links_from::{contradicted_weights, pair_weights};
 use crate::positions::positions_of;
 use crate::readings::readings_of;
 use crate::sizes::has_size;
-use crate::verdict::{Rule, Verdict, rejected};
+use crate::verdict::rejected;
 use std::alloc::Global;
 use tcc_cert::{Numbers, OrderClaim};
 use tcc_graph::{LargeGraph, Level};
+use tcc_rules::{Rule, Verdict};
 use tcc_txn::NoMemory;
 
 /// How far a session got by a clock.

@@ -1,10 +1,8 @@
 //! The rule on sizes and ranges.
 ghost use Rattle.std.specs.Prelude.{◌≡◌, ◌↔◌, ◌≤◌, All, IsTrue, length};
 ghost use Rattle.tcc_cert.specs.Tables.{lowest, HasSize, HasFarSize, IsCapped};
-ghost use Rattle.tcc_cert.specs.CycleRules.{IsLinkBelow};
 
 use tcc_cert::{Numbers, Version};
-use tcc_graph::Link;
 
 /// Whether a table has so many rows, each with so many numbers.
 pub(crate) fn has_size(table: &[Numbers], rows: usize, columns: usize) -> bool
@@ -59,11 +57,4 @@ pub(crate) fn is_capped(table: &[Numbers], most: u32) -> bool
     ensures { IsTrue result ↔ IsCapped most table.now }
 {
     table.iter().all(|row| is_row_capped(row.as_slice(), most))
-}
-
-/// Whether all numbers in links are below the count.
-pub fn are_links_below(links: &[Link], count: u32) -> bool
-    ensures { IsTrue result ↔ All (IsLinkBelow count) links.now }
-{
-    links.iter().all(|link| link.is_below(count))
 }

@@ -15,12 +15,12 @@ use crate::far_rows::judge_far;
 use crate::links::judge_links;
 use crate::near_rows::judge_near;
 use crate::order::order_verdict;
-use crate::verdict::{Rule, first_rejected, rejected};
-use crate::{Claim, Judgement, StreamFault, Verdict};
+use crate::verdict::{first_rejected, rejected};
 use std::alloc::Global;
 use std::io::Read;
 use tcc_cert::{CertReader, CycleHead, Part};
 use tcc_graph::{Graph, LargeGraph};
+use tcc_rules::{Claim, Judgement, Rule, StreamFault, Verdict};
 
 /// A claim and the verdict on it, or why there is none.
 pub type Judging = Result<Judgement, StreamFault>;

@@ -21,7 +21,7 @@ use Rattle.tcc_graph.specs.declared.link.Link.TheVariants as link
 use Rattle.tcc_graph.proofs.Pairs.{link_below}
 use Rattle.tcc_graph.proofs.Linking.{derived_cost, some_cost, no_links, one_cost, cost_cons, cost_around, lead_split}
 use Rattle.tcc_core.proofs.Twice.{HasTwice, always, few_or_twice, counted_or_twice}
-use Rattle.tcc_core.proofs.UpwardLemmas.{turn}
+use Rattle.tcc_derive.proofs.UpwardLemmas.{turn}
 use Rattle.tcc_core.proofs.SessionLemmas.{IsPlaced, pair_on, either_way}
 use Rattle.tcc_core.proofs.LargestWalk.{told_apart, marked_below, walk_short}
 use Rattle.tcc_core.proofs.BoundLemmas.{link_least, link_there, part_cycle}

@@ -17,11 +17,6 @@ pub mod Kept
 pub mod Ending
 pub mod Rounds
 pub mod Worked
-pub mod Backwards
-pub mod CycleLemmas
-pub mod UpwardLemmas
-pub mod TieLemmas
-pub mod PickedLemmas
 pub mod PartLemmas
 pub mod Twice
 pub mod BoundLemmas
@@ -31,8 +26,3 @@ pub mod LargestCycle
 pub mod WalkLemmas
 pub mod LinkChoiceLemmas
 pub mod WayLemmas
-pub mod Counting
-pub mod Sharing
-pub mod Keeping
-pub mod Settling
-pub mod Machining

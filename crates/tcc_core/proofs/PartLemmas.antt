@@ -13,8 +13,8 @@ use Rattle.tcc_graph.specs.declared.link.Link.{Link}
 use Rattle.tcc_graph.specs.declared.link.Link.TheVariants as link
 use Rattle.tcc_graph.proofs.Linking.{derived_cost, cost_append, cost_around, lead_append, lead_split, lead_end}
 use Rattle.tcc_derive.specs.Backwards.{IsFirstWalk}
-use Rattle.tcc_core.proofs.UpwardLemmas.{begins_above, first_links}
-use Rattle.tcc_core.proofs.PickedLemmas.{first_lowest, picked_from_first}
+use Rattle.tcc_derive.proofs.UpwardLemmas.{begins_above, first_links}
+use Rattle.tcc_derive.proofs.PickedLemmas.{first_lowest, picked_from_first}
 
 start_same : (j : Judged) (a b c d : ℕ) (links : List Link) → 0 < length links → LinksLead j a c links → LinksLead j b d links → (a ≡ b) × (c ≡ d)
 start_same j a b c d [] some p q = absurd (omega arith)

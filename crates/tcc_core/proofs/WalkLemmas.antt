@@ -10,9 +10,9 @@ use Rattle.tcc_graph.specs.declared.step.Step.{Step}
 use Rattle.tcc_graph.proofs.Walking.{leads_split}
 use Rattle.tcc_graph.proofs.Tied.{step_total, step_tied}
 use Rattle.tcc_derive.specs.Backwards.{IsFirstWalk}
-use Rattle.tcc_core.specs.Picked.{IsShortestWalk, IsPickedWalk}
-use Rattle.tcc_core.proofs.Backwards.{Picks, Picks-at, Picks-from, Picks-first, first_picked}
-use Rattle.tcc_core.proofs.CycleLemmas.{turned}
+use Rattle.tcc_derive.specs.Picked.{IsShortestWalk, IsPickedWalk}
+use Rattle.tcc_derive.proofs.Backwards.{Picks, Picks-at, Picks-from, Picks-first, first_picked}
+use Rattle.tcc_derive.proofs.CycleLemmas.{turned}
 
 abbrev IsBack : Judged → ℕ → ℕ → List Step → Type 0
 IsBack j b c steps = IsShortestWalk j b c (reverse steps)

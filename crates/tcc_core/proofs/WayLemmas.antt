@@ -19,10 +19,10 @@ use Rattle.tcc_core.specs.Shares.{IsCappedDistance}
 use Rattle.tcc_core.specs.Returns.{IsFirstReturn, come_to}
 use Rattle.tcc_core.specs.private.Ways.{spent, IsBefore, IsFirstLink}
 use Rattle.tcc_core.specs.declared.first_return.FirstReturn.{FirstReturn}
-use Rattle.tcc_core.proofs.Backwards.{Picks, Picks-push, Picks-at}
-use Rattle.tcc_core.proofs.CycleLemmas.{turned}
-use Rattle.tcc_core.proofs.UpwardLemmas.{begins_above, first_links}
-use Rattle.tcc_core.proofs.PickedLemmas.{IsBack, ends_back, first_from_picked}
+use Rattle.tcc_derive.proofs.Backwards.{Picks, Picks-push, Picks-at}
+use Rattle.tcc_derive.proofs.CycleLemmas.{turned}
+use Rattle.tcc_derive.proofs.UpwardLemmas.{begins_above, first_links}
+use Rattle.tcc_derive.proofs.PickedLemmas.{IsBack, ends_back, first_from_picked}
 
 -- some links were picked: they lead on from `end` back to the start, what is left brings the search to `end`, and each
 -- was the first that could be picked

@@ -3,11 +3,5 @@ pub mod Searches
 pub mod Shares
 pub mod Seeds
 pub mod Frontiers
-pub mod Picked
 pub mod Returns
-pub mod Worlds
-pub mod Steps
-pub mod Soundness
-pub mod Machines
-pub mod Outcomes
 pub mod private

@@ -8,5 +8,3 @@ pub mod Offers
 pub mod Marked
 pub mod Levels
 pub mod Ways
-pub mod Fitting
-pub mod Making

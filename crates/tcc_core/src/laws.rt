@@ -1,7 +1,6 @@
 //! The laws of shares: how a search ends in one, and what shares that settle show;
 //! of least cycles: the first one is picked from the back, and so are the walks of its links; what its parts
-//! cost, and what it can cost at most;
-//! of all interleavings.
+//! cost, and what it can cost at most.
 ghost use Rattle.std.specs.Prelude.{◌≡◌, ◌↔◌, ℕ, List, Option, None, Contains, ◌≤◌, ◌==◌, ◌∷◌, ◌++◌, ◌+◌, ◌*◌, All, filter, length, Some};
 ghost use Rattle.tcc_graph.specs.{Levels.Judged, Links.cost, declared.link.Link.Link, Levels.judged, Links.link_from, declared.limits.TheConstants.MAX_CYCLE_COST, declared.level.Level.Level, declared.step.Step.Step, declared.link.Link.TheVariants.Derived};
 ghost use Rattle.tcc_graph.specs.Routes.{HasCycle, IsLeastCycle, IsDistance, IsRoute};
@@ -14,11 +13,7 @@ ghost use Rattle.tcc_txn.specs.{declared.limits.TheConstants.MAX_COUNT, declared
 ghost use Rattle.tcc_reads.specs.{History.count, Sources.history};
 ghost use Rattle.tcc_graph.specs.Ties.{IsFirstCycle, link_kind, link_walk};
 ghost use Rattle.tcc_derive.specs.Backwards.{IsFirstWalk};
-ghost use Rattle.tcc_core.specs.Picked.{IsPickedCycle, IsPickedWalk};
-ghost use Rattle.tcc_core.specs.Worlds.{World, shares_of, first_world};
-ghost use Rattle.tcc_core.specs.Steps.{IsEnabled, Happens, Runs};
-ghost use Rattle.tcc_core.specs.Soundness.{IsSound, IsSeed, AllFinished};
-ghost use Rattle.tcc_core.specs.declared.event.Event.{Event};
+ghost use Rattle.tcc_derive.specs.Picked.{IsPickedCycle, IsPickedWalk};
 
 /// Where shares settle at a word, the word is none exactly where there is no cycle, and else the cost of a least cycle;
 /// each row, capped at the word where there is one, is the capped distance over numbers from its start upward; and each
@@ -88,28 +83,4 @@ pub fn bounded()
         → IsLeastCycle (judged (history snapshot) level) s links
         → (length (filter (λ l. link_kind l == 2) links) ≤ MAX_SESSIONS + 1)
         × (cost links ≤ (2 * MAX_SESSIONS + 1) + 2 * MAX_SESSIONS * (MAX_SESSIONS + 1)) }
-{}
-
-/// Whatever the interleaving, which is any list of events, each enabled when it comes, of any number of workers, begun
-/// with or without the cost of a cycle as a seed: the word is always the least offer and not above any sight, every row
-/// is exact and closed, and every start stands once among those left, held and finished. After a run that finishes every
-/// start the shares settle at the word: it is none exactly where there is no cycle, and else the cost of a least cycle.
-/// So every interleaving ends with the same word.
-pub fn interleavings()
-    ensures enabled { (j : Judged) (old new : World) (e : Event) → Happens j old e new → IsEnabled old e }
-    ensures kept { (j : Judged) (workers : ℕ) (seed : Option ℕ) (events : List Event) (world : World) → IsSeed j seed
-        → Runs j (first_world (count j.history) workers seed) events world → IsSound j world }
-    ensures settled { (j : Judged) (workers : ℕ) (seed : Option ℕ) (events : List Event) (world : World) → IsSeed j seed
-        → Runs j (first_world (count j.history) workers seed) events world → AllFinished (count j.history) world
-        → SettleAt j (shares_of world) world.word }
-    ensures no_cycle { (j : Judged) (workers : ℕ) (seed : Option ℕ) (events : List Event) (world : World) → IsSeed j seed
-        → Runs j (first_world (count j.history) workers seed) events world → AllFinished (count j.history) world
-        → ((world.word ≡ None) ↔ (HasCycle j → ⊥)) }
-    ensures least { (j : Judged) (workers : ℕ) (seed : Option ℕ) (events : List Event) (world : World) (b : ℕ) → IsSeed j seed
-        → Runs j (first_world (count j.history) workers seed) events world → AllFinished (count j.history) world
-        → world.word ≡ Some b → ((s : ℕ) × (links : List Link) × IsLeastCycle j s links × (cost links ≡ b)) }
-    ensures same { (j : Judged) (workers others : ℕ) (seed another : Option ℕ) (events more : List Event) (world other : World)
-        → IsSeed j seed → Runs j (first_world (count j.history) workers seed) events world → AllFinished (count j.history) world
-        → IsSeed j another → Runs j (first_world (count j.history) others another) more other → AllFinished (count j.history) other
-        → world.word ≡ other.word }
 {}

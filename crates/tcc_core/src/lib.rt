@@ -1,11 +1,9 @@
-//! One search for what each transaction's routes cost at least, the law by which many searches settle the least cycle, the machine of
-//! all their interleavings, and the first of the least cycles, picked from the back by what they found.
+//! One search for what each transaction's routes cost at least, the law by which many searches settle the least cycle, and the first of
+//! the least cycles, picked from the back by what they found.
 #![tactic(auto)]
 
 mod again;
 mod bucket_queue;
-mod desk;
-mod event;
 mod first_return;
 mod frontier;
 pub mod laws;
@@ -17,13 +15,9 @@ mod relaxing;
 mod search;
 mod seeding;
 mod settled;
-mod stage;
-mod world;
 
-pub use event::{Event, RunFault, StepFault};
 pub use first_return::FirstReturn;
 pub use path_reconstruction::first_cycle;
 pub use search::Search;
 pub use seeding::seed;
 pub use settled::Settled;
-pub use world::World;

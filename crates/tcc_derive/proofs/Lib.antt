@@ -16,4 +16,9 @@ pub mod ReasonLemmas
 pub mod SourceLemmas
 pub mod StepLemmas
 pub mod TableLemmas
+pub mod Backwards
+pub mod CycleLemmas
+pub mod UpwardLemmas
+pub mod TieLemmas
+pub mod PickedLemmas
 pub mod Worked

@@ -5,4 +5,5 @@ pub mod Limits
 pub mod Names
 pub mod LinksOn
 pub mod Backwards
+pub mod Picked
 pub mod private

@@ -10,7 +10,7 @@ use Rattle.tcc_graph.specs.Levels.{Judged}
 use Rattle.tcc_graph.specs.Orders.{IsFirstOrder}
 use Rattle.tcc_graph.specs.Answers.{Answer, IsFirstAnswer}
 use Rattle.tcc_graph.specs.Answers as first
-use Rattle.tcc_core.proofs.PickedLemmas.{one_first}
+use Rattle.tcc_derive.proofs.PickedLemmas.{one_first}
 
 pub one_order : (j : Judged) (order other : List ℕ) → IsFirstOrder j order → IsFirstOrder j other → order ≡ other
 one_order j order other p q = go (slice_cmp nat_cmp order other) refl

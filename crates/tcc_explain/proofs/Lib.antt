@@ -13,3 +13,8 @@ pub mod OneAnswer
 pub mod OfferLemmas
 pub mod GrownAnswer
 pub mod NextLemmas
+pub mod TabledWalks
+pub mod TabledRoutes
+pub mod TabledClocks
+pub mod TabledAnswer
+mod WorkedTables

@@ -13,7 +13,7 @@ use Rattle.tcc_cert.specs.Tables.{row_of, entry, far_entry}
 use Rattle.tcc_cert.specs.declared.version.Version.TheVariants.{Two}
 use Rattle.tcc_answer.specs.declared.answer.Answer.{Answer}
 use Rattle.tcc_answer.specs.declared.answer.Answer.TheVariants as answer
-use Rattle.tcc_core.proofs.PickedLemmas.{one_first}
+use Rattle.tcc_derive.proofs.PickedLemmas.{one_first}
 use Rattle.tcc_explain.specs.Certificates.{IsCappedShortest, IsNearTable, IsFarTable, IsClocksAt}
 use Rattle.tcc_explain.specs.Explained.{IsAnswerOfHistory}
 use Rattle.tcc_explain.proofs.FirstAnswers.{one_order}

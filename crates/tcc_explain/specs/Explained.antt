@@ -25,3 +25,10 @@ IsAnswerOfHistory j (answer.Anomaly a) =
 -- the first answer for the history of a snapshot at the level, where all its reads have sources
 abbrev pub IsAnswerOfSnapshot : Sessions → Level → Answer → Type 0
 IsAnswerOfSnapshot s level a = (read_faults s ≡ []) × IsAnswerOfHistory (judged (history s) level) a
+
+-- an answer says the first answer for the history at the level, with its labels, whatever its tables
+abbrev pub IsBareAnswer : Judged → Answer → Type 0
+IsBareAnswer j (answer.Commit c) =
+    first.IsFirstAnswer j (first.Order c.order) × (c.level ≡ j.level) × (c.sessions ≡ length j.history.sessions) × (c.labels ≡ labels_of j.history)
+IsBareAnswer j (answer.Anomaly a) =
+    ((s : ℕ) × first.IsFirstAnswer j (first.Cycle s a.links)) × (a.level ≡ j.level) × (a.labels ≡ labels_of j.history)

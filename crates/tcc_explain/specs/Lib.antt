@@ -1,5 +1,6 @@
 pub mod Certificates
 pub mod Explained
+pub mod Tabled
 pub mod Next
 pub mod Keys
 pub mod private

@@ -11,7 +11,7 @@ ghost use Rattle.tcc_cert.specs.Rules.{Certifies, CertifiesCycle, CertifiesOrder
 ghost use Rattle.tcc_answer.specs.{Answers.LabelledCycle, Claims.certificate_of, Texts.answer_text, Json.answer_json, declared.answer.Answer.Answer};
 ghost use Rattle.tcc_answer.specs.declared.answer.Answer.TheVariants as answer;
 ghost use Rattle.tcc_slices.specs.Growth.{Grows};
-ghost use Rattle.tcc_explain.specs.{Explained.IsAnswerOfHistory, Keys.HasNames, Next.IsAnomalyOf, Next.IsNextRefusal};
+ghost use Rattle.tcc_explain.specs.{Explained.IsAnswerOfHistory, Explained.IsBareAnswer, Keys.HasNames, Next.IsAnomalyOf, Next.IsNextRefusal, Tabled.with_tables};
 ghost use Rattle.tcc_explain.specs.Certificates.{IsNearTable, IsFarTable, IsClocksAt, IsNumbered};
 ghost use Rattle.tcc_explain.specs.declared.fault.NextFault.TheVariants as refusal;
 
@@ -60,6 +60,13 @@ pub fn one_answer()
     ensures json { (j : Judged) (some other : Answer) → IsAnswerOfHistory j some → IsAnswerOfHistory j other → answer_json some ≡ answer_json other }
     ensures certificate { (j : Judged) (some other : Answer) → IsAnswerOfHistory j some → IsAnswerOfHistory j other
         → certificate_of some ≡ certificate_of other }
+{}
+
+/// Each first answer has its tables, whether or not anybody worked them out: with those that its history gives it is the whole answer.
+/// And a whole answer is one without them too.
+pub fn tabled()
+    ensures whole { (j : Judged) (a : Answer) → IsBareAnswer j a → IsAnswerOfHistory j (with_tables j.history a) }
+    ensures bare { (j : Judged) (a : Answer) → IsAnswerOfHistory j a → IsBareAnswer j a }
 {}
 
 /// Of two resolved snapshots of which the second continues the first, no link of the first one's anomaly is missed in the

@@ -7,10 +7,10 @@ use Rattle.tcc_graph.specs.Routes.{LinksLead, IsCycle, IsLeastCycle}
 use Rattle.tcc_graph.specs.Ties.{link_cmp, IsFirstCycle}
 use Rattle.tcc_graph.specs.declared.link.Link.{Link}
 use Rattle.tcc_graph.proofs.Linking.{some_cost, cost_cons, cost_append, cost_around, some_links, lead_append, lead_split, lead_start}
-use Rattle.tcc_core.proofs.Backwards.{Picks, Picks-push, Picks-at}
-use Rattle.tcc_core.proofs.CycleLemmas.{turned}
-use Rattle.tcc_core.proofs.UpwardLemmas.{begins_above}
-use Rattle.tcc_core.proofs.PickedLemmas.{IsBack, ends_back, first_from_picked}
+use Rattle.tcc_derive.proofs.Backwards.{Picks, Picks-push, Picks-at}
+use Rattle.tcc_derive.proofs.CycleLemmas.{turned}
+use Rattle.tcc_derive.proofs.UpwardLemmas.{begins_above}
+use Rattle.tcc_derive.proofs.PickedLemmas.{IsBack, ends_back, first_from_picked}
 use Rattle.tcc_first.specs.private.Starts.{IsFirstStart}
 use Rattle.tcc_first.specs.private.Picks.{EndsWay, IsFirstLast}
 use Rattle.tcc_first.proofs.Around.{last_link}

@@ -6,8 +6,8 @@ use Rattle.tcc_graph.specs.Routes.{IsCycle, IsLeastCycle}
 use Rattle.tcc_cert.specs.CycleRules.{ends_at}
 use Rattle.tcc_cert.specs.declared.large.LinksClaim.{LinksClaim}
 use Rattle.tcc_cert.specs.declared.large.Run.{Run}
-use Rattle.tcc_check.specs.Asked.{AllHold}
-use Rattle.tcc_check.proofs.RightLinks.{cycle_of_right}
+use Rattle.tcc_rules.specs.Asked.{AllHold}
+use Rattle.tcc_rules.proofs.RightLinks.{cycle_of_right}
 use Rattle.tcc_judge.specs.Cycles.{IsRightCycle}
 use Rattle.tcc_judge.specs.Verdicts.{least_rules}
 

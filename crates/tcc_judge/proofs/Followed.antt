@@ -18,7 +18,7 @@ use Rattle.tcc_judge.specs.Verdicts.{order_rules}
 use Rattle.tcc_judge.proofs.Firsts.{front, first_within, firsts_rise}
 use Rattle.tcc_judge.proofs.Laid.{IsLaid, IsPlaced, laid_none, laid_one}
 use Rattle.tcc_judge.proofs.Ordered.{accepted_order}
-use Rattle.tcc_check.specs.Asked.{AllHold}
+use Rattle.tcc_rules.specs.Asked.{AllHold}
 
 -- one transaction of a session
 abbrev one_of : ℕ → Run

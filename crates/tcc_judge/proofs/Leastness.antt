@@ -18,10 +18,10 @@ use Rattle.tcc_judge.specs.Spanned.{AreFew, HasFewMembers, IsBounded, IsMember, 
 use Rattle.tcc_judge.specs.Verdicts.{cycle_rules, least_rules, least_rules_of, links_rules}
 use Rattle.tcc_judge.specs.declared.verdict.Rule.{Rule}
 use Rattle.tcc_judge.specs.declared.verdict.Rule.TheVariants.{Sizes, Onward, Limits, Cheaper}
-use Rattle.tcc_check.specs.declared.verdict.Verdict.{Verdict}
-use Rattle.tcc_check.specs.Asked.{IsFirstBroken, IsVerdictOf, as_whole, at_each}
-use Rattle.tcc_check.proofs.Asked.{answer_later}
-use Rattle.tcc_check.specs.declared.verdict.Verdict.TheVariants as verdict
+use Rattle.tcc_rules.specs.declared.verdict.Verdict.{Verdict}
+use Rattle.tcc_rules.specs.Asked.{IsFirstBroken, IsVerdictOf, as_whole, at_each}
+use Rattle.tcc_rules.proofs.Asked.{answer_later}
+use Rattle.tcc_rules.specs.declared.verdict.Verdict.TheVariants as verdict
 use Rattle.tcc_judge.specs.private.Decoding.{IsOrdered}
 use Rattle.tcc_judge.specs.private.Contradicted.{AreContradicted}
 use Rattle.tcc_judge.specs.private.Members.{AreListed, AreThose, IsMarked}

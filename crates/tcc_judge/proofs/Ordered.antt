@@ -13,9 +13,9 @@ use Rattle.tcc_cert.specs.declared.large.Run.{Run}
 use Rattle.tcc_judge.specs.Runs.{AreWhole, order_of}
 use Rattle.tcc_judge.specs.Verdicts.{HasOrderSizes, order_rules, pair_rules}
 use Rattle.tcc_judge.specs.declared.verdict.Rule.{Rule}
-use Rattle.tcc_check.specs.declared.verdict.Verdict.{Verdict}
-use Rattle.tcc_check.specs.Asked.{AllHold, IsVerdictOf, as_whole}
-use Rattle.tcc_check.proofs.Asked.{answer_later}
+use Rattle.tcc_rules.specs.declared.verdict.Verdict.{Verdict}
+use Rattle.tcc_rules.specs.Asked.{AllHold, IsVerdictOf, as_whole}
+use Rattle.tcc_rules.proofs.Asked.{answer_later}
 use Rattle.tcc_judge.specs.declared.verdict.Rule.TheVariants.{Sizes}
 use Rattle.tcc_judge.specs.private.Least.{IsFoundFirst}
 use Rattle.tcc_judge.specs.private.Positions.{ArePositions, IsTurned}

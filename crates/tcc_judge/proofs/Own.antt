@@ -16,10 +16,10 @@ use Rattle.tcc_judge.specs.Claims.{links_claim_of, cycle_claim_of, short_claim_o
 use Rattle.tcc_judge.specs.Cycles.{IsRightCycle, BreaksOnward, BreaksRound, BreaksReturn}
 use Rattle.tcc_judge.specs.Verdicts.{cycle_rules, least_rules_of, rules_of}
 use Rattle.tcc_judge.specs.declared.verdict.Rule.{Rule}
-use Rattle.tcc_check.specs.declared.verdict.Verdict.{Verdict}
-use Rattle.tcc_check.specs.Asked.{AllHold, IsVerdictOf}
-use Rattle.tcc_check.proofs.Asked.{AreApart, accepted_by, links_apart}
-use Rattle.tcc_check.specs.declared.verdict.Verdict.TheVariants as verdict
+use Rattle.tcc_rules.specs.declared.verdict.Verdict.{Verdict}
+use Rattle.tcc_rules.specs.Asked.{AllHold, IsVerdictOf}
+use Rattle.tcc_rules.proofs.Asked.{AreApart, accepted_by, links_apart}
+use Rattle.tcc_rules.specs.declared.verdict.Verdict.TheVariants as verdict
 
 -- ---- what keeps the rules is accepted
 first_apart : (broken : ℕ × ℕ → Type 0) (at : ℕ × ℕ) → IsFirstAt broken at → ((where_ : ℕ × ℕ) → broken where_ → ⊥) → ⊥

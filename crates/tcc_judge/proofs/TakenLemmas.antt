@@ -19,11 +19,11 @@ use Rattle.tcc_cert.specs.Reading.{with_walk}
 use Rattle.tcc_cert.specs.declared.large.LinksClaim.{LinksClaim}
 use Rattle.tcc_cert.specs.declared.large.LinksSizes.{LinksSizes}
 use Rattle.tcc_cert.specs.declared.large.Run.{Run}
-use Rattle.tcc_check.specs.Asked.{IsVerdictOf, as_whole}
-use Rattle.tcc_check.specs.Links.{AreJudged}
-use Rattle.tcc_check.specs.declared.verdict.Verdict.{Verdict}
-use Rattle.tcc_check.specs.declared.verdict.Verdict.TheVariants as verdict
-use Rattle.tcc_check.proofs.Asked.{answer_later}
+use Rattle.tcc_rules.specs.Asked.{IsVerdictOf, as_whole}
+use Rattle.tcc_rules.specs.Links.{AreJudged}
+use Rattle.tcc_rules.specs.declared.verdict.Verdict.{Verdict}
+use Rattle.tcc_rules.specs.declared.verdict.Verdict.TheVariants as verdict
+use Rattle.tcc_rules.proofs.Asked.{answer_later}
 use Rattle.tcc_judge.proofs.Leastness.{with_links}
 use Rattle.tcc_judge.specs.Cycles.{HasLinksSizes, IsRightCycle}
 use Rattle.tcc_judge.specs.Taken.{AreAsGood, AreTaken, IsAsGood}

@@ -7,7 +7,7 @@ use Rattle.tcc_graph.specs.Links.{IsLink, link_cost, link_from, link_to}
 use Rattle.tcc_graph.specs.declared.link.Link.{Link}
 use Rattle.tcc_cert.specs.CycleRules.{IsLinkBelow}
 use Rattle.tcc_cert.specs.declared.large.LinksSizes.{LinksSizes}
-use Rattle.tcc_check.specs.Links.{AreJudged}
+use Rattle.tcc_rules.specs.Links.{AreJudged}
 use Rattle.tcc_judge.specs.declared.taken.TakenLinks.{TakenLinks}
 
 -- a link is as good as another: it has the same ends, it is one of the history where the other is, and then costs as much

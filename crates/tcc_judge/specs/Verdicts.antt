@@ -8,7 +8,7 @@ use Rattle.tcc_cert.specs.declared.large.LargeCertificate.{LargeCertificate}
 use Rattle.tcc_cert.specs.declared.large.LargeCertificate.TheVariants as certificate
 use Rattle.tcc_cert.specs.declared.large.RunsClaim.{RunsClaim}
 use Rattle.tcc_cert.specs.declared.large.LinksClaim.{LinksClaim}
-use Rattle.tcc_check.specs.Asked.{Asked, as_whole, at_each, of_links}
+use Rattle.tcc_rules.specs.Asked.{Asked, as_whole, at_each, of_links}
 use Rattle.tcc_judge.specs.Cycles.{HasLinksSizes, BreaksRound, BreaksReturn, BreaksOnward}
 use Rattle.tcc_cert.specs.declared.large.Run.{Run}
 use Rattle.tcc_judge.specs.Runs.{AreWhole, order_of}

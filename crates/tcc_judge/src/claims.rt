@@ -1,7 +1,7 @@
 //! The judgement of a claim of either kind about a history of any size.
 ghost use Rattle.std.specs.Prelude.{IfOk};
 ghost use Rattle.tcc_judge.specs.Verdicts.{rules_of};
-ghost use Rattle.tcc_check.specs.Asked.{IsVerdictOf};
+ghost use Rattle.tcc_rules.specs.Asked.{IsVerdictOf};
 
 use crate::{Judging, judge_cycle, judge_order};
 use std::alloc::Global;

@@ -3,7 +3,7 @@ ghost use Rattle.std.specs.Prelude.{◌≡◌, ◌≤◌, ◌↔◌, [], IfOk, I
 ghost use Rattle.tcc_graph.specs.declared.level.Level.{Level};
 ghost use Rattle.tcc_cert.specs.declared.large.Run.{Run};
 ghost use Rattle.tcc_judge.specs.{declared.cycles.TheConstants.SHORT, Cycles.AreNeededRuns, Cycles.HasLinksSizes, Verdicts.cycle_rules, Verdicts.least_rules};
-ghost use Rattle.tcc_check.specs.Asked.{IsVerdictOf};
+ghost use Rattle.tcc_rules.specs.Asked.{IsVerdictOf};
 
 use crate::decoding::told;
 use crate::links::judge_links;
@@ -13,9 +13,9 @@ use crate::{Judging, Rule, Verdict};
 use std::alloc::Global;
 use tcc_base::{Progress, Unwatched};
 use tcc_cert::{LinksClaim, Run};
-use tcc_check::are_links_below;
 use tcc_graph::{LargeGraph, Level};
 use tcc_least::{ShortCycle, short_cycle};
+use tcc_rules::are_links_below;
 use tcc_txn::NoMemory;
 
 /// Up to this cost no runs are needed.

@@ -6,8 +6,8 @@ ghost use Rattle.tcc_cert.specs.{RunsTold.order_claim_of, declared.large.LargeCe
 ghost use Rattle.tcc_least.specs.Shapes.{AreLeast};
 ghost use Rattle.tcc_judge.specs.{Runs.order_of, Claims.cycle_claim_of, Claims.short_claim_of, Cycles.IsRightCycle, declared.verdict.Rule.Rule};
 ghost use Rattle.tcc_judge.specs.Verdicts.{HasOrderSizes, cycle_rules, least_rules, order_rules, rules_of};
-ghost use Rattle.tcc_check.specs.{declared.verdict.Verdict.Verdict, Asked.AllHold, Asked.IsVerdictOf};
-ghost use Rattle.tcc_check.specs.declared.verdict.Verdict.TheVariants as verdict;
+ghost use Rattle.tcc_rules.specs.{declared.verdict.Verdict.Verdict, Asked.AllHold, Asked.IsVerdictOf};
+ghost use Rattle.tcc_rules.specs.declared.verdict.Verdict.TheVariants as verdict;
 
 use tcc_graph::LargeGraph;
 

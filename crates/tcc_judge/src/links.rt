@@ -1,13 +1,13 @@
 //! The rule on the links of a cycle, as `tcc_check` has it.
 ghost use Rattle.std.specs.Prelude.{IfOk};
 ghost use Rattle.tcc_judge.specs.Verdicts.{links_rules};
-ghost use Rattle.tcc_check.specs.Asked.{IsVerdictOf};
+ghost use Rattle.tcc_rules.specs.Asked.{IsVerdictOf};
 
 use crate::verdict::rejected_at;
 use crate::{Judging, Rule, Verdict};
 use tcc_cert::LinksClaim;
-use tcc_check::first_wrong_link;
 use tcc_graph::LargeGraph;
+use tcc_rules::first_wrong_link;
 
 /// Accepts the links exactly where they are a cycle of the level and cost what is claimed; otherwise names the first wrong one.
 pub fn judge_links(graph: &LargeGraph, claim: &LinksClaim) -> Judging

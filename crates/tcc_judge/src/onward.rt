@@ -7,7 +7,7 @@ ghost use Rattle.tcc_lanes.specs.{Among.HasCheaperAmong, Among.HasCheaperIntoIni
 ghost use Rattle.tcc_judge.specs.{private.Contradicted.AreContradicted, private.Members.AreListed, private.Members.AreThose, private.Members.IsMarked, private.Onward.HasAllBelow, private.Onward.onward_rules, private.Positions.ArePositions, private.Positions.KeepsPairs, private.Decoding.IsOrdered, private.Sources.AreSources};
 ghost use Rattle.tcc_reads.specs.History.{count};
 ghost use Rattle.tcc_judge.specs.Spanned.{HasFewMembers, IsBounded, IsLeadingBack, IsLedBack, IsMember, IsStaleKey};
-ghost use Rattle.tcc_check.specs.Asked.{IsVerdictOf};
+ghost use Rattle.tcc_rules.specs.Asked.{IsVerdictOf};
 
 use crate::contradicted::{Contradicted, contradicted_along};
 use crate::members::{all_marked, both_marked, marked, marked_led, marked_under};

@@ -3,7 +3,7 @@ ghost use Rattle.std.specs.Prelude.{◌≡◌, IfOk, IfSome, MatchOption};
 ghost use Rattle.tcc_graph.specs.Levels.{judged};
 ghost use Rattle.tcc_judge.specs.{Orders.BreaksAxiom, Runs.order_of, private.Least.IsFoundFirst, private.Positions.KeepsPairs, private.Decoding.IsOrdered};
 ghost use Rattle.tcc_judge.specs.Verdicts.{HasOrderSizes, order_rules, pair_rules};
-ghost use Rattle.tcc_check.specs.Asked.{IsVerdictOf};
+ghost use Rattle.tcc_rules.specs.Asked.{IsVerdictOf};
 
 use crate::behind::first_behind;
 use crate::decoding::told;

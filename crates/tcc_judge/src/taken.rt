@@ -6,7 +6,7 @@ ghost use Rattle.tcc_reads.specs.History.{History, count};
 ghost use Rattle.tcc_graph.specs.{Levels.Judged, Links.link_from, Walks.IsStep, Walks.IsStepBelow};
 ghost use Rattle.tcc_graph.specs.declared.{link.Link.Link, step.Step.Step};
 ghost use Rattle.tcc_cert.specs.{CycleRules.IsLinkBelow, Reading.with_walk, Taken.IsClaimTaken, Taken.with_links, declared.large.LargeCertificate.LargeCertificate};
-ghost use Rattle.tcc_check.specs.Asked.{IsVerdictOf};
+ghost use Rattle.tcc_rules.specs.Asked.{IsVerdictOf};
 ghost use Rattle.tcc_judge.specs.{Cycles.AreNeededRuns, Cycles.HasLinksSizes, Taken.AreTaken, Taken.IsAsGood, private.Taking.IsWayOf, Verdicts.cycle_rules, Verdicts.rules_of};
 
 use crate::cycles::{are_needed, least_verdict};
@@ -16,8 +16,8 @@ use crate::{Judging, Rule, Verdict};
 use std::alloc::Global;
 use tcc_base::{Progress, Unwatched};
 use tcc_cert::{LargeHead, LinksHead, LinksSizes, TakesLinks, with_walk};
-use tcc_check::LinksJudge;
 use tcc_graph::{LargeGraph, Level, Link, Step, Walk};
+use tcc_rules::LinksJudge;
 use tcc_txn::NoMemory;
 
 /// The steps of a walk that came so far.

@@ -1,6 +1,6 @@
 //! What is answered of a claim, and the rules that it names.
 ghost use Rattle.std.specs.Prelude.{◌≡◌};
-ghost use Rattle.tcc_check.specs.declared.verdict.Verdict.TheVariants as verdict;
+ghost use Rattle.tcc_rules.specs.declared.verdict.Verdict.TheVariants as verdict;
 ghost use Rattle.tcc_judge.specs.Verdicts.{rule_number};
 
 use tcc_txn::NoMemory;
@@ -40,7 +40,7 @@ impl Rule {
 }
 
 /// What the rules say of a claim.
-pub type Verdict = tcc_check::Verdict<Rule>;
+pub type Verdict = tcc_rules::Verdict<Rule>;
 
 /// A verdict, unless memory ran out.
 pub type Judging = Result<Verdict, NoMemory>;

@@ -6,8 +6,8 @@ use Rattle.tcc_lanes.specs.private.Pricing.{IsAttained, IsSettled, IsSettledFrom
 pub attained_first : (rows : List (List ℕ)) (s v : ℕ) → IsSettledFrom rows s 1 (get_or rows s []) v
 attained_first rows s v = inl refl
 
-module _ (rows : List (List ℕ)) (table : IsTable rows) (s level : ℕ) (old new : List ℕ) (same : length rows ≡ length old)
-    (settled : IsSettled rows level (length rows) old new) where
+module _ (rows : List (List ℕ)) (table : IsTable rows) (s level : ℕ) (Is : ℕ → Type 0) (old new : List ℕ) (same : length rows ≡ length old)
+    (settled : IsSettled rows level Is old new) where
   -- a cost up to this level stays
   kept : (u : ℕ) → u < length rows → get_or old u 0 < level + 1 → get_or new u 0 ≡ get_or old u 0
   kept u l low = go (settled.either u (omega (arith, l, same)))
@@ -30,11 +30,6 @@ module _ (rows : List (List ℕ)) (table : IsTable rows) (s level : ℕ) (old ne
       go (inr (t, inside, at, over)) q =
           let still : get_or new t 0 ≡ get_or old t 0 = kept t (omega (arith, inside, same)) (omega (arith, at)) in
           inr (t, omega (arith, inside, same), omega (arith, still, at), omega (arith, still, at, over))
-
-pub attained_on : (rows : List (List ℕ)) (s level next : ℕ) (costs : List ℕ) (v : ℕ) → level < next → IsSettledFrom rows s (level + 1) costs v
-    → IsSettledFrom rows s next costs v
-attained_on rows s level next costs v more (inl start) = inl start
-attained_on rows s level next costs v more (inr (u, inside, low, over)) = inr (u, inside, omega (arith, low, more), over)
 
 pub attained : (rows : List (List ℕ)) (s level : ℕ) (costs : List ℕ) (v : ℕ) → IsSettledFrom rows s level costs v → IsAttained rows s costs v
 attained rows s level costs v (inl start) = inl start

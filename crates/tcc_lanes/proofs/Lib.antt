@@ -9,6 +9,7 @@ pub mod MeetingLemmas
 pub mod PriceLemmas
 pub mod LengthLemmas
 pub mod StretchLemmas
+pub mod BucketLemmas
 pub mod PriceRows
 pub mod SettledCosts
 pub mod Attained

@@ -8,7 +8,7 @@ use Rattle.tcc_graph.specs.Levels.{Judged}
 use Rattle.tcc_graph.specs.Links.{IsLink, cost, link_cost, link_from, link_to}
 use Rattle.tcc_graph.specs.Routes.{IsCycle, LinksLead}
 use Rattle.tcc_graph.specs.declared.link.Link.{Link}
-use Rattle.tcc_graph.proofs.Linking.{cost_append, cost_around, cost_cons, lead_append}
+use Rattle.tcc_graph.proofs.Linking.{cost_append, cost_around, cost_cons, lead_append, some_cost}
 use Rattle.tcc_lanes.specs.Among.{IsAmong}
 use Rattle.tcc_lanes.specs.Picked.{ArePicked, HasAllAmong, IsLastAt, IsLowestStart}
 use Rattle.tcc_lanes.specs.declared.pricing.TheConstants.{NONE}
@@ -29,7 +29,7 @@ all_at P [] l rest all = All-head P l rest all
 all_at P (k ∷ front) l rest all = all_at P front l rest (All-tail P k (front ++ l ∷ rest) all)
 
 module _ (j : Judged) (members : List ℕ) (n most : ℕ) (limit : most ≡ n + 1) (rows : List (List ℕ)) (are : ArePriceRows j members most (length members) rows)
-    (ascending : AllPairs (λ u v. u < v) members) (s : ℕ) (inside : s < length members) (high : most ≤ NONE) (level : ℕ) (costs : List ℕ) (far : most ≤ level)
+    (ascending : AllPairs (λ u v. u < v) members) (s : ℕ) (inside : s < length members) (high : most ≤ NONE) (level : ℕ) (costs : List ℕ) (far : most ≤ level + 1)
     (w : IsReached j members rows s level costs) (has : HasReturn j members most s) (every : HasAllAmong j members n)
     (lowest : IsLowestStart j n (get_or members s 0)) where
   abbrev start : ℕ
@@ -176,7 +176,7 @@ module _ (j : Judged) (members : List ℕ) (n most : ℕ) (limit : most ≡ n + 
                   high_sum = omega (arith, come, cheap, sums_to)
 
                   low_sum : left ≤ get_or costs k 0 + price_of rows k to
-                  low_sum = w.over k to inside_k within (omega (arith, come, sums_to, way.back.2, limit, far))
+                  low_sum = w.over k to inside_k within (omega (arith, come, sums_to, way.back.2, limit, far, last.link.4, some_cost l))
               go (a ∷ ls) leads listed sums_to (inr more) = same_or (cases_lt from k)
                 where
                   same_or : (from < k) ⊎ (k ≤ from) → u ≤ z

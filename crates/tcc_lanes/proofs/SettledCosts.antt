@@ -14,15 +14,25 @@ use Rattle.tcc_lanes.specs.Among.{HasCheaperAmong, IsAmong}
 use Rattle.tcc_lanes.specs.declared.pricing.TheConstants.{NONE}
 use Rattle.tcc_lanes.specs.private.Pricing.{ArePriceRows, HasReturn, IsPriceRow, IsReached, IsSettled, IsTable}
 
+-- ---- members that ascend
+pub once : (members : List ℕ) → AllPairs (λ u v. u < v) members → (u v : ℕ) → u < length members → v < length members
+    → get_or members u 0 ≡ get_or members v 0 → u ≡ v
+once members ascending u v l m e = go (cases_eq u v) (cases_lt u v)
+  where
+    go : (u ≡ v) ⊎ (u ≢ v) → (u < v) ⊎ (v ≤ u) → u ≡ v
+    go (inl is) q = is
+    go (inr other) (inl less) = absurd (omega (arith, e, ascending u v 0 less m))
+    go (inr other) (inr more) = absurd (omega (arith, e, ascending v u 0 (omega (arith, other, more)) l))
+
 -- ---- one level
 module _ (rows : List (List ℕ)) (table : IsTable rows) (level : ℕ) (old : List ℕ) (same : length rows ≡ length old) where
   abbrev price : ℕ → ℕ → ℕ
   price u v = get_or (get_or rows u []) v 0
 
-  pub settled_none : IsSettled rows level 0 old old
-  settled_none = record { same = refl; kept = λ v l. omega arith; either = λ v l. inl refl; over = λ u v l. absurd (omega (arith, l)) }
+  pub settled_none : (Is : ℕ → Type 0) → ((u : ℕ) → Is u → ⊥) → IsSettled rows level Is old old
+  settled_none Is none = record { same = refl; kept = λ v l. omega arith; either = λ v l. inl refl; over = λ u v is. absurd (none u is) }
 
-  module _ (n : ℕ) (mid : List ℕ) (w : IsSettled rows level n old mid) where
+  module _ (Is More : ℕ → Type 0) (n : ℕ) (one : (u : ℕ) → More u → Is u ⊎ (u ≡ n)) (mid : List ℕ) (w : IsSettled rows level Is old mid) where
     -- what costs so much has done so before
     still : (u : ℕ) → u < length old → get_or mid u 0 ≡ level → get_or old u 0 ≡ level
     still u l is = go (w.either u l)
@@ -40,20 +50,20 @@ module _ (rows : List (List ℕ)) (table : IsTable rows) (level : ℕ) (old : Li
         go (inr (t, inside, at, over)) =
             absurd (omega (arith, is, over, w.kept u l, table.some t u (omega (arith, inside, same)) (omega (arith, l, same))))
 
-    pub settled_same : get_or mid n 0 ≢ level → IsSettled rows level (n + 1) old mid
-    settled_same other = record { same = w.same; kept = w.kept; either = w.either; over = λ u v l m k is. go u v l m k is (cases_eq u n) }
+    pub settled_same : get_or mid n 0 ≢ level → IsSettled rows level More old mid
+    settled_same other = record { same = w.same; kept = w.kept; either = w.either; over = λ u v more m k is. go u v m k is (one u more) }
       where
-        go : (u v : ℕ) → u < n + 1 → u < length old → v < length old → get_or old u 0 ≡ level → (u ≡ n) ⊎ (u ≢ n) → get_or mid v 0 ≤ level + price u v
-        go u v l m k is (inr apart) = w.over u v (omega (arith, l, apart)) m k is
-        go u v l m k is (inl here) = absurd (other (subst (λ (z : ℕ). get_or mid z 0 ≡ level) here (yet u m is)))
+        go : (u v : ℕ) → u < length old → v < length old → get_or old u 0 ≡ level → Is u ⊎ (u ≡ n) → get_or mid v 0 ≤ level + price u v
+        go u v m k is (inl before) = w.over u v before m k is
+        go u v m k is (inr here) = absurd (other (subst (λ (z : ℕ). get_or mid z 0 ≡ level) here (yet u m is)))
 
     pub settled_more : n < length old → get_or mid n 0 ≡ level → (new : List ℕ) → length new ≡ length mid
-        → ((v : ℕ) → v < length mid → get_or new v 0 ≡ min (get_or mid v 0) (level + price n v)) → IsSettled rows level (n + 1) old new
+        → ((v : ℕ) → v < length mid → get_or new v 0 ≡ min (get_or mid v 0) (level + price n v)) → IsSettled rows level More old new
     settled_more inside is new alike each = record {
       same = alike ∙ w.same;
       kept = λ v l. omega (arith, w.kept v l, at v l);
       either = λ v l. either v l (cases_lt (level + price n v) (get_or mid v 0)) (w.either v l);
-      over = λ u v l m k here. over u v l m k here (cases_eq u n);
+      over = λ u v more m k here. over u v m k here (one u more);
     }
       where
         at : (v : ℕ) → v < length old → get_or new v 0 ≡ min (get_or mid v 0) (level + price n v)
@@ -66,9 +76,9 @@ module _ (rows : List (List ℕ)) (table : IsTable rows) (level : ℕ) (old : Li
         either v l (inr stays) (inl before) = inl (omega (arith, at v l, stays, before))
         either v l (inr stays) (inr (t, m, here, over)) = inr (t, m, here, omega (arith, at v l, stays, over))
 
-        over : (u v : ℕ) → u < n + 1 → u < length old → v < length old → get_or old u 0 ≡ level → (u ≡ n) ⊎ (u ≢ n) → get_or new v 0 ≤ level + price u v
-        over u v l m k here (inl last) = subst (λ (z : ℕ). get_or new v 0 ≤ level + price z v) (sym last) (omega (arith, at v k))
-        over u v l m k here (inr apart) = omega (arith, at v k, w.over u v (omega (arith, l, apart)) m k here)
+        over : (u v : ℕ) → u < length old → v < length old → get_or old u 0 ≡ level → Is u ⊎ (u ≡ n) → get_or new v 0 ≤ level + price u v
+        over u v m k here (inr last) = subst (λ (z : ℕ). get_or new v 0 ≤ level + price z v) (sym last) (omega (arith, at v k))
+        over u v m k here (inl before) = omega (arith, at v k, w.over u v before m k here)
 
 -- ---- level by level
 module _ (j : Judged) (members : List ℕ) (most : ℕ) (rows : List (List ℕ)) (are : ArePriceRows j members most (length members) rows) where
@@ -110,9 +120,9 @@ module _ (j : Judged) (members : List ℕ) (most : ℕ) (rows : List (List ℕ))
               omega (arith, cheap, one_cost one),
             )
 
-    pub reached_more : (level : ℕ) (old new : List ℕ) → level < NONE → IsReached j members rows s level old → IsSettled rows level (length rows) old new
-        → IsReached j members rows s (level + 1) new
-    reached_more level old new few w settled = record {
+    pub reached_more : (level : ℕ) (Is : ℕ → Type 0) (old new : List ℕ) → level < NONE → ((u : ℕ) → u < length old → get_or old u 0 ≡ level → Is u)
+        → IsReached j members rows s level old → IsSettled rows level Is old new → IsReached j members rows s (level + 1) new
+    reached_more level Is old new few all w settled = record {
       same = settled.same ∙ w.same;
       sound = λ v l low. sound v l low (settled.either v (here v l));
       first = λ v l. omega (arith, w.first v l, settled.kept v (here v l));
@@ -143,37 +153,29 @@ module _ (j : Judged) (members : List ℕ) (most : ℕ) (rows : List (List ℕ))
             → get_or new v 0 ≤ get_or new u 0 + get_or (get_or rows u []) v 0
         over u v l m low q (inr (t, within, at, way)) = absurd (omega (arith, low, way, (row_at t (omega (arith, within, w.same))).some u l))
         over u v l m low (inl now) (inl stays) =
-            omega (arith, stays, now, settled.over u v (omega (arith, l, all_rows)) (here u l) (here v m) now)
+            omega (arith, stays, now, settled.over u v (all u (here u l) now) (here u l) (here v m) now)
         over u v l m low (inr other) (inl stays) =
             omega (arith, stays, w.over u v l m (omega (arith, low, stays, other)), settled.kept v (here v m))
 
-    -- a level that nothing costs is passed over
-    pub reached_on : (level next : ℕ) (costs : List ℕ) → ((v : ℕ) → v < length costs → level < get_or costs v 0 → next ≤ get_or costs v 0)
-        → IsReached j members rows s (level + 1) costs → IsReached j members rows s next costs
+    -- where nothing costs more, up to a limit, all is settled up to there
+    pub reached_on : (level next : ℕ) (costs : List ℕ) → ((v : ℕ) → v < length costs → level ≤ get_or costs v 0 → next ≤ get_or costs v 0)
+        → IsReached j members rows s level costs → IsReached j members rows s next costs
     reached_on level next costs above w = record {
       same = w.same;
       sound = w.sound;
       first = w.first;
-      over = λ u v l m low. w.over u v l m (below u l low (cases_lt level (get_or costs u 0)));
+      over = λ u v l m low. w.over u v l m (below u l low (cases_lt (get_or costs u 0) level));
     }
       where
-        below : (u : ℕ) → u < length members → get_or costs u 0 < next → (level < get_or costs u 0) ⊎ (get_or costs u 0 ≤ level) → get_or costs u 0 < level + 1
-        below u l low (inl more) = absurd (omega (arith, low, above u (omega (arith, l, w.same)) more))
-        below u l low (inr less) = omega (arith, less)
+        below : (u : ℕ) → u < length members → get_or costs u 0 < next → (get_or costs u 0 < level) ⊎ (level ≤ get_or costs u 0) → get_or costs u 0 < level
+        below u l low (inl less) = less
+        below u l low (inr more) = absurd (omega (arith, low, above u (omega (arith, l, w.same)) more))
 
-    module _ (ascending : AllPairs (λ u v. u < v) members) (level : ℕ) (costs : List ℕ) (far : most ≤ level) (w : IsReached j members rows s level costs) where
-      once : (u v : ℕ) → u < length members → v < length members → get_or members u 0 ≡ get_or members v 0 → u ≡ v
-      once u v l m e = go (cases_eq u v) (cases_lt u v)
-        where
-          go : (u ≡ v) ⊎ (u ≢ v) → (u < v) ⊎ (v ≤ u) → u ≡ v
-          go (inl is) q = is
-          go (inr other) (inl less) = absurd (omega (arith, e, ascending u v 0 less m))
-          go (inr other) (inr more) = absurd (omega (arith, e, ascending v u 0 (omega (arith, other, more)) l))
-
+    module _ (ascending : AllPairs (λ u v. u < v) members) (level : ℕ) (costs : List ℕ) (far : most ≤ level + 1) (w : IsReached j members rows s level costs) where
       -- what leads on to a member costs no more than was found
       onward : (t u : ℕ) (links : List Link) → t < length members → u < length members → LinksLead j (get_or members u 0) (get_or members t 0) links
           → All (IsAmong members) links → get_or costs u 0 + cost links < most → get_or costs t 0 ≤ get_or costs u 0 + cost links
-      onward t u [] m l lead listed few = subst (λ (z : ℕ). get_or costs z 0 ≤ get_or costs u 0 + cost []) (once u t l m lead) (omega arith)
+      onward t u [] m l lead listed few = subst (λ (z : ℕ). get_or costs z 0 ≤ get_or costs u 0 + cost []) (once members ascending u t l m lead) (omega arith)
       onward t u (one ∷ links) m l (from, is, rest) listed few =
           go (λ v within lead still. onward t v links m within lead (All-tail (IsAmong members) one links listed) still)
           (All-head (IsAmong members) one links listed).1

@@ -82,71 +82,87 @@ pub left_none : (row : List ℕ) (column : ℕ) (stretches : List Stretch) (k le
 left_none row column stretches k left past w =
     let few : left < length (prices_in []) = subst (λ (z : List Stretch). left < length (prices_in z)) (drop_all k stretches past) w.within in omega (arith, few)
 
+-- ---- where a stretch stands in a row
+pub record IsPlaced (row : List ℕ) (stretches : List Stretch) (k : ℕ) (from : ℕ) : Type 0 where
+  pub ends : from + length (prices_in (drop k stretches)) ≡ length row
+  pub at : (i : ℕ) → get_or (prices_in (drop k stretches)) i 0 ≡ get_or row (from + i) 0
+
+pub placed_none : (row : List ℕ) (stretches : List Stretch) → prices_in stretches ≡ row → IsPlaced row stretches 0 0
+placed_none row stretches is = record {
+  ends = omega (arith, ap length is);
+  at = λ i. ap (λ (z : List ℕ). get_or z i 0) is ∙ ap (λ (n : ℕ). get_or row n 0) (front i);
+}
+  where
+    front : (i : ℕ) → i ≡ 0 + i
+    front i = omega arith
+
+module _ (row : List ℕ) (stretches : List Stretch) (k from : ℕ) (inside : k < length stretches) (w : IsPlaced row stretches k from) where
+  abbrev columns : ℕ
+  columns = (get_or stretches k none).columns
+
+  pub room : from + columns ≤ length row
+  room = omega (arith, w.ends, long stretches k inside)
+
+  pub placed_more : IsPlaced row stretches (k + 1) (from + columns)
+  placed_more = record {
+    ends = omega (arith, w.ends, long stretches k inside);
+    at = λ i. sym (later_at i) ∙ (w.at (columns + i) ∙ ap (λ (n : ℕ). get_or row n 0) (beyond i));
+  }
+    where
+      beyond : (i : ℕ) → from + (columns + i) ≡ from + columns + i
+      beyond i = omega arith
+
+      back : (i : ℕ) → columns + i - columns ≡ i
+      back i = omega arith
+
+      later_at : (i : ℕ) → get_or (prices_in (drop k stretches)) (columns + i) 0 ≡ get_or (prices_in (drop (k + 1) stretches)) i 0
+      later_at i = in_later stretches k inside (columns + i) (omega arith) ∙ ap (λ (n : ℕ). get_or (prices_in (drop (k + 1) stretches)) n 0) (back i)
+
+  pub price_here : (v : ℕ) → from ≤ v → v < from + columns → (get_or stretches k none).price ≡ get_or row v 0
+  price_here v here l =
+      sym (in_this stretches k inside (v - from) (omega (arith, here, l))) ∙ (w.at (v - from) ∙ ap (λ (n : ℕ). get_or row n 0) there)
+    where
+      there : from + (v - from) ≡ v
+      there = omega (arith, here)
+
+pub placed_all : (row : List ℕ) (stretches : List Stretch) (k from : ℕ) → length stretches ≤ k → IsPlaced row stretches k from → from ≡ length row
+placed_all row stretches k from past w = omega (arith, w.ends, ap (λ (z : List Stretch). length (prices_in z)) (drop_all k stretches past))
+
 -- ---- going on by a row
 pub record IsRelaxed (row : List ℕ) (costs : List ℕ) (level : ℕ) (stretches : List Stretch) (k : ℕ) (from : ℕ) (new : List ℕ) : Type 0 where
   pub same : length new ≡ length costs
-  pub placed : from + length (prices_in (drop k stretches)) ≡ length costs
-  pub at : (i : ℕ) → get_or (prices_in (drop k stretches)) i 0 ≡ get_or row (from + i) 0
+  pub placed : IsPlaced row stretches k from
   pub each : (v : ℕ) → v < from → get_or new v 0 ≡ min (get_or costs v 0) (level + get_or row v 0)
   pub rest : (v : ℕ) → from ≤ v → get_or new v 0 ≡ get_or costs v 0
 
 module _ (row costs : List ℕ) (level : ℕ) (stretches : List Stretch) where
-  pub relaxed_none : prices_in stretches ≡ row → length row ≡ length costs → IsRelaxed row costs level stretches 0 0 costs
-  relaxed_none is long = record {
+  pub relaxed_none : prices_in stretches ≡ row → IsRelaxed row costs level stretches 0 0 costs
+  relaxed_none is = record {
     same = refl;
-    placed = omega (arith, ap length is, long);
-    at = λ i. ap (λ (z : List ℕ). get_or z i 0) is ∙ ap (λ (n : ℕ). get_or row n 0) (front i);
+    placed = placed_none row stretches is;
     each = λ v l. absurd (omega (arith, l));
     rest = λ v l. refl;
   }
-    where
-      front : (i : ℕ) → i ≡ 0 + i
-      front i = omega arith
 
   module _ (k from : ℕ) (mid : List ℕ) (inside : k < length stretches) (w : IsRelaxed row costs level stretches k from mid) where
-    abbrev columns : ℕ
-    columns = (get_or stretches k none).columns
-
-    pub room : from + columns ≤ length costs
-    room = omega (arith, w.placed, long stretches k inside)
+    abbrev more : ℕ
+    more = (get_or stretches k none).columns
 
     pub relaxed_more : (new : List ℕ) → length new ≡ length mid
-        → ((v : ℕ) → from ≤ v → v < from + columns → get_or new v 0 ≡ min (get_or mid v 0) (level + (get_or stretches k none).price))
-        → ((v : ℕ) → (v < from) ⊎ (from + columns ≤ v) → get_or new v 0 ≡ get_or mid v 0)
-        → IsRelaxed row costs level stretches (k + 1) (from + columns) new
+        → ((v : ℕ) → from ≤ v → v < from + more → get_or new v 0 ≡ min (get_or mid v 0) (level + (get_or stretches k none).price))
+        → ((v : ℕ) → (v < from) ⊎ (from + more ≤ v) → get_or new v 0 ≡ get_or mid v 0)
+        → IsRelaxed row costs level stretches (k + 1) (from + more) new
     relaxed_more new alike lowered stays = record {
       same = alike ∙ w.same;
-      placed = omega (arith, w.placed, long stretches k inside);
-      at = λ i. sym (later_at i) ∙ (w.at (columns + i) ∙ ap (λ (n : ℕ). get_or row n 0) (beyond i));
+      placed = placed_more row stretches k from inside w.placed;
       each = λ v l. each v l (cases_lt v from);
       rest = λ v l. stays v (inr l) ∙ w.rest v (omega (arith, l));
     }
       where
-        beyond : (i : ℕ) → from + (columns + i) ≡ from + columns + i
-        beyond i = omega arith
-
-        back : (i : ℕ) → columns + i - columns ≡ i
-        back i = omega arith
-
-        later_at : (i : ℕ) → get_or (prices_in (drop k stretches)) (columns + i) 0 ≡ get_or (prices_in (drop (k + 1) stretches)) i 0
-        later_at i =
-            in_later stretches k inside (columns + i) (omega arith) ∙ ap (λ (n : ℕ). get_or (prices_in (drop (k + 1) stretches)) n 0) (back i)
-
-        each : (v : ℕ) → v < from + columns → (v < from) ⊎ (from ≤ v) → get_or new v 0 ≡ min (get_or costs v 0) (level + get_or row v 0)
+        each : (v : ℕ) → v < from + more → (v < from) ⊎ (from ≤ v) → get_or new v 0 ≡ min (get_or costs v 0) (level + get_or row v 0)
         each v l (inl before) = stays v (inl before) ∙ w.each v before
-        each v l (inr here) = omega (arith, lowered v here l, w.rest v here, price)
-          where
-            there : from + (v - from) ≡ v
-            there = omega (arith, here)
+        each v l (inr here) = omega (arith, lowered v here l, w.rest v here, price_here row stretches k from inside w.placed v here l)
 
-            price : (get_or stretches k none).price ≡ get_or row v 0
-            price =
-                sym (in_this stretches k inside (v - from) (omega (arith, here, l)))
-                ∙ (w.at (v - from) ∙ ap (λ (n : ℕ). get_or row n 0) there)
-
-  pub relaxed_all : (k from : ℕ) (new : List ℕ) → length stretches ≤ k → IsRelaxed row costs level stretches k from new
+  pub relaxed_all : (k from : ℕ) (new : List ℕ) → length stretches ≤ k → length row ≡ length costs → IsRelaxed row costs level stretches k from new
       → (v : ℕ) → v < length costs → get_or new v 0 ≡ min (get_or costs v 0) (level + get_or row v 0)
-  relaxed_all k from new past w v l = w.each v (omega (arith, l, w.placed, empty))
-    where
-      empty : length (prices_in (drop k stretches)) ≡ 0
-      empty = ap (λ (z : List Stretch). length (prices_in z)) (drop_all k stretches past)
+  relaxed_all k from new past same w v l = w.each v (omega (arith, l, same, placed_all row stretches k from past w.placed))

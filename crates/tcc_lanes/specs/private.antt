@@ -5,6 +5,7 @@ pub mod Walks
 pub mod IntoInit
 pub mod Stretches
 pub mod Pricing
+pub mod Buckets
 pub mod Tiles
 pub mod Closings
 pub mod Passes

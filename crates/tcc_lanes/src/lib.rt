@@ -3,6 +3,7 @@
 #![tactic(auto)]
 
 mod among;
+mod buckets;
 mod circling;
 mod closings;
 mod frontier;

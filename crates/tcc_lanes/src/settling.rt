@@ -1,42 +1,41 @@
-//! The cheapest way back to a member, by the prices of links (Dial, CACM 12(11), 1969): costs are settled level by level, and all of
-//! one level are gone on from together. What costs less than a level never changes again, and a level that nothing costs is passed
-//! over. For M members and L levels that takes L * M steps, and as many as the stretches of at most M rows.
-ghost use Rattle.std.specs.Prelude.{◌≡◌, ◌≤◌, ◌<◌, ◌↔◌, ℕ, List, length, slice_index, AllPairs, IfOk, IsTrue};
+//! The cheapest way back to a member, by the prices of links (Dial, CACM 12(11), 1969): costs are settled level by level, and all that
+//! cost one level are gone on from together. What costs less than a level never changes again. For M members that takes M steps, as many
+//! as the columns with a price of the rows of those that are come to, and one for each level that is met.
+ghost use Rattle.std.specs.Prelude.{◌≡◌, ◌≤◌, ◌<◌, ◌+◌, ◌↔◌, ℕ, List, length, slice_index, All, AllPairs, Contains, IfOk, IsTrue, OnOk};
 ghost use Rattle.tcc_graph.specs.Levels.{Judged};
 ghost use Rattle.tcc_lanes.specs.declared.pricing.TheConstants.{NONE};
+ghost use Rattle.tcc_lanes.specs.private.Buckets.{AreQueuedOn};
 ghost use Rattle.tcc_lanes.specs.private.Pricing.{ArePriceRows, HasReturn, IsAttained, IsReached, IsSettled, IsTable};
 
+use crate::buckets::{is_past, take};
 use crate::pricing::NONE;
 use crate::stretches::PriceRow;
 use std::alloc::Global;
+use tcc_bits::Row;
 use tcc_txn::NoMemory;
 
-/// The least cost above a level; `NONE` where there is none.
-fn next_level(costs: &[u32], level: u32) -> u32
-    requires { level < NONE }
-    ensures above { level < result }
-    ensures least { (v : ℕ) → v < length costs.now → level < slice_index costs.now v → result ≤ slice_index costs.now v }
-{
-    let mut least = NONE;
-    for cost in costs {
-        if level < *cost {
-            least = least.min(*cost);
-        }
-    }
-    least
-}
-
-/// Goes on from each member that costs so much.
-fn settle(costs: &mut [u32], rows: &[PriceRow], level: u32)
+/// Goes on from those of these members that cost so much.
+fn settle(
+    alloc: Global,
+    costs: &mut [u32],
+    buckets: &mut Vec<Row<usize>>,
+    rows: &[PriceRow],
+    level: u32,
+    here: &[usize],
+) -> Result<(), NoMemory>
     requires table { IsTable rows.now }
     requires same { length rows.now ≡ length costs.old }
-    ensures { IsSettled rows.now level (length rows.now) costs.old costs.new }
+    requires inside { All (λ u. u < length rows.now) here.now }
+    ensures same { length costs.new ≡ length costs.old }
+    ensures settled { OnOk result (IsSettled rows.now level (Contains here.now) costs.old costs.new) }
+    ensures queued { OnOk result (AreQueuedOn costs.old buckets.old.items costs.new buckets.new.items) }
 {
-    for (member, row) in rows.iter().enumerate() {
-        if costs[member] == level {
-            row.relax(costs, level);
+    for member in here {
+        if costs[*member] == level {
+            rows[*member].relax(alloc, costs, buckets, level)?;
         }
     }
+    Ok(())
 }
 
 /// What it costs to come to each member from one of them, as far as that is less than `most`.
@@ -50,15 +49,26 @@ pub(crate) fn costs_from(
     requires start { start < length rows.now }
     ensures same { IfOk result (λ costs. length costs.items ≡ length rows.now) }
     ensures reached { IfOk result (λ costs. (j : Judged) (members : List ℕ) → ArePriceRows j members most (length members) rows.now
-        → (level : ℕ) × (most ≤ level) × IsReached j members rows.now start level costs.items) }
+        → (level : ℕ) × (most ≤ level + 1) × IsReached j members rows.now start level costs.items) }
     ensures attained { IfOk result (λ costs. (v : ℕ) → v < length rows.now → IsAttained rows.now start costs.items v) }
 {
     let mut costs = vec![in alloc; NONE; rows.len()]?;
-    rows[start].relax(&mut costs, 0);
-    let mut level = next_level(&costs, 0);
-    while level < most {
-        settle(&mut costs, rows, level);
-        level = next_level(&costs, level);
+    let mut buckets = Vec::new(alloc);
+    rows[start].relax(alloc, &mut costs, &mut buckets, 0)?;
+    // From the last level before the limit nothing leads on below it.
+    for level in 1..most.saturating_sub(1) {
+        if is_past(&buckets, level) {
+            return Ok(costs);
+        }
+        let here = take(alloc, &mut buckets, level);
+        settle(
+            alloc,
+            &mut costs,
+            &mut buckets,
+            rows,
+            level,
+            here.as_slice(),
+        )?;
     }
     Ok(costs)
 }

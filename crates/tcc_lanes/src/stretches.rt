@@ -1,10 +1,13 @@
 //! Run-length encoding of what links from one member cost: columns beside one another with the same price are one stretch. Members of
 //! one session stand beside one another, and mostly cost the same. A row of S stretches takes 8 S bytes, and S steps to go through.
-ghost use Rattle.std.specs.Prelude.{◌≡◌, ◌≤◌, ◌<◌, ◌+◌, ◌^◌, ◌++◌, ◌∷◌, [], ◌⊎◌, ℕ, length, slice_index, min, OnOk};
+ghost use Rattle.std.specs.Prelude.{◌≡◌, ◌≢◌, ◌≤◌, ◌<◌, ◌+◌, ◌^◌, ◌++◌, ◌∷◌, [], ◌⊎◌, ℕ, length, slice_index, min, OnOk};
+ghost use Rattle.tcc_lanes.specs.private.Buckets.{AreQueuedOn};
 
+use crate::buckets::put;
 use crate::pricing::NONE;
 use std::alloc::Global;
 use std::marker::Model;
+use tcc_bits::Row;
 use tcc_txn::NoMemory;
 
 /// Columns beside one another with the same price.
@@ -31,21 +34,55 @@ impl Model for PriceRow {
     ghost view = { λ r. prices_in r.stretches.items };
 }
 
+/// Lowers what it costs to come to a member to a level and a price together, if that was dearer, and puts it into the bucket of the new
+/// cost.
+fn lower_at(
+    alloc: Global,
+    costs: &mut [u32],
+    buckets: &mut Vec<Row<usize>>,
+    member: usize,
+    level: u32,
+    price: u32,
+) -> Result<(), NoMemory>
+    requires inside { member < length costs.old }
+    ensures same { length costs.new ≡ length costs.old }
+    ensures here { OnOk result (slice_index costs.new member ≡ min (slice_index costs.old member) (level + price)) }
+    ensures rest { OnOk result ((v : ℕ) → v ≢ member → slice_index costs.new v ≡ slice_index costs.old v) }
+    ensures queued { OnOk result (AreQueuedOn costs.old buckets.old.items costs.new buckets.new.items) }
+{
+    let cost = level.saturating_add(price);
+    if costs[member] <= cost {
+        return Ok(());
+    }
+    costs[member] = cost;
+    put(alloc, buckets, cost, member)?;
+    Ok(())
+}
+
 /// Lowers the costs of some columns to a level and a price together.
-fn lower_columns(costs: &mut [u32], from: usize, end: usize, level: u32, price: u32)
+fn lower_columns(
+    alloc: Global,
+    costs: &mut [u32],
+    buckets: &mut Vec<Row<usize>>,
+    from: usize,
+    end: usize,
+    level: u32,
+    price: u32,
+) -> Result<(), NoMemory>
     requires order { from ≤ end }
     requires end { end ≤ length costs.old }
     ensures same { length costs.new ≡ length costs.old }
-    ensures each { (v : ℕ) → from ≤ v → v < end → slice_index costs.new v ≡ min (slice_index costs.old v) (level + price) }
-    ensures rest { (v : ℕ) → (v < from) ⊎ (end ≤ v) → slice_index costs.new v ≡ slice_index costs.old v }
+    ensures each { OnOk result ((v : ℕ) → from ≤ v → v < end → slice_index costs.new v ≡ min (slice_index costs.old v) (level + price)) }
+    ensures rest { OnOk result ((v : ℕ) → (v < from) ⊎ (end ≤ v) → slice_index costs.new v ≡ slice_index costs.old v) }
+    ensures queued { OnOk result (AreQueuedOn costs.old buckets.old.items costs.new buckets.new.items) }
 {
     if price == NONE {
-        return;
+        return Ok(());
     }
-    let cost = level.saturating_add(price);
     for v in from..end {
-        costs[v] = costs[v].min(cost);
+        lower_at(alloc, costs, buckets, v, level, price)?;
     }
+    Ok(())
 }
 
 impl PriceRow {
@@ -87,18 +124,27 @@ impl PriceRow {
         unreachable!()
     }
 
-    /// Lowers what it costs to come to each member, by going on from this one where that costs a level.
-    pub(crate) fn relax(&self, costs: &mut [u32], level: u32)
+    /// Lowers what it costs to come to each member, by going on from this one where that costs a level; those that are lowered are put
+    /// into the buckets of their costs.
+    pub(crate) fn relax(
+        &self,
+        alloc: Global,
+        costs: &mut [u32],
+        buckets: &mut Vec<Row<usize>>,
+        level: u32,
+    ) -> Result<(), NoMemory>
         requires { length self.now ≡ length costs.old }
         ensures same { length costs.new ≡ length costs.old }
-        ensures each { (v : ℕ) → v < length costs.old
-            → slice_index costs.new v ≡ min (slice_index costs.old v) (level + slice_index self.now v) }
+        ensures each { OnOk result ((v : ℕ) → v < length costs.old
+            → slice_index costs.new v ≡ min (slice_index costs.old v) (level + slice_index self.now v)) }
+        ensures queued { OnOk result (AreQueuedOn costs.old buckets.old.items costs.new buckets.new.items) }
     {
         let mut from = 0;
         for stretch in &self.stretches {
             let end = from + stretch.columns as usize;
-            lower_columns(costs, from, end, level, stretch.price);
+            lower_columns(alloc, costs, buckets, from, end, level, stretch.price)?;
             from = end;
         }
+        Ok(())
     }
 }

@@ -4,9 +4,9 @@ ghost use Rattle.tcc_graph.specs.{declared.level.Level.Level, Routes.AreCycle, L
 ghost use Rattle.tcc_large.specs.{Decisions.IsDecision, private.Retracing.IsStuckAt, private.Retracing.judged_at};
 ghost use Rattle.tcc_order.specs.Placements.{IsPlacement};
 
-use crate::component_order::order_to_judge;
-use crate::cycle_search::found_cycle;
 use crate::decision::Decision;
+use crate::finder::component_order::order_to_judge;
+use crate::finder::cycle_search::found_cycle;
 use crate::predecessor_cycle::StuckOrder;
 use crate::simple_cycle::simple_cycle;
 use std::alloc::Global;

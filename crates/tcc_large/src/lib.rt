@@ -3,31 +3,17 @@
 //! That a cycle of four steps at most is a least one is proved by a look at each place.
 #![tactic(auto)]
 
-mod adjacency;
 mod answer;
-mod back_edges;
-mod breadth_first;
 mod cells;
-mod closings;
-mod component_order;
-mod components;
-mod cycle_links;
-mod cycle_search;
 mod deciding;
 mod decision;
 mod explaining;
-mod kahn;
+mod finder;
 pub mod laws;
-mod pairs;
 mod predecessor_cycle;
 mod reachability;
 mod reasons;
-mod reverse_search;
-mod session_prefixes;
-mod shortest_walks;
 mod simple_cycle;
-mod trimming;
-mod work;
 
 pub use answer::LargeAnswer;
 pub use deciding::decide;

@@ -7,7 +7,7 @@ use Rattle.tcc_answer.specs.Json.{answer_json, json_line}
 use Rattle.tcc_answer.specs.declared.answer.Answer.{Answer}
 use Rattle.tcc_print.specs.declared.halt.Halt.{Halt}
 use Rattle.tcc_print.specs.declared.halt.Halt.TheVariants.{NoMemory}
-use Rattle.tcc_check.specs.declared.judgement.Judgement.{Judgement}
+use Rattle.tcc_rules.specs.declared.judgement.Judgement.{Judgement}
 use Rattle.tcc_print.specs.declared.status.Status.{Status}
 use Rattle.tcc_print.specs.declared.status.Status.TheVariants.{Device, Memory}
 use Rattle.tcc_print.specs.Statuses.{code_of}

@@ -6,9 +6,9 @@ use Rattle.tcc_rows.specs.declared.fault.RowFaultKind.{RowFaultKind}
 use Rattle.tcc_answer.specs.declared.answer.Answer.{Answer}
 use Rattle.tcc_answer.specs.declared.answer.Answer.TheVariants as answer
 use Rattle.tcc_cert.specs.declared.fault.CertFaultKind.{CertFaultKind}
-use Rattle.tcc_check.specs.declared.verdict.Verdict.{Verdict}
-use Rattle.tcc_check.specs.declared.verdict.Verdict.TheVariants as verdict
-use Rattle.tcc_check.specs.declared.judgement.Judgement.{Judgement}
+use Rattle.tcc_rules.specs.declared.verdict.Verdict.{Verdict}
+use Rattle.tcc_rules.specs.declared.verdict.Verdict.TheVariants as verdict
+use Rattle.tcc_rules.specs.declared.judgement.Judgement.{Judgement}
 use Rattle.tcc_print.specs.declared.halt.Halt.{Halt}
 use Rattle.tcc_print.specs.declared.halt.Halt.TheVariants as halt
 use Rattle.tcc_print.specs.Kinds.{certificate_told, row_told}

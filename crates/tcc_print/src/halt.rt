@@ -4,9 +4,9 @@ ghost use Rattle.tcc_print.specs.{Halts.by_row, private.Halts.by_stream, private
 ghost use Rattle.tcc_print.specs.declared.halt.Halt.TheVariants as halt;
 
 use tcc_cert::CertFault;
-use tcc_check::StreamFault;
 use tcc_reads::{ReadFault, ResolveFault};
 use tcc_rows::{RowFault, RowFaultKind};
+use tcc_rules::StreamFault;
 use tcc_txn::NoMemory;
 
 /// Why there is no answer for a history, or no verdict on a certificate for it.

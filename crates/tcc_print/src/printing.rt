@@ -12,8 +12,8 @@ use std::alloc::Global;
 use std::io::Write;
 use tcc_answer::{Answer, WriteFault, write_json, write_text};
 use tcc_base::send;
-use tcc_check::Judgement;
 use tcc_reads::ReadFault;
+use tcc_rules::Judgement;
 use tcc_txn::NoMemory;
 
 /// A text that was made, if there was memory for it.

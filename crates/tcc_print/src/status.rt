@@ -6,8 +6,8 @@ use crate::halt::Halt;
 use crate::kinds::{certificate_told, row_told};
 use tcc_answer::Answer;
 use tcc_cert::CertFaultKind;
-use tcc_check::Verdict;
 use tcc_rows::RowFaultKind;
+use tcc_rules::Verdict;
 
 /// How a run ended; the process passes it on as its status. README and the man page have these words.
 #[derive(Clone, Copy, Debug, PartialEq, Eq)]

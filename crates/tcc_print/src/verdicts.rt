@@ -4,7 +4,7 @@ ghost use Rattle.tcc_print.specs.Texts.{accepted_text, rejected_text, verdict_te
 
 use std::alloc::Global;
 use tcc_answer::pieces::joined;
-use tcc_check::{Claim, Judgement, Verdict};
+use tcc_rules::{Claim, Judgement, Verdict};
 use tcc_txn::NoMemory;
 
 /// The line of a certificate that was accepted.

@@ -24,12 +24,12 @@ use Rattle.tcc_cert.specs.declared.fault.CertFault.{CertFault}
 use Rattle.tcc_cert.specs.declared.fault.CertFaultKind.{CertFaultKind}
 use Rattle.tcc_cert.specs.declared.fault.CertFaultKind.TheVariants as text_kind
 use Rattle.tcc_cert.specs.declared.large.LargeCertificate.{LargeCertificate}
-use Rattle.tcc_check.specs.Asked.{AllHold, IsVerdictOf}
+use Rattle.tcc_rules.specs.Asked.{AllHold, IsVerdictOf}
 use Rattle.tcc_check.specs.Streams as small
 use Rattle.tcc_check.specs.Verdicts.{IsTrueClaim}
-use Rattle.tcc_check.specs.declared.verdict.Rule.{Rule as SmallRule}
-use Rattle.tcc_check.specs.declared.verdict.Verdict.{Verdict}
-use Rattle.tcc_check.specs.declared.verdict.Verdict.TheVariants as verdict
+use Rattle.tcc_rules.specs.declared.verdict.Rule.{Rule as SmallRule}
+use Rattle.tcc_rules.specs.declared.verdict.Verdict.{Verdict}
+use Rattle.tcc_rules.specs.declared.verdict.Verdict.TheVariants as verdict
 use Rattle.tcc_check.proofs.Claims.{rejected_false}
 use Rattle.tcc_answer.specs.Claims.{certificate_of}
 use Rattle.tcc_answer.specs.declared.answer.Answer.{Answer}

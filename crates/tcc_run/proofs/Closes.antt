@@ -9,7 +9,7 @@ use Rattle.tcc_rows.specs.Items.{finished_in}
 use Rattle.tcc_cert.specs.Texts.{certificate_text}
 use Rattle.tcc_cert.specs.declared.certificate.Certificate.{Certificate}
 use Rattle.tcc_answer.specs.Claims.{certificate_of}
-use Rattle.tcc_check.specs.declared.judgement.Judgement.{Judgement}
+use Rattle.tcc_rules.specs.declared.judgement.Judgement.{Judgement}
 use Rattle.tcc_print.specs.declared.halt.Halt.{Halt}
 use Rattle.tcc_print.specs.declared.options.Options.{Options}
 use Rattle.tcc_verdict.specs.Checks.{IsCheck, MayBeCheck}

@@ -13,7 +13,7 @@ use Rattle.tcc_graph.specs.declared.level.Level.{Level}
 use Rattle.tcc_cert.specs.declared.large.LargeCertificate.{LargeCertificate}
 use Rattle.tcc_answer.specs.declared.answer.Answer.{Answer}
 use Rattle.tcc_explain.specs.Explained.{IsAnswerOfHistory}
-use Rattle.tcc_print.specs.Courses.{IsWholeCourse, Said, answer_said, faults_said, texts}
+use Rattle.tcc_print.specs.Courses.{IsWholeCourse, Said, faults_said, texts}
 use Rattle.tcc_print.specs.Printed.{answered}
 use Rattle.tcc_print.specs.Statuses.{answer_status}
 use Rattle.tcc_print.specs.declared.options.Options.{Options}

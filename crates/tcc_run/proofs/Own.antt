@@ -12,7 +12,7 @@ use Rattle.tcc_cert.specs.LargeTexts.{large_certificate_text}
 use Rattle.tcc_cert.specs.RunsTold.{order_claim_of}
 use Rattle.tcc_cert.specs.declared.large.LargeCertificate.{LargeCertificate}
 use Rattle.tcc_cert.specs.declared.large.Run.{Run}
-use Rattle.tcc_check.specs.Asked.{AllHold}
+use Rattle.tcc_rules.specs.Asked.{AllHold}
 use Rattle.tcc_judge.specs.Claims.{cycle_claim_of, links_claim_of, short_claim_of}
 use Rattle.tcc_judge.specs.Verdicts.{cycle_rules, order_rules, rules_of}
 use Rattle.tcc_print.specs.Courses.{Said}

@@ -4,8 +4,8 @@ use Rattle.tcc_rows.specs.declared.fault.RowFaultKind.TheVariants as row_kind
 use Rattle.tcc_cert.specs.declared.certificate.Certificate.{Certificate}
 use Rattle.tcc_cert.specs.declared.fault.CertFaultKind.TheVariants as text_kind
 use Rattle.tcc_check.specs.Streams.{claim_of}
-use Rattle.tcc_check.specs.declared.verdict.Verdict.TheVariants as verdict
-use Rattle.tcc_check.specs.declared.judgement.Judgement.{Judgement}
+use Rattle.tcc_rules.specs.declared.verdict.Verdict.TheVariants as verdict
+use Rattle.tcc_rules.specs.declared.judgement.Judgement.{Judgement}
 use Rattle.tcc_print.specs.declared.halt.Halt.{Halt}
 use Rattle.tcc_print.specs.declared.halt.Halt.TheVariants.{Row, Reads, Text, NoMemory}
 

@@ -9,7 +9,7 @@ use Rattle.tcc_graph.specs.Routes.{IsLeastCycle}
 use Rattle.tcc_graph.specs.declared.level.Level.{Level}
 use Rattle.tcc_cert.specs.declared.certificate.Certificate.{Certificate}
 use Rattle.tcc_check.specs.Verdicts.{IsVerdict, IsTrueClaim}
-use Rattle.tcc_check.specs.declared.verdict.Verdict.TheVariants.{Accepted}
+use Rattle.tcc_rules.specs.declared.verdict.Verdict.TheVariants.{Accepted}
 use Rattle.tcc_answer.specs.Claims.{certificate_of}
 use Rattle.tcc_answer.specs.declared.answer.Answer.{Answer}
 use Rattle.tcc_answer.specs.declared.answer.Answer.TheVariants as answer

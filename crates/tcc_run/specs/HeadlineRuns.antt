@@ -6,7 +6,7 @@ use Rattle.tcc_rows.specs.Answers as rows
 use Rattle.tcc_rows.specs.Items.{finished_in}
 use Rattle.tcc_reads.specs.Faults.{read_faults}
 use Rattle.tcc_cert.specs.Texts.{certificate_text}
-use Rattle.tcc_check.specs.declared.judgement.Judgement.{Judgement}
+use Rattle.tcc_rules.specs.declared.judgement.Judgement.{Judgement}
 use Rattle.tcc_answer.specs.Claims.{certificate_of}
 use Rattle.tcc_answer.specs.declared.answer.Answer.{Answer}
 use Rattle.tcc_explain.specs.Explained.{IsAnswerOfHistory}

@@ -7,7 +7,8 @@ ghost use Rattle.tcc_txn.specs.{Snapshots.Sessions, declared.memory.NoMemory.NoM
 ghost use Rattle.tcc_reads.specs.{Faults.read_faults, Sources.history};
 ghost use Rattle.tcc_graph.specs.{Levels.judged, declared.level.Level.Level};
 ghost use Rattle.tcc_cert.specs.{Texts.certificate_text, declared.certificate.Certificate.Certificate};
-ghost use Rattle.tcc_check.specs.{Verdicts.IsVerdict, declared.judgement.Judgement.Judgement, declared.verdict.Rule.Rule, declared.verdict.Verdict.Verdict, declared.verdict.Verdict.TheVariants.Accepted};
+ghost use Rattle.tcc_rules.specs.{declared.judgement.Judgement.Judgement, declared.verdict.Rule.Rule, declared.verdict.Verdict.Verdict, declared.verdict.Verdict.TheVariants.Accepted};
+ghost use Rattle.tcc_check.specs.Verdicts.{IsVerdict};
 ghost use Rattle.tcc_answer.specs.{Claims.certificate_of, declared.answer.Answer.Answer};
 ghost use Rattle.tcc_explain.specs.Explained.{IsAnswerOfSnapshot, IsAnswerOfHistory};
 ghost use Rattle.tcc_verdict.specs.Checks.{IsCheck, MayBeCheck};

@@ -31,7 +31,7 @@ pub(crate) enum Outcome {
 }
 
 /// The first answer for a snapshot at a level, or all its read faults, by the workers and the gate of a run.
-pub fn first_answer<T: Threads + Sync, G: Gate>(
+fn first_answer<T: Threads + Sync, G: Gate>(
     run: &RunContext<T, G>,
     snapshot: &Snapshot,
     level: Level,

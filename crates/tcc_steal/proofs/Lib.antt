@@ -5,3 +5,8 @@ pub mod Seats
 pub mod Settling
 pub mod Slots
 pub mod StartQueueLemmas
+pub mod Counting
+pub mod Sharing
+pub mod Keeping
+pub mod WorldSettling
+pub mod Machining

@@ -2,3 +2,5 @@
 pub mod Floors
 pub mod StartQueues
 pub mod Working
+pub mod Fitting
+pub mod Making

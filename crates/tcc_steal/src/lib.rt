@@ -1,7 +1,8 @@
 //! The search from every start by many workers at one bound: what they bring back settles the cost of a least cycle.
 //!
 //! Worker 0 pushes all starts to a deque, from which it and the other workers, its thieves, take one at a time. After all have
-//! ended, worker 0 takes in what they bring back, and searches each start that none came back with.
+//! ended, worker 0 takes in what they bring back, and searches each start that none came back with. Beside it stands the machine of all
+//! interleavings of such searches (`World`), and the law that each settles the same cost.
 #![tactic(auto)]
 
 mod bounded_search;
@@ -10,15 +11,22 @@ mod crew;
 mod deque;
 mod deque_rule;
 mod deque_view;
+mod desk;
+mod event;
 mod fork_join;
 mod found;
 mod gate;
+pub mod laws;
 mod merging;
 mod searched;
+mod stage;
 mod worker;
 mod worker_loop;
+mod world;
 
 pub use branch_and_bound::{search, search_with};
 pub use crew::{AllStart, Crew};
+pub use event::{Event, RunFault, StepFault};
 pub use found::Found;
 pub use gate::{Gate, OpenGate};
+pub use world::World;

@@ -32,7 +32,7 @@ readers_rise h a x = IsNonDecreasingBy-filter (λ n. n) (λ b. has_name (reads_f
 
 module _ (h : History) (numbered : IsBySession h.entries) where
   -- on from a later one of a session
-  on_from : (f g d : ℕ) → 0 < f → IsSessionPair h f g → IsSessionPair h g d → IsSessionPair h f d
+  pub on_from : (f g d : ℕ) → 0 < f → IsSessionPair h f g → IsSessionPair h g d → IsSessionPair h f d
   on_from f g d some p q =
       let low : f < g = session_rises h numbered f g p in
       let high : g < d = session_rises h numbered g d q in

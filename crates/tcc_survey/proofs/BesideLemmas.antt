@@ -82,6 +82,19 @@ module _ (s : Scan) where
 abbrev pub source_at : List (ℕ × ℕ) → ℕ → ℕ
 source_at items k = (get_or items k (0, 0)).1
 
+-- whom a transaction reads from is among the sources of its reads
+pub source_index : (h : History) (c : ℕ) (items : List (ℕ × ℕ)) → map (λ read. (key_at h read.0, read.1)) items ≡ (entry_at h c).reads
+    → (d : ℕ) (x : List ℕ) → IsReadsPair h d c x → (k : ℕ) × (k < length items) × (source_at items k ≡ d)
+source_index h c items value d x pair =
+    let w = from_map (λ (read : List ℕ × ℕ). read.1) (entry_at h c).reads d (reads_source h d c x pair.2) in
+    let v = from_map (λ (read : ℕ × ℕ). (key_at h read.0, read.1)) items w.0 (subst (λ (xs : List (List ℕ × ℕ)). Contains xs w.0) (sym value) w.1) in
+    go v.0 v.1 (ap (λ (p : List ℕ × ℕ). p.1) v.2 ∙ w.2)
+  where
+    go : (r : ℕ × ℕ) → Contains items r → r.1 ≡ d → (k : ℕ) × (k < length items) × (source_at items k ≡ d)
+    go r (k, l, e) same =
+        let here : ◌≡◌ {A = ℕ × ℕ} (get_or items k (0, 0)) r = get_or_default items k (0, 0) r l ∙ e in
+        (k, l, ap (λ (p : ℕ × ℕ). p.1) here ∙ same)
+
 -- the least so far
 pub record IsLeastBeside (s : Scan) (items : List (ℕ × ℕ)) (n : ℕ) (least : ℕ) : Type 0 where
   pub attained : (least ≡ 0) ⊎ IsHitOf s least
@@ -119,17 +132,6 @@ module _ (s : Scan) (items : List (ℕ × ℕ)) where
     abbrev h : History
     h = s.block.graph.now
 
-    source_index : (d : ℕ) (x : List ℕ) → IsReadsPair h d s.reader x → (k : ℕ) × (k < length items) × (source_at items k ≡ d)
-    source_index d x pair =
-        let w = from_map (λ (read : List ℕ × ℕ). read.1) (entry_at h s.reader).reads d (reads_source h d s.reader x pair.2) in
-        let v = from_map (λ (read : ℕ × ℕ). (key_at h read.0, read.1)) items w.0 (subst (λ (xs : List (List ℕ × ℕ)). Contains xs w.0) (sym value) w.1) in
-        go v.0 v.1 (ap (λ (p : List ℕ × ℕ). p.1) v.2 ∙ w.2)
-      where
-        go : (r : ℕ × ℕ) → Contains items r → r.1 ≡ d → (k : ℕ) × (k < length items) × (source_at items k ≡ d)
-        go r (k, l, e) same =
-            let here : ◌≡◌ {A = ℕ × ℕ} (get_or items k (0, 0)) r = get_or_default items k (0, 0) r l ∙ e in
-            (k, l, ap (λ (p : ℕ × ℕ). p.1) here ∙ same)
-
     known_pair : (d : ℕ) → IsKnown s.level h d s.reader → causal_pair h d s.reader ≡ true
     known_pair d known = subst (λ (l : Level). IsKnown l h d s.reader) level known
 
@@ -143,6 +145,6 @@ module _ (s : Scan) (items : List (ℕ × ℕ)) where
             = may.owned.each d hit.0 parts.from ∙ (parts.same hit.0 ∙ sym (may.owned.each s.reader parts.some parts.to)) in
             is.own d (hit, same)
         go d hit (inr (x, pair)) =
-            let w = source_index d x pair in
+            let w = source_index h s.reader items value d x pair in
             let there : IsHitOf s (source_at items w.0) = subst (IsHitOf s) (sym w.2) hit in
             subst (λ (z : ℕ). (0 < least) × (least ≤ z)) w.2 (is.sources w.0 (omega (arith, w.1, past)) there)

@@ -56,7 +56,7 @@ fits_reached h c x b name.WritesFollowReads closer (e, d, upto, (y, pair), (f, r
 fits_reached h c x b name.CausalChain closer fits = let no : 5 < 5 = closer in absurd (omega (arith, no))
 
 -- ---- the order of names
-later_trans : (n m o : Called) → IsNoLater n m → IsNoLater m o → IsNoLater n o
+pub later_trans : (n m o : Called) → IsNoLater n m → IsNoLater m o → IsNoLater n o
 later_trans n m o (inl low) (inl high) = inl (omega (arith, low, high))
 later_trans n m o (inl low) (inr w) = inl (omega (arith, low, w.0))
 later_trans n m o (inr v) (inl high) = inl (omega (arith, v.0, high))

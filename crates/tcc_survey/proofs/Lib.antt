@@ -15,3 +15,4 @@ pub mod CallingLemmas
 pub mod LaneLemmas
 pub mod NeededLemmas
 pub mod AmongLemmas
+pub mod ManyLemmas

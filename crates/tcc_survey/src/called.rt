@@ -14,7 +14,7 @@ pub(crate) struct Called {
 
 impl Called {
     /// Whether this comes before another one.
-    fn is_before(&self, other: &Called) -> bool
+    pub(crate) fn is_before(&self, other: &Called) -> bool
         ensures yes { result ≡ true → IsNoLater self.now other.now }
         ensures no { result ≡ false → IsNoLater other.now self.now }
     {

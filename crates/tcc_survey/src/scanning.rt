@@ -29,6 +29,18 @@ pub(crate) fn count_before(numbers: &[u32], bound: u32) -> usize
     numbers.partition_point(|number| *number < bound)
 }
 
+/// Whether these numbers, which rise, have this one.
+pub(crate) fn is_among(numbers: &[u32], b: u32) -> bool
+    requires { IsNonDecreasing numbers.now }
+    ensures { IsTrue result ↔ Contains numbers.now b }
+{
+    let index = count_before(numbers, b);
+    if index < numbers.len() {
+        return numbers[index] == b;
+    }
+    false
+}
+
 /// A look at the writers of a read's key in a block of sessions.
 #[derive(Clone, Copy)]
 struct Scan<'a> {
@@ -128,11 +140,7 @@ impl Scan<'_> {
         requires { MayHit self.now }
         ensures { IsTrue result ↔ Contains self.now.writers.now b }
     {
-        let index = count_before(self.writers, b);
-        if index < self.writers.len() {
-            return self.writers[index] == b;
-        }
-        false
+        is_among(self.writers, b)
     }
 
     /// Whether a transaction is one of the writers, lies between the rows and is known to the reader.

@@ -69,7 +69,7 @@ pub(crate) struct Knowledge<'a> {
 
 impl Knowledge<'_> {
     /// The last transaction of a session that the reader's session has read from, or 0.
-    fn latest(&self, session: u32) -> u32
+    pub(crate) fn latest(&self, session: u32) -> u32
         requires session { session < length self.now.marks.now }
         requires reader { self.now.reader < length self.now.owners.now }
         ensures { result ≡ latest_mark self.now.owners.now self.now.marks.now self.now.reader session }

@@ -4,9 +4,9 @@ use Rattle.tcc_cert.specs.declared.fault.CertFault.{CertFault}
 use Rattle.tcc_cert.specs.LargeReading.{is_large}
 use Rattle.tcc_cert.specs.Outcomes.{IsLargeReading, IsReading}
 use Rattle.tcc_check.specs.Streams.{IsStreamFault}
-use Rattle.tcc_check.specs.declared.stream_fault.StreamFault.{StreamFault}
-use Rattle.tcc_check.specs.declared.stream_fault.StreamFault.TheVariants.{Text, NoMemory}
-use Rattle.tcc_check.specs.private.Coming.{fault_of, is_want_of_memory}
+use Rattle.tcc_rules.specs.declared.stream_fault.StreamFault.{StreamFault}
+use Rattle.tcc_rules.specs.declared.stream_fault.StreamFault.TheVariants.{Text, NoMemory}
+use Rattle.tcc_rules.specs.private.Faults.{fault_of, is_want_of_memory}
 use Rattle.tcc_verdict.specs.LargeChecks.{IsTextFault}
 use Rattle.tcc_verdict.specs.private.LargeStages.{IsAnyStreamFault, IsLargeStreamFault}
 

@@ -5,12 +5,12 @@ use Rattle.tcc_txn.specs.Snapshots.{Sessions}
 use Rattle.tcc_reads.specs.Sources.{history}
 use Rattle.tcc_cert.specs.LargeReading.{is_large}
 use Rattle.tcc_cert.specs.declared.certificate.Certificate.{Certificate}
-use Rattle.tcc_check.specs.Asked.{IsVerdictOf}
+use Rattle.tcc_rules.specs.Asked.{IsVerdictOf}
 use Rattle.tcc_check.specs.Verdicts.{IsVerdict}
-use Rattle.tcc_check.specs.declared.stream_fault.StreamFault.{StreamFault}
-use Rattle.tcc_check.specs.declared.stream_fault.StreamFault.TheVariants.{Text, NoMemory}
-use Rattle.tcc_check.specs.declared.verdict.Rule.{Rule}
-use Rattle.tcc_check.specs.declared.verdict.Verdict.{Verdict}
+use Rattle.tcc_rules.specs.declared.stream_fault.StreamFault.{StreamFault}
+use Rattle.tcc_rules.specs.declared.stream_fault.StreamFault.TheVariants.{Text, NoMemory}
+use Rattle.tcc_rules.specs.declared.verdict.Rule.{Rule}
+use Rattle.tcc_rules.specs.declared.verdict.Verdict.{Verdict}
 use Rattle.tcc_judge.specs.Verdicts.{rules_of}
 use Rattle.tcc_print.specs.declared.halt.Halt.{Halt}
 use Rattle.tcc_print.specs.private.Halts.{by_stream}

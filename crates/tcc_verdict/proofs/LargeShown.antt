@@ -9,11 +9,11 @@ use Rattle.tcc_reads.specs.Sources.{history}
 use Rattle.tcc_cert.specs.Rules.{Certifies}
 use Rattle.tcc_cert.specs.declared.certificate.Certificate.{Certificate}
 use Rattle.tcc_cert.specs.declared.large.LargeCertificate.{LargeCertificate}
-use Rattle.tcc_check.specs.Asked.{AllHold, IsVerdictOf}
+use Rattle.tcc_rules.specs.Asked.{AllHold, IsVerdictOf}
 use Rattle.tcc_check.specs.Verdicts.{IsTrueClaim}
-use Rattle.tcc_check.specs.declared.verdict.Rule.{Rule}
-use Rattle.tcc_check.specs.declared.verdict.Verdict.{Verdict}
-use Rattle.tcc_check.specs.declared.verdict.Verdict.TheVariants as verdict
+use Rattle.tcc_rules.specs.declared.verdict.Rule.{Rule}
+use Rattle.tcc_rules.specs.declared.verdict.Verdict.{Verdict}
+use Rattle.tcc_rules.specs.declared.verdict.Verdict.TheVariants as verdict
 use Rattle.tcc_judge.specs.Verdicts.{rules_of}
 use Rattle.tcc_judge.specs.declared.verdict.Rule.{Rule as LargeRule}
 use Rattle.tcc_print.specs.Statuses.{code_of, verdict_status}

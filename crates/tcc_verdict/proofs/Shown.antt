@@ -14,9 +14,9 @@ use Rattle.tcc_cert.specs.declared.certificate.Certificate.{Certificate}
 use Rattle.tcc_cert.specs.declared.fault.CertFaultKind.{CertFaultKind}
 use Rattle.tcc_cert.specs.declared.fault.CertFaultKind.TheVariants as text_kind
 use Rattle.tcc_check.specs.Verdicts.{IsVerdict, IsTrueClaim}
-use Rattle.tcc_check.specs.declared.verdict.Rule.{Rule}
-use Rattle.tcc_check.specs.declared.verdict.Verdict.{Verdict}
-use Rattle.tcc_check.specs.declared.verdict.Verdict.TheVariants as verdict
+use Rattle.tcc_rules.specs.declared.verdict.Rule.{Rule}
+use Rattle.tcc_rules.specs.declared.verdict.Verdict.{Verdict}
+use Rattle.tcc_rules.specs.declared.verdict.Verdict.TheVariants as verdict
 use Rattle.tcc_print.specs.declared.halt.Halt.{Halt}
 use Rattle.tcc_print.specs.declared.halt.Halt.TheVariants.{Row, Reads, Text, NoMemory}
 use Rattle.tcc_print.specs.declared.status.Status.TheVariants as status

@@ -18,7 +18,7 @@ use Rattle.tcc_judge.proofs.Certified.{least_cycle, right_cycle}
 use Rattle.tcc_judge.proofs.Ordered.{accepted_order}
 use Rattle.tcc_verdict.specs.LargeChecks.{IsTrueLargeClaim}
 use Rattle.tcc_verdict.proofs.Owned.{owned}
-use Rattle.tcc_check.specs.Asked.{AllHold}
+use Rattle.tcc_rules.specs.Asked.{AllHold}
 
 -- a cycle, and a least one where that is claimed
 cycle_true : (h : History) (k : LinksClaim) (least : Option (List Run)) → IsRightCycle h k → AllHold (least_rules_of h k.level k.cost least)

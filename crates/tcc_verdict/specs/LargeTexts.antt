@@ -1,10 +1,10 @@
 -- What is printed of a certificate of any version, and how the run then ends.
 use Rattle.std.specs.Prelude.{ℕ, true, false, List, ◌++◌, Result, Ok, Err, codes, decimal}
-use Rattle.tcc_check.specs.declared.judgement.Claim.TheVariants as claim
+use Rattle.tcc_rules.specs.declared.judgement.Claim.TheVariants as claim
 use Rattle.tcc_judge.specs.Verdicts.{rule_number}
 use Rattle.tcc_judge.specs.declared.verdict.Rule.{Rule}
-use Rattle.tcc_check.specs.declared.verdict.Verdict.{Verdict}
-use Rattle.tcc_check.specs.declared.verdict.Verdict.TheVariants as verdict
+use Rattle.tcc_rules.specs.declared.verdict.Verdict.{Verdict}
+use Rattle.tcc_rules.specs.declared.verdict.Verdict.TheVariants as verdict
 use Rattle.tcc_print.specs.Statuses.{halt_status, verdict_status}
 use Rattle.tcc_print.specs.Texts.{accepted_text, halt_text, rejected_text, verdict_text}
 use Rattle.tcc_print.specs.declared.halt.Halt.{Halt}

@@ -8,13 +8,14 @@ use crate::{Checker, run_checker};
 use std::alloc::Global;
 use std::io::{Read, Write};
 use tcc_base::{Progress, Unwatched};
+use tcc_check::judge_stream;
 use tcc_check::laws::certified;
-use tcc_check::{Judgement, judge_stream};
 use tcc_graph::Graph;
 use tcc_print::Halt;
 use tcc_print::notes::note_reads;
 use tcc_print::printing::print_check;
 use tcc_reads::{ResolveFault, resolve};
+use tcc_rules::Judgement;
 use tcc_txn::{Bounds, SmallLimits, Snapshot, SnapshotWithin};
 
 /// What the resolver answered of a snapshot; of the first read faults it is noted which write each of them is about.

@@ -13,6 +13,7 @@ mod lines;
 mod linking;
 mod operations;
 mod places;
+mod probing;
 mod raising;
 mod tables;
 mod values;

@@ -6,6 +6,7 @@ ghost use Rattle.tcc_watch.specs.private.Links.{CanSettle, CanLink, CanLinkSessi
 
 use crate::at::At;
 use crate::places::Places;
+use crate::probing::probed;
 use crate::raising::raise;
 use std::alloc::Global;
 use tcc_bits::Row;
@@ -26,7 +27,7 @@ fn count_within(stands: &[At], numbers: &[u32], place: u32) -> usize
     let mut low = 0;
     let mut high = numbers.len();
     while low < high {
-        let middle = low + (high - low) / 2;
+        let middle = probed(low, high, numbers.len());
         if stands[numbers[middle] as usize].place <= place {
             low = middle + 1;
         } else {

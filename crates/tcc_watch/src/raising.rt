@@ -1,29 +1,17 @@
 //! One link more in rows that say what has to stand before what: the row of its end, and those of all behind that, go as far as the
-//! row of its start. In a session these are neighbours, which two binary searches find. Each looks at the last one first, since few
-//! sessions have come to what is behind a new link. For S sessions of N transactions that takes O(S log N) steps at most, and S for each
-//! row that is raised.
-ghost use Rattle.std.specs.Prelude.{◌≤◌, ◌<◌, OnOk};
+//! row of its start. In a session these are neighbours, which two galloping searches find, since what is behind a new link
+//! is near the end of each session. For S sessions of N transactions that takes O(S log N) steps at most, and S for each row that is
+//! raised.
+ghost use Rattle.std.specs.Prelude.{OnOk};
 ghost use Rattle.tcc_reads.specs.History.{History};
 ghost use Rattle.tcc_watch.specs.private.Rows.{AreRising, AreRaised, CanRaise, IsFirstWith, IsRaised};
 
 use crate::at::At;
 use crate::places::Places;
+use crate::probing::probed;
 use std::alloc::Global;
 use tcc_bits::Row;
 use tcc_txn::NoMemory;
-
-/// Which of some indices from `low` to below `high` is looked at next: of all `len` the last one, else the middle.
-fn probed(low: usize, high: usize, len: usize) -> usize
-    requires { low < high }
-    ensures from { low ≤ result }
-    ensures below { result < high }
-{
-    if low == 0 && high == len {
-        high - 1
-    } else {
-        low + (high - low) / 2
-    }
-}
 
 /// The first of these numbers whose row goes to a place, by its index; how many there are where none does.
 fn first_with(rows: &[Places], numbers: &[u32], at: At) -> usize

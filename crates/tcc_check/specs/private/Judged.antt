@@ -12,19 +12,19 @@ use Rattle.tcc_cert.specs.declared.part.CycleHead.{CycleHead}
 use Rattle.tcc_cert.specs.declared.part.Part.{Part}
 use Rattle.tcc_cert.specs.declared.part.Part.TheVariants as part
 use Rattle.tcc_cert.specs.declared.version.Version.{Version}
-use Rattle.tcc_check.specs.declared.judgement.Claim.TheVariants as claim
-use Rattle.tcc_check.specs.declared.judgement.Judgement.{Judgement}
+use Rattle.tcc_rules.specs.declared.judgement.Claim.TheVariants as claim
+use Rattle.tcc_rules.specs.declared.judgement.Judgement.{Judgement}
 use Rattle.tcc_check.specs.declared.near_rows.NearJudged.{NearJudged}
 use Rattle.tcc_check.specs.declared.near_rows.NearRows.{NearRows}
 use Rattle.tcc_check.specs.declared.adjacency.Pairs.{Pairs}
-use Rattle.tcc_check.specs.declared.verdict.Rule.{Rule}
-use Rattle.tcc_check.specs.declared.verdict.Rule.TheVariants.{Links, NearPairs, NearSteps, FarLinks, FarSteps, Returns}
-use Rattle.tcc_check.specs.declared.verdict.Verdict.{Verdict}
+use Rattle.tcc_rules.specs.declared.verdict.Rule.{Rule}
+use Rattle.tcc_rules.specs.declared.verdict.Rule.TheVariants.{Links, NearPairs, NearSteps, FarLinks, FarSteps, Returns}
+use Rattle.tcc_rules.specs.declared.verdict.Verdict.{Verdict}
 use Rattle.tcc_check.specs.private.Coming.{IsFarRight, IsNearFoundTo, near_verdict}
 use Rattle.tcc_check.specs.private.Pairs.{AreOrderly}
 use Rattle.tcc_check.specs.private.Runs.{AreRuns}
 use Rattle.tcc_check.specs.Verdicts.{bounds_rules, cycle_rules}
-use Rattle.tcc_check.specs.Asked.{Asked, IsVerdictOf, at_each, of_links}
+use Rattle.tcc_rules.specs.Asked.{Asked, IsVerdictOf, at_each, of_links}
 use Rattle.tcc_check.specs.private.WeightsFrom.{AreAllEnds, AreEndsTo, WeighsFrom}
 
 -- the rule on links

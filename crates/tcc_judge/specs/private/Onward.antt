@@ -11,7 +11,7 @@ use Rattle.tcc_least.specs.Shapes.{NoneBelow}
 use Rattle.tcc_lanes.specs.Among.{HasCheaperIntoInit, IsAmong}
 use Rattle.tcc_judge.specs.Orders.{BreaksPair}
 use Rattle.tcc_judge.specs.Spanned.{IsBounded}
-use Rattle.tcc_check.specs.Asked.{Asked, as_whole, at_each}
+use Rattle.tcc_rules.specs.Asked.{Asked, as_whole, at_each}
 use Rattle.tcc_judge.specs.declared.verdict.Rule.{Rule}
 use Rattle.tcc_judge.specs.declared.verdict.Rule.TheVariants.{Onward, Limits, Cheaper}
 

@@ -90,13 +90,14 @@ pub record IsTable (rows : List (List ℕ)) : Type 0 where
   pub some : (u v : ℕ) → u < length rows → v < length rows → 1 ≤ slice_index (slice_index_or rows u []) v
   pub high : (u v : ℕ) → u < length rows → v < length rows → slice_index (slice_index_or rows u []) v ≤ NONE
 
--- going on from those of the first that cost so much: no cost rises, each new one is of a way over one of them, and none of these is missing
-pub record IsSettled (rows : List (List ℕ)) (level : ℕ) (end : ℕ) (old : List ℕ) (new : List ℕ) : Type 0 where
+-- going on from those of some members that cost so much: no cost rises, each new one is of a way over one that does, and none of these is
+-- missing
+pub record IsSettled (rows : List (List ℕ)) (level : ℕ) (Is : ℕ → Type 0) (old : List ℕ) (new : List ℕ) : Type 0 where
   pub same : length new ≡ length old
   pub kept : (v : ℕ) → v < length old → slice_index new v ≤ slice_index old v
   pub either : (v : ℕ) → v < length old → (slice_index new v ≡ slice_index old v)
       ⊎ ((u : ℕ) × (u < length old) × (slice_index old u ≡ level) × (slice_index new v ≡ level + slice_index (slice_index_or rows u []) v))
-  pub over : (u v : ℕ) → u < end → u < length old → v < length old → slice_index old u ≡ level
+  pub over : (u v : ℕ) → Is u → u < length old → v < length old → slice_index old u ≡ level
       → slice_index new v ≤ level + slice_index (slice_index_or rows u []) v
 
 -- a cycle from a member, of links among the members, costs less than a limit

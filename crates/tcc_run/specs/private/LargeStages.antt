@@ -19,7 +19,7 @@ use Rattle.tcc_cert.specs.declared.large.Run.{Run}
 use Rattle.tcc_answer.specs.Claims.{certificate_of}
 use Rattle.tcc_answer.specs.declared.answer.Answer.{Answer}
 use Rattle.tcc_answer.specs.declared.answer.Answer.TheVariants as answer
-use Rattle.tcc_check.specs.Asked.{AllHold}
+use Rattle.tcc_rules.specs.Asked.{AllHold}
 use Rattle.tcc_explain.specs.Explained.{IsAnswerOfHistory}
 use Rattle.tcc_judge.specs.Claims.{links_claim_of}
 use Rattle.tcc_judge.specs.Verdicts.{cycle_rules}

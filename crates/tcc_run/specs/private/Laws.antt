@@ -13,10 +13,10 @@ use Rattle.tcc_cert.specs.LargeTexts.{HasLargeText, large_certificate_text}
 use Rattle.tcc_cert.specs.Rules.{Certifies}
 use Rattle.tcc_cert.specs.declared.certificate.Certificate.{Certificate}
 use Rattle.tcc_cert.specs.declared.large.LargeCertificate.{LargeCertificate}
-use Rattle.tcc_check.specs.Asked.{AllHold, IsVerdictOf}
+use Rattle.tcc_rules.specs.Asked.{AllHold, IsVerdictOf}
 use Rattle.tcc_check.specs.Verdicts.{IsTrueClaim}
-use Rattle.tcc_check.specs.declared.verdict.Verdict.{Verdict}
-use Rattle.tcc_check.specs.declared.verdict.Verdict.TheVariants as verdict
+use Rattle.tcc_rules.specs.declared.verdict.Verdict.{Verdict}
+use Rattle.tcc_rules.specs.declared.verdict.Verdict.TheVariants as verdict
 use Rattle.tcc_judge.specs.Claims.{cycle_claim_of, short_claim_of}
 use Rattle.tcc_judge.specs.Verdicts.{cycle_rules, rules_of}
 use Rattle.tcc_judge.specs.declared.verdict.Rule.{Rule}

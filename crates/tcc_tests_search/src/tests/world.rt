@@ -3,10 +3,10 @@ use crate::tests::histories::{ONE_READ, STALE_READ, TWO_WRITERS, priced};
 use std::alloc::Global;
 use std::process::Abort;
 use std::test::Fail;
-use tcc_core::Event::{End, Look, Offer, Settle, Take};
-use tcc_core::{Event, RunFault, StepFault, World};
 use tcc_derive::Prices;
 use tcc_graph::Level;
+use tcc_steal::Event::{End, Look, Offer, Settle, Take};
+use tcc_steal::{Event, RunFault, StepFault, World};
 
 /// The stale read twice, in two sessions.
 const TWO_STALE_READS: &str = "a,begin\na,w,x,1\na,commit\na,begin\na,r,x,0\na,commit\n\

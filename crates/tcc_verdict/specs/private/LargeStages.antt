@@ -12,14 +12,14 @@ use Rattle.tcc_cert.specs.declared.fault.CertFaultKind.TheVariants as text_kind
 use Rattle.tcc_cert.specs.declared.large.LargeCertificate.{LargeCertificate}
 use Rattle.tcc_check.specs.Streams.{IsStreamFault, claim_of}
 use Rattle.tcc_check.specs.Verdicts.{IsVerdict}
-use Rattle.tcc_check.specs.declared.judgement.Judgement.{Judgement}
-use Rattle.tcc_check.specs.declared.stream_fault.StreamFault.{StreamFault}
-use Rattle.tcc_check.specs.declared.stream_fault.StreamFault.TheVariants.{Text, NoMemory}
-use Rattle.tcc_check.specs.declared.verdict.Rule.{Rule}
-use Rattle.tcc_check.specs.declared.verdict.Rule.TheVariants.{Sizes}
-use Rattle.tcc_check.specs.declared.verdict.Verdict.{Verdict}
-use Rattle.tcc_check.specs.declared.verdict.Verdict.TheVariants as verdict
-use Rattle.tcc_check.specs.Asked.{IsVerdictOf}
+use Rattle.tcc_rules.specs.declared.judgement.Judgement.{Judgement}
+use Rattle.tcc_rules.specs.declared.stream_fault.StreamFault.{StreamFault}
+use Rattle.tcc_rules.specs.declared.stream_fault.StreamFault.TheVariants.{Text, NoMemory}
+use Rattle.tcc_rules.specs.declared.verdict.Rule.{Rule}
+use Rattle.tcc_rules.specs.declared.verdict.Rule.TheVariants.{Sizes}
+use Rattle.tcc_rules.specs.declared.verdict.Verdict.{Verdict}
+use Rattle.tcc_rules.specs.declared.verdict.Verdict.TheVariants as verdict
+use Rattle.tcc_rules.specs.Asked.{IsVerdictOf}
 use Rattle.tcc_judge.specs.Verdicts.{rules_of}
 use Rattle.tcc_verdict.specs.LargeChecks.{IsTextFault, large_claim_of}
 use Rattle.tcc_verdict.specs.declared.large.judgement.LargeJudgement.{LargeJudgement}

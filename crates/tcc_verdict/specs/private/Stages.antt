@@ -10,7 +10,7 @@ use Rattle.tcc_rows.specs.declared.fault.RowFaultKind.TheVariants as row_kind
 use Rattle.tcc_reads.specs.Faults.{read_faults}
 use Rattle.tcc_reads.specs.History.{History}
 use Rattle.tcc_reads.specs.Sources.{history}
-use Rattle.tcc_check.specs.declared.judgement.Judgement.{Judgement}
+use Rattle.tcc_rules.specs.declared.judgement.Judgement.{Judgement}
 use Rattle.tcc_print.specs.Statuses.{halt_status}
 use Rattle.tcc_print.specs.Texts.{halt_text}
 use Rattle.tcc_print.specs.declared.halt.Halt.{Halt}

@@ -6,8 +6,8 @@ ghost use Rattle.tcc_judge.specs.{Taken.AreTaken, declared.taken.TakenLinks.Take
 ghost use Rattle.tcc_verdict.specs.LargeChecks.{large_claim_of};
 
 use tcc_cert::LargeHead;
-use tcc_check::Judgement;
 use tcc_judge::Verdict;
+use tcc_rules::Judgement;
 
 /// What a certificate of version 3 claims, without all by which the claim is judged.
 #[derive(Clone, Copy, Debug, PartialEq, Eq)]

@@ -4,7 +4,7 @@ ghost use Rattle.tcc_judge.specs.Verdicts.{rules_of};
 ghost use Rattle.tcc_verdict.specs.LargeChecks.{IsTrueLargeClaim};
 ghost use Rattle.tcc_reads.specs.Sources.{history};
 ghost use Rattle.tcc_txn.specs.Snapshots.{Sessions};
-ghost use Rattle.tcc_check.specs.Asked.{AllHold};
+ghost use Rattle.tcc_rules.specs.Asked.{AllHold};
 
 /// What a certificate of version 3 claims is true of every snapshot for whose history it keeps all rules.
 pub fn accepted()

@@ -6,11 +6,11 @@ ghost use Rattle.tcc_verdict.specs.LargeTexts.{large_accepted_text, large_check_
 use crate::{LargeClaim, LargeJudgement};
 use std::alloc::Global;
 use std::io::Write;
-use tcc_check::Claim;
 use tcc_judge::Verdict;
 use tcc_print::printing::{print_halt, print_memory, print_text};
 use tcc_print::status::verdict_status;
 use tcc_print::{Halt, Status, accepted_text, rejected_text, verdict_text};
+use tcc_rules::Claim;
 use tcc_txn::NoMemory;
 
 /// The line of a claim of version 3 that was accepted.

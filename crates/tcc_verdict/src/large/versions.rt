@@ -11,9 +11,10 @@ use std::io::Read;
 use tcc_base::Progress;
 use tcc_cert::laws::no_first_line;
 use tcc_cert::{CertReader, LargeReader, VersionReader, reader_of};
-use tcc_check::{Judgement, Judging, Rule, StreamFault, Verdict, claim_in, judge_parts};
+use tcc_check::{Judging, claim_in, judge_parts};
 use tcc_graph::LargeGraph;
 use tcc_judge::{TakenLinks, judge_taken_watched};
+use tcc_rules::{Judgement, Rule, StreamFault, Verdict};
 
 /// Judges a certificate of version 1 or 2. These are of histories within the small limits, so past them its sizes are wrong,
 /// whatever it claims; its text is read to the end, since a fault of it comes first.

@@ -4,10 +4,10 @@ use Rattle.std.specs.Prelude.{IfOk}
 use Rattle.tcc_reads.specs.History.{History}
 use Rattle.tcc_cert.specs.declared.certificate.Certificate.{Certificate}
 use Rattle.tcc_cert.specs.declared.certificate.Certificate.TheVariants as claim
-use Rattle.tcc_check.specs.declared.verdict.Rule.{Rule}
-use Rattle.tcc_check.specs.declared.verdict.Verdict.{Verdict}
+use Rattle.tcc_rules.specs.declared.verdict.Rule.{Rule}
+use Rattle.tcc_rules.specs.declared.verdict.Verdict.{Verdict}
 use Rattle.tcc_check.specs.Verdicts.{IsVerdict, rules_of}
-use Rattle.tcc_check.specs.Asked.{IsVerdictOf}
+use Rattle.tcc_rules.specs.Asked.{IsVerdictOf}
 use Rattle.tcc_check.proofs.Claims.{verdict_of}
 use Rattle.tcc_check.proofs.checking.check.Goals as goal
 

@@ -1,11 +1,11 @@
 -- The sizes, then the links, then the tables.
 use Rattle.std.proofs.Common.{[], ◌∷◌}
 use Rattle.tcc_cert.specs.CycleRules.{HasRightSizes}
-use Rattle.tcc_check.specs.Asked.{as_whole}
+use Rattle.tcc_rules.specs.Asked.{as_whole}
 use Rattle.tcc_check.specs.private.Judged.{claim_rules, links_rules}
 use Rattle.tcc_check.specs.Verdicts.{bounds_rules}
-use Rattle.tcc_check.specs.declared.verdict.Rule.TheVariants.{Sizes}
-use Rattle.tcc_check.proofs.Asked.{all_hold, answer_early, answer_later, ok_later}
+use Rattle.tcc_rules.specs.declared.verdict.Rule.TheVariants.{Sizes}
+use Rattle.tcc_rules.proofs.Asked.{all_hold, answer_early, answer_later, ok_later}
 use Rattle.tcc_check.proofs.cycle.cycle_verdict.Goals as goal
 
 pub returns-in_default : goal.returns-in_default

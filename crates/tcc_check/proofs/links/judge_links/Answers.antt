@@ -7,8 +7,8 @@ use Rattle.tcc_reads.specs.History.{History, count}
 use Rattle.tcc_cert.specs.CycleRules.{IsLinkBelow}
 use Rattle.tcc_cert.specs.Parts.{with_tables}
 use Rattle.tcc_cert.specs.declared.part.Part.TheVariants as part
-use Rattle.tcc_check.specs.declared.links.LinksSeen.{LinksSeen}
-use Rattle.tcc_check.specs.Links.{AreSeenTo}
+use Rattle.tcc_rules.specs.declared.links.LinksSeen.{LinksSeen}
+use Rattle.tcc_rules.specs.Links.{AreSeenTo}
 use Rattle.tcc_check.proofs.ComingFacts.{first-fault, first-line}
 use Rattle.tcc_check.proofs.LinksBehind.{AreLinksBehind, links-begun, links-below, links-ended, links-go-on, links-other}
 use Rattle.tcc_check.proofs.links.judge_links.Goals as goal

@@ -5,7 +5,7 @@ use Rattle.tcc_graph.specs.declared.link.Link.{Link}
 use Rattle.tcc_cert.specs.Ahead.{IsAhead}
 use Rattle.tcc_cert.specs.CycleRules.{IsLinkBelow}
 use Rattle.tcc_cert.specs.Parts.{Parts}
-use Rattle.tcc_check.specs.Links.{AreSeenTo}
+use Rattle.tcc_rules.specs.Links.{AreSeenTo}
 use Rattle.tcc_check.proofs.LinksBehind.{AreLinksBehind}
 use Rattle.tcc_check.proofs.links.judge_links.Given as goal
 use Rattle.tcc_graph.specs.Levels.{judged}

@@ -1,4 +1,4 @@
-use Rattle.tcc_core.proofs.PickedLemmas.{picked_from_first, first_from_picked, one_first}
+use Rattle.tcc_derive.proofs.PickedLemmas.{picked_from_first, first_from_picked, one_first}
 use Rattle.tcc_core.proofs.PartLemmas.{first_walk}
 use Rattle.tcc_core.proofs.WalkLemmas as walks
 use Rattle.tcc_core.proofs.laws.picked.Goals as goal

@@ -1,10 +1,10 @@
 use Rattle.std.proofs.Common.{rules, ◌≡◌, List, subst}
 use Rattle.tcc_cert.specs.declared.large.Run.{Run}
 use Rattle.tcc_judge.specs.Verdicts.{least_rules}
-use Rattle.tcc_check.specs.declared.verdict.Verdict.TheVariants as verdict
+use Rattle.tcc_rules.specs.declared.verdict.Verdict.TheVariants as verdict
 use Rattle.tcc_judge.proofs.Leastness.{with_links}
 use Rattle.tcc_judge.proofs.cycles.judge_cycle.Goals as goal
-use Rattle.tcc_check.specs.Asked.{IsVerdictOf}
+use Rattle.tcc_rules.specs.Asked.{IsVerdictOf}
 
 pub returns-in_ok-verdict-in-Some : goal.returns-in_ok-verdict-in-Some
 returns-in_ok-verdict-in-Some c =

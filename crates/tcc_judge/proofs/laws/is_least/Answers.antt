@@ -4,7 +4,7 @@ use Rattle.tcc_cert.specs.declared.large.Run.{Run}
 use Rattle.tcc_judge.specs.Verdicts.{least_rules_of}
 use Rattle.tcc_judge.proofs.Certified.{least_cycle}
 use Rattle.tcc_judge.proofs.laws.is_least.Goals as goal
-use Rattle.tcc_check.specs.Asked.{AllHold}
+use Rattle.tcc_rules.specs.Asked.{AllHold}
 
 pub returns : goal.returns
 returns c = λ h k runs claimed all. (

@@ -3,7 +3,7 @@ use Rattle.std.proofs.lemmas.Bool.{iff_false}
 use Rattle.tcc_graph.specs.Levels.{judged}
 use Rattle.tcc_cert.specs.Taken.{with_links}
 use Rattle.tcc_cert.specs.declared.large.Run.{Run}
-use Rattle.tcc_check.specs.Asked.{IsVerdictOf}
+use Rattle.tcc_rules.specs.Asked.{IsVerdictOf}
 use Rattle.tcc_judge.specs.Verdicts.{least_rules}
 use Rattle.tcc_judge.proofs.TakenLemmas.{first_wrong_too, least_claimed, links_rejected, not_claimed, sizes_rejected}
 use Rattle.tcc_judge.proofs.taken.judge_taken_cycle.Goals as goal

@@ -7,7 +7,7 @@ use Rattle.tcc_graph.specs.Links.{link_from}
 use Rattle.tcc_graph.specs.declared.link.Link.{Link}
 use Rattle.tcc_cert.specs.CycleRules.{IsLinkBelow}
 use Rattle.tcc_cert.specs.Reading.{with_walk}
-use Rattle.tcc_check.specs.Links.{AreJudged}
+use Rattle.tcc_rules.specs.Links.{AreJudged}
 use Rattle.tcc_judge.specs.Taken.{IsAsGood}
 use Rattle.tcc_judge.specs.private.Taking.{IsWayOf}
 use Rattle.tcc_judge.proofs.TakenLemmas.{taken_more}

@@ -1,10 +1,6 @@
 -- The graph that is there is the snapshot's, and the links are a cycle of it.
-use Rattle.std.proofs.Common.{◌≡◌, [], Some, subst}
-use Rattle.tcc_reads.specs.Faults.{read_faults}
-use Rattle.tcc_reads.specs.Sources.{history}
-use Rattle.tcc_graph.specs.Levels.{judged}
-use Rattle.tcc_graph.specs.Routes.{AreCycle}
-use Rattle.tcc_run.specs.private.LargeStages.{IsOutcome, outcome_links}
+use Rattle.std.proofs.Common.{subst}
+use Rattle.tcc_run.specs.private.LargeStages.{IsOutcome}
 use Rattle.tcc_run.specs.declared.large.outcome.Outcome.{Outcome}
 use Rattle.tcc_run.proofs.Outcomes.{links_cycle}
 use Rattle.tcc_run.proofs.large.slice_records.slice_text.Goals as goal

@@ -1,4 +1,4 @@
-use Rattle.std.proofs.Common.{refl, sym, ◌∙◌, arith}
+use Rattle.std.proofs.Common.{inr, refl, sym, ◌∙◌, arith}
 use Rattle.std.proofs.lemmas.Bool.{false≢true}
 use Rattle.tcc_graph.specs.Keys.{key_at}
 use Rattle.tcc_graph.proofs.WriterLemmas.{writer_writes}
@@ -29,8 +29,8 @@ name_of-requires-clause-below c =
     let k = c.args.self.now.knowledge in
     (writer_writes k.graph.now (key_at k.graph.now c.args.self.now.reading.key_index) c.args.b c.requires.writer).0
 
-pub returns-then-b-eq0 : goal.returns-then-b-eq0
-returns-then-b-eq0 c = λ among before.
+pub returns-then-b-eq0-clause-called : goal.returns-then-b-eq0-clause-called
+returns-then-b-eq0-clause-called c = λ among before.
     elim c.then-b-eq0.branch [
       | then-b-eq0-via-then-b-eq0 w ↦ zero_passed c.args.self.now c.requires.calling among c.args.one before c.args.b c.requires.writer (omega (arith, w.if-b-eq0.true))
       | then-b-eq0-via-else-b-eq0+then-not-is_reached w ↦
@@ -44,8 +44,11 @@ returns-then-b-eq0 c = λ among before.
           (λ known. false≢true (sym w.if-not-is_known.true ∙ w.is_known.ensures.1 known))
     ]
 
-pub returns : goal.returns
-returns c = λ among before.
+pub returns-then-b-eq0-clause-kept : goal.returns-then-b-eq0-clause-kept
+returns-then-b-eq0-clause-kept c = inr (refl, omega arith)
+
+pub returns-clause-called : goal.returns-clause-called
+returns-clause-called c = λ among before.
     let s = c.args.self.now in
     let is = c.requires.calling in
     let reached : IsReachedAt s.knowledge.owners.now s.from s.first.now c.args.b = c.if-not-is_reached.ensures.0 refl in

@@ -4,6 +4,7 @@ use Rattle.tcc_graph.specs.Keys.{key_at}
 use Rattle.tcc_graph.specs.Levels.{Judged, judged}
 use Rattle.tcc_survey.specs.private.Settled.{AreWritersIn}
 use Rattle.tcc_survey.proofs.CallingLemmas.{begin, finish}
+use Rattle.tcc_survey.proofs.ManyLemmas.{source_listed, sources_below, sources_rise}
 use Rattle.tcc_survey.proofs.SeenLemmas.{marks_latest, owners_room, reader_some}
 use Rattle.tcc_survey.proofs.calling.CallingSweep.call.Goals as goal
 
@@ -30,16 +31,16 @@ with_writers-requires-clause-calling c =
       key = refl;
       reading = c.requires.read;
       room = is.room;
+      rising = sources_rise h r.key_index _ _ c.readings_of.ensures;
+      below = sources_below h r.key_index _ _ c.readings_of.ensures;
+      sources = λ b e pair. source_listed h r.key_index _ _ c.readings_of.ensures b e pair;
       first = rw c.get.ensures (is.first.each r.source pair.0 pair.0);
     }
 
-pub with_writers-requires-clause-writers : goal.with_writers-requires-clause-writers
-with_writers-requires-clause-writers c =
+pub with_writers-requires-clause-among : goal.with_writers-requires-clause-among
+with_writers-requires-clause-among c =
     let h : History = c.args.self.now.block.graph.now in
-    let r = c.args.reading in
-    let in_block : AreWritersIn h c.args.self.now.block.from (key_at h r.key_index) c.between.result.now
-    = rw (c.between.ensures, c.writers_at-among.ensures) (c.requires.sweep.spans.each r.key_index c.requires.read.key) in
-    in_block.listed
+    rw (c.between.ensures, c.writers_at-among.ensures) (c.requires.sweep.spans.each c.args.reading.key_index c.requires.read.key)
 
 pub with_writers-requires-clause-one : goal.with_writers-requires-clause-one
 with_writers-requires-clause-one c =

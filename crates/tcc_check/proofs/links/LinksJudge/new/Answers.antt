@@ -1,5 +1,0 @@
-use Rattle.std.proofs.Common.{refl}
-use Rattle.tcc_check.proofs.links.LinksJudge.new.Goals as goal
-
-pub returns : goal.returns
-returns c j = record { counted = refl; seen = λ more. c.no_links.ensures j more }

@@ -1,0 +1,6 @@
+pub mod Positions
+pub mod Asked
+pub mod Linked
+mod JudgedLinks
+pub mod Decisions
+pub mod RightLinks

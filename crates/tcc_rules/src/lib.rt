@@ -1,0 +1,15 @@
+//! What the rules say of a certificate: the verdict that is answered, and the rule on the links of a cycle, judged one after the
+//! other. The checker and the judge of version 3 have it in common.
+#![tactic(auto)]
+
+mod judgement;
+mod links;
+mod stream_fault;
+mod verdict;
+
+pub use judgement::{Claim, Judgement};
+pub use links::{
+    LinksJudge, LinksSeen, are_links_below, first_wrong_link, no_links, seen_wrong, with_link,
+};
+pub use stream_fault::StreamFault;
+pub use verdict::{Rule, Verdict};
