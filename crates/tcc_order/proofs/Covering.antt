@@ -1,18 +1,16 @@
 -- What is covered by the links that are kept, and by those of one row.
 use Rattle.std.proofs.Common.{◌≡◌, ◌≢◌, ◌<◌, ◌≤◌, ◌+◌, ◌⊎◌, inl, inr, ℕ, List, [], ◌∷◌, length, get_or, slice_index, refl, sym, ◌∙◌, subst, arith}
-use Rattle.std.specs.Prelude.{min}
 use Rattle.std.specs.List.{All, Contains}
-use Rattle.std.proofs.lemmas.Bool.{cases_eq, cases_lt}
+use Rattle.std.proofs.lemmas.Bool.{cases_eq}
 use Rattle.tcc_reads.specs.History.{History, IsBySession, count, owner}
-use Rattle.tcc_graph.specs.Relations.{IsReadsPair, IsSessionPair}
+use Rattle.tcc_graph.specs.Relations.{IsReadsPair}
 use Rattle.tcc_graph.specs.Keys.{writers}
 use Rattle.tcc_graph.specs.Tables.{row_of}
-use Rattle.tcc_graph.specs.Walks.{IsReached}
-use Rattle.tcc_clocks.specs.Clocks.{IsBefore, IsOneOf, IsLatestOf, AreOwners}
+use Rattle.tcc_clocks.specs.Clocks.{IsBefore, IsLatestOf, AreOwners}
 use Rattle.tcc_clocks.proofs.EntryLemmas.{clock_reaches}
 use Rattle.tcc_clocks.proofs.Reaching.{same_session}
 use Rattle.tcc_order.specs.private.CausalLinks.{IsCovered, IsLiftable, IsLifted, Overwrites}
-use Rattle.tcc_order.specs.private.News.{HasLater, IsIn, IsLater, IsOtherWriter}
+use Rattle.tcc_order.specs.private.News.{HasLater, IsIn}
 
 -- what was kept stays
 pub covered_wider : (h : History) (old new : List (List ℕ)) (a b : ℕ) → ((e d : ℕ) → Contains (row_of old e) d → Contains (row_of new e) d) → IsCovered h old a b

@@ -1,8 +1,7 @@
 use Rattle.std.proofs.Common.{◌≡◌, ◌<◌, ◌∙◌, inl, inr, ℕ, [], length, get_or, set, refl, arith}
 use Rattle.std.specs.List.{Contains}
 use Rattle.std.proofs.lemmas.List.{get_or_default, length-set}
-use Rattle.tcc_graph.specs.Relations.{IsReadsPair}
-use Rattle.tcc_graph.specs.Keys.{keys, key_at}
+use Rattle.tcc_graph.specs.Keys.{key_at}
 use Rattle.tcc_graph.specs.Tables.{row_of}
 use Rattle.tcc_order.specs.private.CausalLinks.{AreStillKept, Overwrites}
 use Rattle.tcc_order.proofs.KeptRows.{row_here, rows_wider, rows_derived}

@@ -1,4 +1,4 @@
-use Rattle.std.proofs.Common.{rules, ◌≡◌, ◌<◌, ◌≤◌, ◌+◌, ◌%◌, ◌∷◌, ◌⊎◌, inl, inr, ℕ, [], length, slice_index, refl, arith}
+use Rattle.std.proofs.Common.{◌≡◌, ◌<◌, ◌≤◌, ◌+◌, ◌%◌, ◌∷◌, ◌⊎◌, inl, inr, ℕ, [], length, slice_index, refl, arith}
 use Rattle.std.specs.Prelude.{min}
 use Rattle.std.specs.List.{Contains}
 use Rattle.tcc_reads.specs.History.{count}
