@@ -28,7 +28,8 @@ fn is_later(owners: &[u32], number: u32, other: u32) -> bool
     number <= other && *owner == *others
 }
 
-/// Whether a number, or a later one of its session, is among the last 64 of these: there are as many of a block at most.
+/// Whether a number, or a later one of its session, is among the last 64 of these. One further back isn't looked for: a number that is
+/// kept twice does no harm.
 fn has_later(row: &[u32], owners: &[u32], number: u32) -> bool
     ensures { result ≡ true → HasLater owners.now row.now number }
 {
