@@ -4,10 +4,10 @@ use Rattle.std.proofs.lemmas.Bool.{cases_lt}
 use Rattle.std.proofs.lemmas.List.{get_or_append_left, get_or_at, take_all, take-append-le, drop-append-le, length-drop}
 use Rattle.std.proofs.Math.Seq.{drop-append_seam}
 use Rattle.tcc_reads.specs.History.{History}
-use Rattle.tcc_clocks.specs.Parents.{parents, HasSourcesAt, IsStep, AreSteps}
+use Rattle.tcc_clocks.specs.Parents.{parents, HasSourcesAt, AreParentsAt, AreSteps}
 
 -- a step stays where numbers are added behind it
-still_step : (h : History) (c : ℕ) (numbers more : List ℕ) (start end : ℕ) → IsStep h c numbers start end → IsStep h c (numbers ++ more) start end
+still_step : (h : History) (c : ℕ) (numbers more : List ℕ) (start end : ℕ) → AreParentsAt h c numbers start end → AreParentsAt h c (numbers ++ more) start end
 still_step h c numbers more start end is = record {
   order = is.order;
   within = omega (arith, is.within, length-append numbers more);
@@ -17,7 +17,7 @@ still_step h c numbers more start end is = record {
 }
 
 -- the step of one transaction more
-last_step : (h : History) (c : ℕ) (numbers more : List ℕ) → more ≡ parents h c → HasSourcesAt h c → IsStep h c (numbers ++ more) (length numbers) (length (numbers ++ more))
+last_step : (h : History) (c : ℕ) (numbers more : List ℕ) → more ≡ parents h c → HasSourcesAt h c → AreParentsAt h c (numbers ++ more) (length numbers) (length (numbers ++ more))
 last_step h c numbers more are sources = record {
   order = omega (arith, length-append numbers more);
   within = omega arith;
@@ -38,7 +38,7 @@ steps_more h order spans numbers more n steps are sources = record {
     span = (length numbers, length (numbers ++ more))
 
     go : (k : ℕ) → k < n + 1 → (k < n) ⊎ (n ≤ k)
-        → IsStep h (slice_index order k) (numbers ++ more) (get_or (spans ++ (length numbers, length (numbers ++ more)) ∷ []) k (0, 0)).0
+        → AreParentsAt h (slice_index order k) (numbers ++ more) (get_or (spans ++ (length numbers, length (numbers ++ more)) ∷ []) k (0, 0)).0
         (get_or (spans ++ (length numbers, length (numbers ++ more)) ∷ []) k (0, 0)).1
     go k l (inl early) =
         rw (get_or_append_left spans ((length numbers, length (numbers ++ more)) ∷ []) (0, 0) k (omega (arith, early, steps.long)))

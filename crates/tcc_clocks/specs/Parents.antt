@@ -26,7 +26,7 @@ abbrev pub parents : History → ℕ → List ℕ
 parents h c = previous_one h c ++ sources h c
 
 -- the transactions right before c are these numbers from the one index to before the other
-pub record IsStep (h : History) (c : ℕ) (numbers : List ℕ) (start : ℕ) (end : ℕ) : Type 0 where
+pub record AreParentsAt (h : History) (c : ℕ) (numbers : List ℕ) (start : ℕ) (end : ℕ) : Type 0 where
   pub order : start ≤ end
   pub within : end ≤ length numbers
   pub is : take (end - start) (drop start numbers) ≡ parents h c
@@ -35,4 +35,4 @@ pub record IsStep (h : History) (c : ℕ) (numbers : List ℕ) (start : ℕ) (en
 -- each position of an order before `n` has the step of its transaction
 pub record AreSteps (h : History) (order : List ℕ) (spans : List (ℕ × ℕ)) (numbers : List ℕ) (n : ℕ) : Type 0 where
   pub long : length spans ≡ n
-  pub each : (k : ℕ) → k < n → IsStep h (slice_index order k) numbers (slice_index_or spans k (0, 0)).0 (slice_index_or spans k (0, 0)).1
+  pub each : (k : ℕ) → k < n → AreParentsAt h (slice_index order k) numbers (slice_index_or spans k (0, 0)).0 (slice_index_or spans k (0, 0)).1

@@ -36,7 +36,7 @@ use Rattle.tcc_derive.specs.Names.{IsFirstName}
 use Rattle.tcc_derive.specs.private.LeadingBack.{IsUpTo, IsFirstStep}
 use Rattle.tcc_least.specs.private.Places.{IsFoundUpTo}
 use Rattle.tcc_first.specs.private.Ways.{IsTwoStep}
-use Rattle.tcc_first.specs.private.Picks.{IsContradicted, IsFirstContradicted, IsFirstOfCost}
+use Rattle.tcc_first.specs.private.Picks.{IsContradictedByPair, IsFirstContradicted, IsFirstOfCost}
 use Rattle.tcc_first.proofs.ReturnLemmas.{reading_at, place_of_reading}
 
 -- ---- keys by their indices
@@ -100,13 +100,13 @@ some_reads h a b none (inr (x, read)) = let inside = read.2.1 in omega (arith, i
 -- ---- readings that are contradicted
 -- the first of those below n, by the index of the key and by the reader
 pub record AreContradicted (h : History) (b : ℕ) (a : ℕ) (readers : List ℕ) (key_indices : List ℕ) (n : ℕ) (first : Option (ℕ × ℕ)) : Type 0 where
-  pub sound : MatchOption first (Unit {0}) (λ place. (place.0 < length (keys h)) × IsContradicted h b a (key_at h place.0) place.1)
-  pub found : (k : ℕ) → k < n → IsContradicted h b a (key_at h (slice_index key_indices k)) (slice_index readers k)
+  pub sound : MatchOption first (Unit {0}) (λ place. (place.0 < length (keys h)) × IsContradictedByPair h b a (key_at h place.0) place.1)
+  pub found : (k : ℕ) → k < n → IsContradictedByPair h b a (key_at h (slice_index key_indices k)) (slice_index readers k)
       → IsFoundUpTo first (slice_index key_indices k) (slice_index readers k)
 
 module _ (h : History) (b a : ℕ) (readers key_indices : List ℕ) (are : AreReadingsByIndex h a readers key_indices) where
   pub more_contradicted : (n : ℕ) (old new : Option (ℕ × ℕ)) → n < length readers → AreContradicted h b a readers key_indices n old
-      → IsContradicted h b a (key_at h (slice_index key_indices n)) (slice_index readers n)
+      → IsContradictedByPair h b a (key_at h (slice_index key_indices n)) (slice_index readers n)
       → (new ≡ old) ⊎ (new ≡ Some (slice_index key_indices n, slice_index readers n))
       → ((k c : ℕ) → IsFoundUpTo old k c → IsFoundUpTo new k c) → IsFoundUpTo new (slice_index key_indices n) (slice_index readers n)
       → AreContradicted h b a readers key_indices (n + 1) new
@@ -116,16 +116,16 @@ module _ (h : History) (b a : ℕ) (readers key_indices : List ℕ) (are : AreRe
   }
     where
       sound : (new ≡ old) ⊎ (new ≡ Some (slice_index key_indices n, slice_index readers n))
-          → MatchOption new (Unit {0}) (λ place. (place.0 < length (keys h)) × IsContradicted h b a (key_at h place.0) place.1)
+          → MatchOption new (Unit {0}) (λ place. (place.0 < length (keys h)) × IsContradictedByPair h b a (key_at h place.0) place.1)
       sound (inl same) =
-          subst (λ (z : Option (ℕ × ℕ)). MatchOption z (Unit {0}) (λ place. (place.0 < length (keys h)) × IsContradicted h b a (key_at h place.0) place.1))
+          subst (λ (z : Option (ℕ × ℕ)). MatchOption z (Unit {0}) (λ place. (place.0 < length (keys h)) × IsContradictedByPair h b a (key_at h place.0) place.1))
           (sym same) done.sound
       sound (inr one) =
-          subst (λ (z : Option (ℕ × ℕ)). MatchOption z (Unit {0}) (λ place. (place.0 < length (keys h)) × IsContradicted h b a (key_at h place.0) place.1))
+          subst (λ (z : Option (ℕ × ℕ)). MatchOption z (Unit {0}) (λ place. (place.0 < length (keys h)) × IsContradictedByPair h b a (key_at h place.0) place.1))
           (sym one) ((reading_at h a readers key_indices are n inside).0, here)
 
   pub as_contradicted : (n : ℕ) (first : Option (ℕ × ℕ)) → AreContradicted h b a readers key_indices n first
-      → (IsContradicted h b a (key_at h (slice_index key_indices n)) (slice_index readers n) → ⊥) → AreContradicted h b a readers key_indices (n + 1) first
+      → (IsContradictedByPair h b a (key_at h (slice_index key_indices n)) (slice_index readers n) → ⊥) → AreContradicted h b a readers key_indices (n + 1) first
   as_contradicted n first done none = record { sound = done.sound; found = below_more _ _ done.found (λ is. absurd (none is)) }
 
   module _ (n : ℕ) (all : length readers ≤ n) where
@@ -137,7 +137,7 @@ module _ (h : History) (b a : ℕ) (readers key_indices : List ℕ) (are : AreRe
     pub first_of_contradicted : (k c : ℕ) → AreContradicted h b a readers key_indices n (Some (k, c)) → IsFirstContradicted h b a (key_at h k) c
     first_of_contradicted k c done = record { here = done.sound.1; first = up_to }
       where
-        up_to : (y : List ℕ) (d : ℕ) → IsContradicted h b a y d → (name_cmp (key_at h k) y ≡ Less) ⊎ ((key_at h k ≡ y) × (c ≤ d))
+        up_to : (y : List ℕ) (d : ℕ) → IsContradictedByPair h b a y d → (name_cmp (key_at h k) y ≡ Less) ⊎ ((key_at h k ≡ y) × (c ≤ d))
         up_to y d is = go (done.found w.0 (omega (arith, all, w.1)) (rw (w.2, w.3) is))
           where
             w : (i : ℕ) × (i < length readers) × (slice_index readers i ≡ d) × (key_at h (slice_index key_indices i) ≡ y)

@@ -4,7 +4,7 @@ ghost use Rattle.tcc_reads.specs.History.{count};
 ghost use Rattle.tcc_graph.specs.{Relations.IsReadsPair, Relations.IsCausalPair, Relations.reads_from, Keys.keys, Keys.key_at, Levels.judged, declared.level.Level.Level};
 ghost use Rattle.tcc_derive.specs.{Names.IsFirstName, private.LeadingBack.IsFirstStep};
 ghost use Rattle.tcc_least.specs.private.Places.{IsFoundUpTo};
-ghost use Rattle.tcc_first.specs.private.{Ways.IsTwoStep, Picks.IsContradicted, Picks.IsFirstContradicted, Picks.IsFirstOfCost};
+ghost use Rattle.tcc_first.specs.private.{Ways.IsTwoStep, Picks.IsContradictedByPair, Picks.IsFirstContradicted, Picks.IsFirstOfCost};
 
 use crate::ranges::has_number;
 use std::alloc::Global;
@@ -67,7 +67,7 @@ fn is_contradicted(graph: &LargeGraph, from: u32, source: u32, reader: u32, key_
     requires key { key_index < length (keys graph.now) }
     requires read { IsReadsPair graph.now source reader (key_at graph.now key_index) }
     requires other { from ≢ source }
-    ensures { IsTrue result ↔ IsContradicted graph.now from source (key_at graph.now key_index) reader }
+    ensures { IsTrue result ↔ IsContradictedByPair graph.now from source (key_at graph.now key_index) reader }
 {
     has_number(graph.writers_at(key_index), from) && graph.causal(from, reader)
 }

@@ -14,7 +14,7 @@ use Rattle.tcc_graph.proofs.Linking.{cost_append, cost_around, derived_cost, lea
 use Rattle.tcc_least.specs.LeadingBack.{HasLinkBack, Rises}
 use Rattle.tcc_least.specs.Shapes.{NoneBelow}
 use Rattle.tcc_least.proofs.LeadingBack.{link_back}
-use Rattle.tcc_lanes.specs.Contradicted.{HasCheaper, IsContradicted, IsSpanned, IsSpannedAside}
+use Rattle.tcc_lanes.specs.Contradicted.{HasCheaper, IsAgainstRanks, IsRankSpanned, IsSpannedAside}
 
 -- links up to one of them, and behind it
 pub record Parted (links : List Link) (l : Link) : Type 0 where
@@ -61,12 +61,12 @@ module _ (j : Judged) (rank : ℕ → ℕ) (rises : Rises j.history rank) where
   some_route a b [] other lead = absurd (other (sym lead))
   some_route a b (l ∷ links) other lead = (omega arith, lead)
 
-  pub cheaper_none : (n : ℕ) → NoneBelow j n → (a : ℕ) (x : List ℕ) (c : ℕ) → IsContradicted j rank a x c → HasCheaper j n a x c → ⊥
+  pub cheaper_none : (n : ℕ) → NoneBelow j n → (a : ℕ) (x : List ℕ) (c : ℕ) → IsAgainstRanks j rank a x c → HasCheaper j n a x c → ⊥
   cheaper_none n none a x c contradicted (b, walk, links, route, reason, cheap) =
       let longer = route_on j a b a links (link.Derived b a x c walk) route refl refl reason in
       omega (arith, none a (links ++ link.Derived b a x c walk ∷ []) longer.0, longer.1, derived_cost b a x c walk, cheap)
 
-  pub none_cheaper : (n : ℕ) → ((a : ℕ) (x : List ℕ) (c : ℕ) → IsContradicted j rank a x c → HasCheaper j n a x c → ⊥) → NoneBelow j n
+  pub none_cheaper : (n : ℕ) → ((a : ℕ) (x : List ℕ) (c : ℕ) → IsAgainstRanks j rank a x c → HasCheaper j n a x c → ⊥) → NoneBelow j n
   none_cheaper n none s links cycle = go (cases_lt (cost links) n)
     where
       by : cost links < n → HasLinkBack rank links → ⊥
@@ -145,7 +145,7 @@ module _ (j : Judged) (rank : ℕ → ℕ) (rises : Rises j.history rank) where
               let (d, e, y, f, other, listed, is, down, up) = crossing v b (rank v - 1) w.front w.comes (omega (arith, late)) (omega (arith, late)) in
               (d, e, y, f, other, in_front (link.Derived d e y f other) listed, is, omega (arith, down), omega (arith, up))
 
-  pub spanned : (v : ℕ) (links : List Link) → IsCycle j v links → IsSpanned j rank v
+  pub spanned : (v : ℕ) (links : List Link) → IsCycle j v links → IsRankSpanned j rank v
   spanned v links cycle = let (b, a, x, c, walk, there, is, low, high) = spanned_in v links cycle in (b, a, x, c, walk, is, low, high)
 
   -- ---- cycles that don't go through `init`

@@ -7,8 +7,8 @@ use Rattle.tcc_graph.specs.declared.link.Link.{Link}
 use Rattle.tcc_graph.specs.declared.step.Step.{Step}
 
 -- the ranks contradict that c reads x from a: who has to stand before a for it has no lower rank
-abbrev pub IsContradicted : Judged → (ℕ → ℕ) → ℕ → List ℕ → ℕ → Type 0
-IsContradicted j rank a x c = (b : ℕ) × (walk : List Step) × IsReason j b a x c walk × (rank a ≤ rank b)
+abbrev pub IsAgainstRanks : Judged → (ℕ → ℕ) → ℕ → List ℕ → ℕ → Type 0
+IsAgainstRanks j rank a x c = (b : ℕ) × (walk : List Step) × IsReason j b a x c walk × (rank a ≤ rank b)
 
 -- a route from a, and then a derived link back by that reading, cost less than n
 abbrev pub HasCheaper : Judged → ℕ → ℕ → List ℕ → ℕ → Type 0
@@ -16,8 +16,8 @@ HasCheaper j n a x c =
     (b : ℕ) × (walk : List Step) × (links : List Link) × IsRoute j a b links × IsReason j b a x c walk × (cost links + (length walk + 1) < n)
 
 -- a derived link leads from a rank that is not below that of v to one that is not above it
-abbrev pub IsSpanned : Judged → (ℕ → ℕ) → ℕ → Type 0
-IsSpanned j rank v =
+abbrev pub IsRankSpanned : Judged → (ℕ → ℕ) → ℕ → Type 0
+IsRankSpanned j rank v =
     (b : ℕ) × (a : ℕ) × (x : List ℕ) × (c : ℕ) × (walk : List Step) × IsReason j b a x c walk × (rank a ≤ rank v) × (rank v ≤ rank b)
 
 -- a derived link that doesn't lead into `init` spans the rank of v

@@ -4,17 +4,17 @@ ghost use Rattle.std.specs.Prelude.{◌≢◌, ◌<◌, ◌↔◌, ℕ, List, Al
 ghost use Rattle.tcc_graph.specs.{Links.cost, Links.link_from, Links.link_to, Levels.Judged, Routes.IsCycle, declared.link.Link.Link};
 ghost use Rattle.tcc_least.specs.{LeadingBack.Rises, Shapes.NoneBelow};
 ghost use Rattle.tcc_lanes.specs.Nearness.{IsNear};
-ghost use Rattle.tcc_lanes.specs.Contradicted.{HasCheaper, IsContradicted, IsSpanned, IsSpannedAside};
+ghost use Rattle.tcc_lanes.specs.Contradicted.{HasCheaper, IsAgainstRanks, IsRankSpanned, IsSpannedAside};
 
 /// No cycle costs less than n exactly where none does that comes back by a reading that the ranks contradict.
 pub fn contradicted()
     ensures { (j : Judged) (rank : ℕ → ℕ) → Rises j.history rank → (n : ℕ) → NoneBelow j n
-        ↔ ((a : ℕ) (x : List ℕ) (c : ℕ) → IsContradicted j rank a x c → HasCheaper j n a x c → ⊥) }
+        ↔ ((a : ℕ) (x : List ℕ) (c : ℕ) → IsAgainstRanks j rank a x c → HasCheaper j n a x c → ⊥) }
 {}
 
 /// Each transaction of a cycle stands where a derived link leads back over it.
 pub fn spanned()
-    ensures { (j : Judged) (rank : ℕ → ℕ) → Rises j.history rank → (v : ℕ) (links : List Link) → IsCycle j v links → IsSpanned j rank v }
+    ensures { (j : Judged) (rank : ℕ → ℕ) → Rises j.history rank → (v : ℕ) (links : List Link) → IsCycle j v links → IsRankSpanned j rank v }
 {}
 
 /// Of a cycle that never comes to `init`, each link begins and ends where a derived link leads back over it that doesn't lead into

@@ -30,13 +30,13 @@ pub record IsFirstOfCost (j : Judged) (u : ℕ) (v : ℕ) (q : ℕ) (l : Link) :
   pub first : (other : Link) → link_from other ≡ u → link_to other ≡ v → IsLink j other → link_cost other ≡ q → link_cmp l other ≢ Greater
 
 -- c reads the key x from a, and b, another writer of it, reaches c by a pair
-abbrev pub IsContradicted : History → ℕ → ℕ → List ℕ → ℕ → Type 0
-IsContradicted h b a x c = MayContradict h b a x c × IsCausalPair h b c
+abbrev pub IsContradictedByPair : History → ℕ → ℕ → List ℕ → ℕ → Type 0
+IsContradictedByPair h b a x c = MayContradict h b a x c × IsCausalPair h b c
 
 -- the first such reading, by key and by reader
 pub record IsFirstContradicted (h : History) (b : ℕ) (a : ℕ) (x : List ℕ) (c : ℕ) : Type 0 where
-  pub here : IsContradicted h b a x c
-  pub first : (y : List ℕ) (d : ℕ) → IsContradicted h b a y d → (name_cmp x y ≡ Less) ⊎ ((x ≡ y) × (c ≤ d))
+  pub here : IsContradictedByPair h b a x c
+  pub first : (y : List ℕ) (d : ℕ) → IsContradictedByPair h b a y d → (name_cmp x y ≡ Less) ⊎ ((x ≡ y) × (c ≤ d))
 
 -- c reads the key x from a, b is another writer of it, and a table of lengths has n at c
 abbrev pub IsContradictedAt : History → List ℕ → ℕ → ℕ → ℕ → List ℕ → ℕ → Type 0
