@@ -1,4 +1,4 @@
-use Rattle.std.proofs.Common.{◌≡◌, ◌≤◌, ◌<◌, inl, inr, ℕ, get_or, sym, subst, arith}
+use Rattle.std.proofs.Common.{◌≤◌, inl, inr, ℕ, get_or, sym, subst, arith}
 use Rattle.std.proofs.lemmas.Bool.{cases_eq}
 use Rattle.tcc_lanes.proofs.stretches.any_dearer.Goals as goal
 
