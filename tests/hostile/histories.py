@@ -273,7 +273,7 @@ def hard() -> Iterator[Hard]:
                "consistent: 56017 transactions, 4002 sessions\n")
     yield Hard("gathered", large, records_of(gathered(4000, 30000)), "consistent: 64016 transactions, 4002 sessions\n")
     yield Hard("gathered, one stale", large, records_of(gathered(4000, 15000, again=1)), "anomaly: 4 steps, overwritten-read\n")
-    yield Hard("ring", large, records_of(ring(1000, 64, 20000)), "anomaly: 3003 steps, ")
+    yield Hard("ring", large, records_of(ring(250, 64, 20000)), "anomaly: 753 steps, ")
     yield Hard("stale beside", large, records_of(stale_beside(64, 255, 40000)), "anomaly: 3 steps, ")
     yield Hard("circling", large, records_of(circling(4095, 100)), "anomaly: 2 steps, cyclic-causality\n")
     yield Hard("circling at atomic", small, records_of(circling(4095, 100)), "anomaly: 2 steps, cyclic-causality\n")

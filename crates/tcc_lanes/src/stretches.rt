@@ -1,6 +1,6 @@
 //! Run-length encoding of what links from one member cost: columns beside one another with the same price are one stretch. Members of
 //! one session stand beside one another, and mostly cost the same. A row of S stretches takes 8 S bytes, and S steps to go through.
-ghost use Rattle.std.specs.Prelude.{◌≡◌, ◌≢◌, ◌≤◌, ◌<◌, ◌+◌, ◌^◌, ◌++◌, ◌∷◌, [], ◌⊎◌, ℕ, length, slice_index, min, OnOk};
+ghost use Rattle.std.specs.Prelude.{◌≡◌, ◌≢◌, ◌≤◌, ◌<◌, ◌+◌, ◌^◌, ◌++◌, ◌∷◌, [], ◌⊎◌, ℕ, false, length, slice_index, min, OnOk};
 ghost use Rattle.tcc_lanes.specs.private.Buckets.{AreQueuedOn};
 
 use crate::buckets::put;
@@ -59,6 +59,25 @@ fn lower_at(
     Ok(())
 }
 
+/// Whether anything is dearer: something was before, or a cost is.
+fn is_dearer_by(is_dearer: bool, old: u32, cost: u32) -> bool
+    ensures { result ≡ false → (is_dearer ≡ false) × (old ≤ cost) }
+{
+    is_dearer || cost < old
+}
+
+/// Whether one of some columns is dearer than a cost.
+fn any_dearer(costs: &[u32], from: usize, end: usize, cost: u32) -> bool
+    requires { end ≤ length costs.now }
+    ensures { result ≡ false → (v : ℕ) → from ≤ v → v < end → slice_index costs.now v ≤ cost }
+{
+    let mut is_dearer = false;
+    for v in from..end {
+        is_dearer = is_dearer_by(is_dearer, costs[v], cost);
+    }
+    is_dearer
+}
+
 /// Lowers the costs of some columns to a level and a price together.
 fn lower_columns(
     alloc: Global,
@@ -77,6 +96,10 @@ fn lower_columns(
     ensures queued { OnOk result (AreQueuedOn costs.old buckets.old.items costs.new buckets.new.items) }
 {
     if price == NONE {
+        return Ok(());
+    }
+    // Mostly nothing is, and many columns at a time are compared.
+    if !any_dearer(costs, from, end, level.saturating_add(price)) {
         return Ok(());
     }
     for v in from..end {

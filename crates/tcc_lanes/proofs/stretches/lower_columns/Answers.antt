@@ -35,3 +35,9 @@ loop-v-preserved c =
       queued = queued_more old mid new c.args.buckets.now.items now.buckets.items c.lower_at.new.buckets.items now.invariant.same now.invariant.queued
           c.in_ok-lower_at.ensures.queued;
     }
+
+pub returns-then-not-any_dearer-clause-each : goal.returns-then-not-any_dearer-clause-each
+returns-then-not-any_dearer-clause-each c = λ v from l. omega (arith, c.any_dearer.ensures c.if-not-any_dearer.true v from l, c.saturating_add.ensures)
+
+pub returns-then-not-any_dearer-clause-queued : goal.returns-then-not-any_dearer-clause-queued
+returns-then-not-any_dearer-clause-queued c = queued_same c.args.costs.now c.args.buckets.now.items
