@@ -26,7 +26,7 @@ use Rattle.tcc_clocks.specs.Needed.{AreNeeded}
 use Rattle.tcc_order.specs.private.Numbering.{IsOrderOf, IsFirstOf, Joins, HasCircle}
 use Rattle.tcc_order.proofs.EmptyRows.{nothing_kept}
 use Rattle.tcc_order.proofs.Fronts.{holds_there, holds_parts}
-use Rattle.tcc_order.proofs.Covering.{covered_wider}
+use Rattle.tcc_order.proofs.Needing.{covered_wider}
 use Rattle.tcc_order.proofs.Kept.{IsLinked, has_link, linked_before}
 use Rattle.tcc_order.proofs.Links.{linked_by}
 use Rattle.tcc_order.proofs.OrderOrCycle.{before_join}

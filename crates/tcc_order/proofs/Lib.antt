@@ -15,10 +15,12 @@ mod Worked
 mod WorkedClocks
 pub mod Readings
 pub mod KeptRows
-pub mod Covering
 pub mod NewsLemmas
+pub mod Needing
+pub mod ByKey
 pub mod Finding
 pub mod ShareLemmas
 pub mod LeftOver
 pub mod Stepped
 pub mod Rising
+pub mod Spans

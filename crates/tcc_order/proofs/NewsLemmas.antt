@@ -1,10 +1,13 @@
 -- Who is new: what the rows of last writers hold, and what a clock holds where none of them is past it.
-use Rattle.std.proofs.Common.{◌≡◌, ◌≢◌, ◌<◌, ◌≤◌, ◌+◌, ◌-◌, ◌%◌, ◌==◌, ◌⊎◌, inl, inr, ℕ, suc, true, false, ◌&&◌, nat_lt, List, [], ◌∷◌, ◌++◌, length, map, filter, get_or, set, take}
+use Rattle.std.proofs.Common.{◌≡◌, ◌≢◌, ◌<◌, ◌≤◌, ◌+◌, ◌%◌, ◌==◌, ◌↔◌, ◌⊎◌, inl, inr, ℕ, suc, true, false, ◌&&◌, nat_lt, List, [], ◌∷◌, ◌++◌, length, map, filter, get_or, set, take}
 use Rattle.std.proofs.Common.{slice_index, refl, sym, ap, ◌∙◌, subst, arith}
 use Rattle.std.specs.Prelude.{max, min}
 use Rattle.std.specs.List.{All, Contains, list_any}
 use Rattle.std.proofs.lemmas.Bool.{cases_eq, cases_lt, cases_Bool, and_parts, ltb-true, eqb-true, eq-eqb, or_cases}
 use Rattle.std.proofs.lemmas.List.{get_or-set_same, get_or-set_other, length-set, get_or_default, get_or-take, length-take-le}
+use Rattle.std.proofs.lemmas.List.Elements.{All-weaker, All-contains_itself, Contains-append_left, Contains-push, Contains-push_cases}
+use Rattle.std.proofs.lemmas.List.Sorted.{Contains-permutation, IsPermutation-sym}
+use Rattle.std.specs.List.Sorted.{IsPermutation}
 use Rattle.tcc_txn.proofs.Lists.{found_number, in_filter, from_filter, in_map, from_map}
 use Rattle.tcc_reads.specs.History.{History, IsBySession, count, owner, entry_at}
 use Rattle.tcc_graph.specs.Relations.{IsReadsPair}
@@ -26,9 +29,9 @@ use Rattle.tcc_clocks.specs.declared.latest.TheConstants.{WIDE}
 use Rattle.tcc_clocks.specs.Parents.{parents, previous, sources}
 use Rattle.tcc_clocks.proofs.LatestLemmas.{session_some}
 use Rattle.tcc_clocks.proofs.Reaching.{same_session, reads_source}
-use Rattle.tcc_order.specs.private.CausalLinks.{AreEnough, AreStillKept, IsCovered, IsFrom, IsLiftable, Overwrites}
-use Rattle.tcc_order.proofs.Covering.{covered_wider, held_in, later_in}
-use Rattle.tcc_order.specs.private.News.{AreNoted, HaveRisen, AreRaised, known_of, IsKnown, IsHead, HaveHeads, KeepsHead, KeepHeads, HasHeads, IsFloor, HasLater, IsIn, IsOtherWriter, TellsNone, IsTold}
+use Rattle.tcc_order.specs.private.CausalLinks.{HasNone}
+use Rattle.tcc_order.specs.private.News.{AreNoted, HaveRisen, AreRaised, known_of, IsKnown, IsHead, HaveHeads, KeepsHead, KeepHeads, HasHeads, IsFloor, IsOtherWriter, TellsNone, IsTold, AreReadingsOf, AreNewsOf, AreNews, AreWider, AreSorted}
+use Rattle.tcc_order.proofs.EmptyRows.{nothing_kept}
 use Rattle.tcc_order.proofs.OrderOrCycle.{before_join}
 
 -- ---- what is known
@@ -77,33 +80,6 @@ module _ (h : History) (numbered : IsBySession h.entries) (owners : List ℕ) (a
         let up : b ≤ slice_index (row_of table c) k = reached_held (IsOtherWriter h a c x) k b l one one.meant.2 in
         subst (λ (r : List ℕ). b ≤ slice_index r k) same up
 
-    module _ (key_index : ℕ) (within : key_index < length (keys h)) (k : ℕ) (l : k < WIDE) (known : ℕ) (is : known ≡ known_of owners from floor (row_of table a) a k)
-        (row : List ℕ) (b : ℕ) (one : IsOneOf h (IsOtherWriter h a c (key_at h key_index)) (from + k) b) where
-      held : b ≤ slice_index (row_of table a) k → IsIn h row a b
-      held upto =
-          held_in h numbered row a (from + k) (slice_index (row_of table a) k) b ((clocks.each a low low).each k l) one.committed one.below one.owned upto
-
-      up : b ≤ slice_index (row_of table c) k
-      up = reached_held (IsOtherWriter h a c (key_at h key_index)) k b l one one.meant.2
-
-      -- of one session no writer that was noted is past what is known
-      pub lane_past : (last : List (List ℕ)) → AreNoted h from (λ b. IsReached h b c) last
-          → min (slice_index (row_of table c) k) (slice_index (row_of last (key_index % length last)) k) ≤ known → IsIn h row a b
-      lane_past last noted less =
-          let new : b ≤ slice_index (row_of last (key_index % length last)) k
-          = noted key_index k b within l record { committed = one.committed; below = one.below; owned = one.owned; meant = (one.meant.0, one.meant.2) } in
-          held (known_holds (IsOtherWriter h a c (key_at h key_index)) k b l one one.meant.1 (omega (arith, up, new, less, is)))
-
-      -- or the row has the last one
-      pub lane_kept : (writers_of : List ℕ) → writers_of ≡ writers h (key_at h key_index)
-          → ((d : ℕ) → IsLiftable owners (from + k) (slice_index (row_of table c) k ∷ []) writers_of a 0 d → (d ≤ known) ⊎ HasLater owners row d) → IsIn h row a b
-      lane_kept writers_of named kept =
-          go (kept b (one.committed, one.meant.1, subst (λ (z : List ℕ). Contains z b) (sym named) one.meant.0, omega (arith, are.each b one.committed one.below, one.owned), up))
-        where
-          go : (b ≤ known) ⊎ HasLater owners row b → IsIn h row a b
-          go (inl under) = held (known_holds (IsOtherWriter h a c (key_at h key_index)) k b l one one.meant.1 (omega (arith, under, is)))
-          go (inr later) = later_in h numbered owners are row a b one.committed later
-
     -- none of the last writers that the reader's clock holds is past what is known
     pub told_past : (key_index : ℕ) → key_index < length (keys h) → (last : List (List ℕ)) → AreNoted h from (λ b. IsReached h b c) last → (known : List ℕ)
         → ((k : ℕ) → k < WIDE → slice_index known k ≡ known_of owners from floor (row_of table a) a k)
@@ -142,65 +118,87 @@ told_alike h numbered owners are from floor is_floor table clocks c reader found
         (sym (subst (λ (z : ℕ). row_of table z ≡ row_of table c) at (same (suc j) (omega arith) inside)))
 
 -- ---- the reads of one transaction
--- what a clock holds is told already
-pub told_none : (h : History) → IsBySession h.entries → (from : ℕ) (table : List (List ℕ)) → AreClocks h from table → (kept : List (List ℕ)) (a : ℕ) → a < count h
-    → (c : ℕ) (x : List ℕ) → TellsNone h from table a c x → IsTold h from kept a c x
-told_none h numbered from table clocks kept a low c x tells k b l one =
-    (b, inl refl, inr (clock_reaches h numbered a (from + k) (slice_index (row_of table a) k) b ((clocks.each a low low).each k l) one.committed one.below one.owned (tells k b l one)))
-
--- what is told stays so where more is kept
-pub still_told : (h : History) (from : ℕ) (a c : ℕ) (x : List ℕ) (old new : List (List ℕ)) → AreStillKept old new → IsTold h from old a c x → IsTold h from new a c x
-still_told h from a c x old new wider told k b l one = covered_wider h old new a b wider (told k b l one)
-
--- and where a row of the source tells it
-pub told_in : (h : History) (from : ℕ) (kept : List (List ℕ)) (a c : ℕ) (x row : List ℕ) → row_of kept a ≡ row
-    → ((k b : ℕ) → k < WIDE → IsOneOf h (IsOtherWriter h a c x) (from + k) b → IsIn h row a b) → IsTold h from kept a c x
-told_in h from kept a c x row here told k b l one = go (told k b l one)
-  where
-    go : IsIn h row a b → IsCovered h kept a b
-    go (d, way, inl there) = (d, way, inl (a, rw here there, inl refl))
-    go (d, way, inr reached) = (d, way, inr reached)
+-- what is told stays so where rows get longer
+pub still_told : (h : History) (from : ℕ) (table : List (List ℕ)) (a c : ℕ) (x : List ℕ) (old new : List (ℕ × ℕ))
+    → ((reading : ℕ × ℕ) → Contains old reading → Contains new reading) → IsTold h from table a old c x → IsTold h from table a new c x
+still_told h from table a c x old new wider (inl (key_index, name, there)) = inl (key_index, name, wider (c, key_index) there)
+still_told h from table a c x old new wider (inr tells) = inr tells
 
 -- the first n of these reads are told
-abbrev pub IsReadTold : History → ℕ → ℕ → List (List ℕ) → ℕ × ℕ → Type 0
-IsReadTold h from c kept read = IsTold h from kept read.1 c (key_at h read.0)
+abbrev pub IsReadTold : History → ℕ → List (List ℕ) → ℕ → List (List (ℕ × ℕ)) → ℕ × ℕ → Type 0
+IsReadTold h from table c rows read = IsTold h from table read.1 (row_of rows read.1) c (key_at h read.0)
 
-abbrev pub AreTold : History → ℕ → ℕ → List (ℕ × ℕ) → List (List ℕ) → ℕ → Type 0
-AreTold h from c reads kept n = (j : ℕ) → j < n → IsReadTold h from c kept (get_or reads j (0, 0))
+abbrev pub AreTold : History → ℕ → List (List ℕ) → ℕ → List (ℕ × ℕ) → List (List (ℕ × ℕ)) → ℕ → Type 0
+AreTold h from table c reads rows n = (j : ℕ) → j < n → IsReadTold h from table c rows (get_or reads j (0, 0))
 
-pub told_more : (h : History) (from : ℕ) (c : ℕ) (reads : List (ℕ × ℕ)) (old new : List (List ℕ)) (n : ℕ)
-    → AreStillKept old new → AreTold h from c reads old n → IsReadTold h from c new (get_or reads n (0, 0)) → AreTold h from c reads new (n + 1)
-told_more h from c reads old new n wider told here j l = go (cases_eq j n)
+pub told_more : (h : History) (from : ℕ) (table : List (List ℕ)) (c : ℕ) (reads : List (ℕ × ℕ)) (old new : List (List (ℕ × ℕ))) (n : ℕ)
+    → AreWider old new → AreTold h from table c reads old n → IsReadTold h from table c new (get_or reads n (0, 0)) → AreTold h from table c reads new (n + 1)
+told_more h from table c reads old new n wider told here j l = go (cases_eq j n)
   where
-    still : (read : ℕ × ℕ) → IsReadTold h from c old read → IsReadTold h from c new read
-    still read was = still_told h from read.1 c (key_at h read.0) old new wider was
+    still : (read : ℕ × ℕ) → IsReadTold h from table c old read → IsReadTold h from table c new read
+    still read was = still_told h from table read.1 c (key_at h read.0) (row_of old read.1) (row_of new read.1) (wider read.1) was
 
-    go : (j ≡ n) ⊎ (j ≢ n) → IsReadTold h from c new (get_or reads j (0, 0))
-    go (inl same) = subst (λ (z : ℕ). IsReadTold h from c new (get_or reads z (0, 0))) (sym same) here
+    go : (j ≡ n) ⊎ (j ≢ n) → IsReadTold h from table c new (get_or reads j (0, 0))
+    go (inl same) = subst (λ (z : ℕ). IsReadTold h from table c new (get_or reads z (0, 0))) (sym same) here
     go (inr other) = still (get_or reads j (0, 0)) (told j (omega (arith, l, other)))
 
+-- one reading more in the row of its source
+module _ (rows : List (List (ℕ × ℕ))) (a : ℕ) (inside : a < length rows) (one : ℕ × ℕ) where
+  abbrev longer : List (List (ℕ × ℕ))
+  longer = set rows a (row_of rows a ++ one ∷ [])
+
+  here_longer : row_of longer a ≡ row_of rows a ++ one ∷ []
+  here_longer = get_or-set_same rows a (row_of rows a ++ one ∷ []) [] inside
+
+  else_longer : (d : ℕ) → d ≢ a → row_of longer d ≡ row_of rows d
+  else_longer d other = get_or-set_other rows a d (row_of rows a ++ one ∷ []) [] other
+
+  pub push_wider : AreWider rows longer
+  push_wider d reading there = go (cases_eq d a)
+    where
+      go : (d ≡ a) ⊎ (d ≢ a) → Contains (row_of longer d) reading
+      go (inl same) = rw (same, here_longer) (Contains-append_left (row_of rows a) (one ∷ []) reading (rw same at there))
+      go (inr other) = rw (else_longer d other) there
+
+  pub push_there : Contains (row_of longer a) one
+  push_there = rw here_longer (Contains-push (row_of rows a) one)
+
+  pub push_sound : (h : History) → (one.1 < length (keys h)) × IsReadsPair h a one.0 (key_at h one.1) → ((d : ℕ) → AreReadingsOf h d (row_of rows d))
+      → (d : ℕ) → AreReadingsOf h d (row_of longer d)
+  push_sound h real sound d c p there = go (cases_eq d a)
+    where
+      which : Contains (row_of rows a) (c, p) ⊎ (one ≡ (c, p)) → (p < length (keys h)) × IsReadsPair h a c (key_at h p)
+      which (inl was) = sound a c p was
+      which (inr same) = subst (λ (z : ℕ × ℕ). (z.1 < length (keys h)) × IsReadsPair h a z.0 (key_at h z.1)) same real
+
+      go : (d ≡ a) ⊎ (d ≢ a) → (p < length (keys h)) × IsReadsPair h d c (key_at h p)
+      go (inr other) = sound d c p (rw (else_longer d other) at there)
+      go (inl same) =
+          subst (λ (z : ℕ). (p < length (keys h)) × IsReadsPair h z c (key_at h p)) (sym same)
+          (which (Contains-push_cases (row_of rows a) one (c, p) (rw (same, here_longer) at there)))
+
 -- each read stands among them
-pub told_all : (h : History) (from : ℕ) (c : ℕ) (reads : List (ℕ × ℕ)) (kept : List (List ℕ))
-    → map (λ read. (key_at h read.0, read.1)) reads ≡ (entry_at h c).reads → AreTold h from c reads kept (length reads) → (a : ℕ) (x : List ℕ)
-    → IsReadsPair h a c x → IsTold h from kept a c x
-told_all h from c reads kept named told a x pair = named_read (from_map (λ read. read.0) filtered x pair.2)
+pub told_all : (h : History) (from : ℕ) (table : List (List ℕ)) (c : ℕ) (reads : List (ℕ × ℕ)) (rows : List (List (ℕ × ℕ)))
+    → map (λ read. (key_at h read.0, read.1)) reads ≡ (entry_at h c).reads → AreTold h from table c reads rows (length reads) → (a : ℕ) (x : List ℕ)
+    → IsReadsPair h a c x → IsTold h from table a (row_of rows a) c x
+told_all h from table c reads rows named told a x pair = named_read (from_map (λ read. read.0) filtered x pair.2)
   where
     filtered : List (List ℕ × ℕ)
     filtered = filter (λ read. read.1 == a) (entry_at h c).reads
 
-    at_index : (read : ℕ × ℕ) → key_at h read.0 ≡ x → read.1 ≡ a → Contains reads read → IsTold h from kept a c x
+    at_index : (read : ℕ × ℕ) → key_at h read.0 ≡ x → read.1 ≡ a → Contains reads read → IsTold h from table a (row_of rows a) c x
     at_index read name source (j, l, e) =
         let here : get_or reads j (0, 0) ≡ read = get_or_default reads j (0, 0) read l ∙ e in
         let key : key_at h (get_or reads j (0, 0)).0 ≡ x = ap (λ z. key_at h z.0) here ∙ name in
         let from_a : (get_or reads j (0, 0)).1 ≡ a = ap (λ z. z.1) here ∙ source in
-        subst (λ (y : List ℕ). IsTold h from kept a c y) key
-        (subst (λ (z : ℕ). IsTold h from kept z c (key_at h (get_or reads j (0, 0)).0)) from_a (told j l))
+        subst (λ (y : List ℕ). IsTold h from table a (row_of rows a) c y) key
+        (subst (λ (z : ℕ). IsTold h from table z (row_of rows z) c (key_at h (get_or reads j (0, 0)).0)) from_a (told j l))
 
     by_index : (read : List ℕ × ℕ) → read.0 ≡ x → read.1 ≡ a
-        → (index : ℕ × ℕ) × Contains reads index × ((key_at h index.0, index.1) ≡ read) → IsTold h from kept a c x
+        → (index : ℕ × ℕ) × Contains reads index × ((key_at h index.0, index.1) ≡ read) → IsTold h from table a (row_of rows a) c x
     by_index read name source (index, there, same) = at_index index (ap (λ z. z.0) same ∙ name) (ap (λ z. z.1) same ∙ source) there
 
-    named_read : (read : List ℕ × ℕ) × Contains filtered read × (read.0 ≡ x) → IsTold h from kept a c x
+    named_read : (read : List ℕ × ℕ) × Contains filtered read × (read.0 ≡ x) → IsTold h from table a (row_of rows a) c x
     named_read (read, there, name) =
         let w = from_filter (λ read. read.1 == a) (entry_at h c).reads read there in
         by_index read name (eqb-true read.1 a w.1)
@@ -361,36 +359,86 @@ module _ (h : History) (order : List ℕ) (numbering : IsNumbering (count h) ord
       noted_fewer h from (λ b. IsReached h b (get_or order n 0)) (Contains (take n order)) rows
       (λ b reached. reached_passed n b inside reached) noted
 
--- the reads of those that stand before index n are told
-abbrev pub ArePassed : History → ℕ → List ℕ → List (List ℕ) → ℕ → Type 0
-ArePassed h from order kept n = (j : ℕ) → j < n → (a : ℕ) (x : List ℕ) → IsReadsPair h a (get_or order j 0) x → IsTold h from kept a (get_or order j 0) x
+-- the readings of those that stand before index n are told
+abbrev pub ArePassed : History → ℕ → List (List ℕ) → List ℕ → List (List (ℕ × ℕ)) → ℕ → Type 0
+ArePassed h from table order rows n =
+    (j : ℕ) → j < n → (a : ℕ) (x : List ℕ) → IsReadsPair h a (get_or order j 0) x → IsTold h from table a (row_of rows a) (get_or order j 0) x
 
-pub passed_more : (h : History) (from : ℕ) (order : List ℕ) (old new : List (List ℕ)) (n : ℕ) → AreStillKept old new
-    → ((a : ℕ) (x : List ℕ) → IsReadsPair h a (get_or order n 0) x → IsTold h from new a (get_or order n 0) x)
-    → ArePassed h from order old n → ArePassed h from order new (n + 1)
-passed_more h from order old new n wider here told j l a x pair = go (cases_eq j n)
+pub passed_more : (h : History) (from : ℕ) (table : List (List ℕ)) (order : List ℕ) (old new : List (List (ℕ × ℕ))) (n : ℕ) → AreWider old new
+    → ((a : ℕ) (x : List ℕ) → IsReadsPair h a (get_or order n 0) x → IsTold h from table a (row_of new a) (get_or order n 0) x)
+    → ArePassed h from table order old n → ArePassed h from table order new (n + 1)
+passed_more h from table order old new n wider here told j l a x pair = go (cases_eq j n)
   where
-    go : (j ≡ n) ⊎ (j ≢ n) → IsTold h from new a (get_or order j 0) x
-    go (inr other) = still_told h from a (get_or order j 0) x old new wider (told j (omega (arith, l, other)) a x pair)
+    go : (j ≡ n) ⊎ (j ≢ n) → IsTold h from table a (row_of new a) (get_or order j 0) x
+    go (inr other) =
+        still_told h from table a (get_or order j 0) x (row_of old a) (row_of new a) (wider a) (told j (omega (arith, l, other)) a x pair)
     go (inl same) =
-        subst (λ (z : ℕ). IsTold h from new a (get_or order z 0) x) (sym same)
+        subst (λ (z : ℕ). IsTold h from table a (row_of new a) (get_or order z 0) x) (sym same)
         (here a x (subst (λ (z : ℕ). IsReadsPair h a (get_or order z 0) x) same pair))
 
--- so all derived pairs from the sessions of the block are covered
-pub passed_all : (h : History) (from : ℕ) (order : List ℕ) (kept : List (List ℕ)) (n : ℕ) → IsNumbering (count h) order
-    → length order ≤ n → ArePassed h from order kept n → AreEnough h (Overwrites h) (IsFrom h from (from + WIDE)) kept
-passed_all h from order kept n numbering whole told a b (low, below, (c, x, pair, writer, apart, reached)) some meant = go (numbering.each c pair.1)
+pub passed_all : (h : History) (from : ℕ) (table : List (List ℕ)) (order : List ℕ) (rows : List (List (ℕ × ℕ))) (n : ℕ) → IsNumbering (count h) order
+    → length order ≤ n → length rows ≡ count h → ((a : ℕ) → AreReadingsOf h a (row_of rows a)) → ArePassed h from table order rows n
+    → AreNews h from table rows
+passed_all h from table order rows n numbering whole long sound told = record {
+  long = long;
+  each = λ a. record { sound = sound a; enough = λ c x pair. go a c x pair (numbering.each c pair.1) };
+}
   where
-    one : IsOneOf h (IsOtherWriter h a c x) (from + (owner h b - from)) b
-    one = record { committed = some; below = below; owned = omega (arith, meant.0); meant = (writer, apart, reached) }
-
-    go : Contains order c → IsCovered h kept a b
-    go (j, l, e) =
+    go : (a c : ℕ) (x : List ℕ) → IsReadsPair h a c x → Contains order c → IsTold h from table a (row_of rows a) c x
+    go a c x pair (j, l, e) =
         let at : get_or order j 0 ≡ c = get_or_default order j 0 c l ∙ e in
-        let tells : IsTold h from kept a c x
-        = subst (λ (z : ℕ). IsTold h from kept a z x) at
-        (told j (omega (arith, l, whole)) a x (subst (λ (z : ℕ). IsReadsPair h a z x) (sym at) pair)) in
-        tells (owner h b - from) b (omega (arith, meant.0, meant.1)) one
+        subst (λ (z : ℕ). IsTold h from table a (row_of rows a) z x) at
+        (told j (omega (arith, l, whole)) a x (subst (λ (z : ℕ). IsReadsPair h a z x) (sym at) pair))
+
+-- rows with no readings
+pub none_sound : (h : History) (rows : List (List (ℕ × ℕ))) → HasNone rows → (a : ℕ) → AreReadingsOf h a (row_of rows a)
+none_sound h rows none a c key_index there = absurd (nothing_kept rows none a (c, key_index) there)
+
+-- rows in any order
+pub news_sorted : (h : History) (from : ℕ) (table : List (List ℕ)) (old new : List (List (ℕ × ℕ))) → length new ≡ length old → AreSorted old new
+    → AreNews h from table old → AreNews h from table new
+news_sorted h from table old new same sorted news = record {
+  long = same ∙ news.long;
+  each = λ a. record {
+    sound = λ c key_index there. (news.each a).sound c key_index ((sorted a (c, key_index)).0 there);
+    enough = λ c x pair. still_told h from table a c x (row_of old a) (row_of new a) (λ reading. (sorted a reading).1) ((news.each a).enough c x pair);
+  };
+}
+
+-- one row put in order, or one more that is in order already
+pub sorted_none : (rows : List (List (ℕ × ℕ))) → AreSorted rows rows
+sorted_none rows a reading = (λ there. there, λ there. there)
+
+pub sorted_more : (old mid : List (List (ℕ × ℕ))) (index : ℕ) (row : List (ℕ × ℕ)) → index < length mid → IsPermutation (row_of mid index) row
+    → AreSorted old mid → AreSorted old (set mid index row)
+sorted_more old mid index row inside permuted sorted a reading = go (cases_eq a index)
+  where
+    go : (a ≡ index) ⊎ (a ≢ index) → Contains (row_of (set mid index row) a) reading ↔ Contains (row_of old a) reading
+    go (inr other) = rw (get_or-set_other mid index a row [] other) (sorted a reading)
+    go (inl same) =
+        rw (same, get_or-set_same mid index row [] inside) (
+          λ there. (sorted index reading).0 (Contains-permutation row (row_of mid index) reading (IsPermutation-sym (row_of mid index) row permuted) there),
+          λ there. Contains-permutation (row_of mid index) row reading permuted ((sorted index reading).1 there),
+        )
+
+-- what has no readings tells nothing
+pub nothing_told : (h : History) (from : ℕ) (table : List (List ℕ)) (a : ℕ) (readings : List (ℕ × ℕ)) → AreNewsOf h from table a readings → readings ≡ []
+    → (c : ℕ) (x : List ℕ) → IsReadsPair h a c x → TellsNone h from table a c x
+nothing_told h from table a readings news none c x pair = go (news.enough c x pair)
+  where
+    go : IsTold h from table a readings c x → TellsNone h from table a c x
+    go (inl (key_index, name, there)) = absurd (nothing_in (c, key_index) (rw none at there))
+    go (inr tells) = tells
+
+-- who reads is a transaction
+pub news_readers : (h : History) (from : ℕ) (table : List (List ℕ)) (rows : List (List (ℕ × ℕ))) → AreNews h from table rows → (n : ℕ) → n ≡ count h
+    → All (λ row. All (λ reading. reading.0 < n) row) rows
+news_readers h from table rows news n whole k d l = rw (get_or_default rows k d [] l, whole) (readers k)
+  where
+    readers : (a : ℕ) → All (λ reading. reading.0 < count h) (row_of rows a)
+    readers a =
+        All-weaker (Contains (row_of rows a)) (λ reading. reading.0 < count h) (λ reading there. ((news.each a).sound reading.0 reading.1 there).1.1) (row_of rows a)
+        (All-contains_itself (row_of rows a))
 
 -- ---- heads
 module _ (h : History) (numbered : IsBySession h.entries) (owners : List ℕ) (are : AreOwners h owners) (from floor : ℕ) (is_floor : IsFloor owners from floor)

@@ -1,10 +1,10 @@
 -- Writers rise by number, so the last up to what a clock holds of a session is found by halving.
-use Rattle.std.proofs.Common.{◌≡◌, ◌≢◌, ◌<◌, ◌≤◌, ◌+◌, ◌-◌, ◌⊎◌, inl, inr, ℕ, true, false, List, [], ◌∷◌, length, get_or, slice_index, refl, ◌∙◌, subst, arith}
+use Rattle.std.proofs.Common.{◌≡◌, ◌≢◌, ◌<◌, ◌≤◌, ◌+◌, ◌-◌, ◌⊎◌, inl, inr, ℕ, true, false, List, [], ◌∷◌, length, get_or, set, slice_index, refl, ◌∙◌, subst, arith}
 use Rattle.std.specs.List.{All, Contains}
 use Rattle.std.specs.List.Sorted.{IsNonDecreasing, IsPartitionPoint}
 use Rattle.std.specs.Prelude.{nat_le}
 use Rattle.std.proofs.lemmas.Bool.{cases_lt, cases_eq, leb-true, leb-false}
-use Rattle.std.proofs.lemmas.List.{get_or_default}
+use Rattle.std.proofs.lemmas.List.{get_or_default, get_or-set_same, get_or-set_other}
 use Rattle.tcc_reads.specs.History.{History, IsBySession}
 use Rattle.tcc_clocks.specs.Clocks.{IsBefore, IsOneOf, AreOwners, AreLatestOf}
 use Rattle.tcc_order.specs.private.CausalLinks.{IsLiftable, IsLifted, IsLastUpTo, IsLastBut, AreOrdered, IsClock}
@@ -129,3 +129,34 @@ module _ (owners : List ℕ) (ordered : AreOrdered owners) (session top : ℕ) (
               from (inl same) = omega (arith, (tops at).1, subst (λ (z : ℕ). slice_index owners last ≡ slice_index owners z) same refl)
               from (inr far) =
                   omega (arith, (tops at).1, ordered last top (omega (arith, more)) (omega (arith, below_top is.attained, far)) (tops at).0)
+
+pub lifted_at : (owners : List ℕ) (from k : ℕ) (clock ws : List ℕ) (a old new session top : ℕ) → session ≡ from + k → top ≡ slice_index clock k
+    → IsLifted owners session (top ∷ []) ws a 0 old new → IsLifted owners from clock ws a k old new
+lifted_at owners from k clock ws a old new session top here at is = record {
+  attained = go is.attained;
+  kept = is.kept;
+  greatest = λ b w. is.greatest b (w.0, w.1, w.2, omega (arith, w.3, here), omega (arith, w.4, at));
+}
+  where
+    go : (new ≡ old) ⊎ IsLiftable owners session (top ∷ []) ws a 0 new → (new ≡ old) ⊎ IsLiftable owners from clock ws a k new
+    go (inl same) = inl same
+    go (inr w) = inr (w.0, w.1, w.2, omega (arith, w.3, here), omega (arith, w.4, at))
+
+-- ---- one session more
+module _ {owners : List ℕ} {from : ℕ} {clock ws : List ℕ} {a : ℕ} (old mid : List ℕ) {n v : ℕ} (inside : n < length mid)
+    (before : (k : ℕ) → k < n → IsLifted owners from clock ws a k (slice_index old k) (slice_index mid k))
+    (after : (k : ℕ) → n ≤ k → slice_index mid k ≡ slice_index old k)
+    (here : IsLifted owners (from + n) (slice_index clock n ∷ []) ws a 0 (slice_index mid n) v) where
+  pub session_lifted : (k : ℕ) → k < n + 1 → IsLifted owners from clock ws a k (slice_index old k) (slice_index (set mid n v) k)
+  session_lifted k l = go (cases_eq k n)
+    where
+      now : IsLifted owners from clock ws a n (slice_index old n) v
+      now = lifted_at owners from n clock ws a (slice_index old n) v (from + n) (slice_index clock n) refl refl
+          (subst (λ (z : ℕ). IsLifted owners (from + n) (slice_index clock n ∷ []) ws a 0 z v) (after n (omega arith)) here)
+
+      go : (k ≡ n) ⊎ (k ≢ n) → IsLifted owners from clock ws a k (slice_index old k) (slice_index (set mid n v) k)
+      go (inl same) = rw (same, get_or-set_same mid n v 0 inside) now
+      go (inr other) = rw (get_or-set_other mid n k v 0 other) (before k (omega arith))
+
+  pub session_after : (k : ℕ) → n + 1 ≤ k → slice_index (set mid n v) k ≡ slice_index old k
+  session_after k l = let other : k ≢ n = omega arith in get_or-set_other mid n k v 0 other ∙ after k (omega arith)

@@ -1,5 +1,5 @@
 -- Links from shares of the sessions: those from all sessions are all, and what shares have is joined.
-use Rattle.std.proofs.Common.{◌≡◌, ◌<◌, ◌≤◌, ◌-◌, ◌*◌, ◌⊎◌, inl, inr, ℕ, zero, suc, List, [], ◌∷◌, length, map, get_or, sym, ◌∙◌, ap, subst, zero-add, arith}
+use Rattle.std.proofs.Common.{◌≡◌, ◌<◌, ◌≤◌, ◌+◌, ◌-◌, ◌*◌, ◌⊎◌, inl, inr, ℕ, zero, suc, List, [], ◌∷◌, ◌++◌, length, map, get_or, sym, ◌∙◌, ap, subst, zero-add, arith}
 use Rattle.std.specs.Prelude.{Contains, Ok, IfOk, min}
 use Rattle.std.specs.declared.result.Result.{Result}
 use Rattle.std.specs.List.{AllZip, range_with_len}
@@ -17,7 +17,7 @@ use Rattle.tcc_graph.specs.Tables.{row_of}
 use Rattle.tcc_clocks.specs.declared.latest.TheConstants.{WIDE}
 use Rattle.tcc_order.specs.private.CausalLinks.{AreJoined, AreLinks, AreLinksFrom, IsCovered, Overwrites}
 use Rattle.tcc_order.proofs.Finding.{blocks_cover, causal_links}
-use Rattle.tcc_order.proofs.Covering.{covered_wider}
+use Rattle.tcc_order.proofs.Needing.{covered_wider}
 
 -- those from all blocks are all
 pub all_links : (h : History) (sessions : ℕ) → ((b : ℕ) → 0 < b → b < count h → owner h b < sessions) → (blocks : ℕ) → blocks ≡ div_ceil sessions 64

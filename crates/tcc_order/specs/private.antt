@@ -8,6 +8,7 @@ pub mod Queued
 pub mod Chains
 pub mod CausalLinks
 pub mod Sweeps
+pub mod ByKey
 pub mod News
 pub mod Found
 pub mod AtomicLinks

@@ -1,20 +1,62 @@
 //! The links at `Causal` that are kept: of each transaction and each session the last one that has to stand before it, where
-//! it doesn't reach it. Only readings that may tell of one are looked at (`news`), at the reader's turn (`told`). For N transactions
-//! of S sessions, R reads, of which P may tell of a link, and W writers of a key that takes O(S (N + R) + P (64 + log W)) steps for
-//! links from few sessions each. A block of sessions none of which writes a key that is read from another transaction is passed over.
-ghost use Rattle.std.specs.Prelude.{◌≡◌, ◌≢◌, ◌<◌, ◌≤◌, ◌-◌, ◌*◌, ◌⊎◌, ◌∷◌, [], nat_le, true, false, length, slice_index, slice_index_or, All, IfOk};
-ghost use Rattle.std.specs.List.Sorted.{IsNonDecreasing, IsPartitionPoint};
-ghost use Rattle.tcc_reads.specs.History.{count};
-ghost use Rattle.tcc_graph.specs.{Levels.causally, Orders.IsNumbering};
-ghost use Rattle.tcc_clocks.specs.{Parents.ArePrevious, Clocks.LeadsOnward, declared.latest.TheConstants.WIDE};
-ghost use Rattle.tcc_order.specs.private.CausalLinks.{IsLifted, AreLinks, AreLinksFrom, AreOrdered, IsLastUpTo, IsLastBut};
+//! it doesn't reach it. Only readings that may tell of one are looked at (`news`). One that an earlier transaction of the same
+//! session has too is kept there alone; and where the readers of both are alike, the later one isn't looked at. For N transactions
+//! of S sessions, R reads, of which P pairs of a source and a key have such readings, and W writers of a key that takes
+//! O(S (N + R + P log W)). A block of sessions none of which writes a key that is read from another transaction is passed over.
+ghost use Rattle.std.specs.Prelude.{◌≡◌, ◌≢◌, ◌<◌, ◌≤◌, ◌+◌, ◌-◌, ◌*◌, ◌⊎◌, ◌↔◌, ℕ, length, slice_index, slice_index_or, All, Contains, IfOk, OnOk};
+ghost use Rattle.tcc_reads.specs.History.{IsBySession, count, owner};
+ghost use Rattle.tcc_graph.specs.{Relations.IsReadsPair, Levels.causally, Tables.row_of, Orders.IsNumbering};
+ghost use Rattle.tcc_clocks.specs.{Parents.ArePrevious, Spans.AreBounds, declared.latest.TheConstants.WIDE};
+ghost use Rattle.tcc_clocks.specs.Clocks.{AreOwners, AreClocks, LeadsOnward};
+ghost use Rattle.tcc_order.specs.private.CausalLinks.{IsOverwritten, IsLifted, AreDerived, AreEnough, AreLinks, AreLinksFrom, AreStillKept, IsFrom, Overwrites, lifted_by, AreOrdered, CanLift, IsLastUpTo, IsLastBut, AreLatestPast, KeepsNews, IsBegun};
 ghost use Rattle.tcc_order.specs.private.Sweeps.{IsSweep};
+ghost use Rattle.tcc_order.specs.private.News.{AreNews, AreNewsOf};
+ghost use Rattle.tcc_order.specs.private.ByKey.{past_of, IsTop, AreAlike, IsLikeBefore, key_index_in, reader_in};
+ghost use Rattle.std.specs.List.Sorted.{IsNonDecreasing, IsPartitionPoint};
+ghost use Rattle.std.specs.Prelude.{nat_le, true, false, ◌∷◌, []};
 
-use crate::news::{keep_block, no_writers};
+use crate::news::{find_news, no_writers};
+use crate::reading_rows::{Readings, no_readings};
 use crate::rows::{MadeRows, empty_rows};
 use std::alloc::Global;
-use tcc_clocks::{SharedRows, Steps, WIDE, find_clocks, needed_blocks, owners, steps_along};
+use tcc_bits::Row;
+use tcc_clocks::{
+    Clock, SharedRows, Steps, WIDE, between, block_bounds, find_clocks, needed_blocks, owners,
+    raise_each, span_of, steps_along,
+};
 use tcc_graph::LargeGraph;
+use tcc_txn::NoMemory;
+
+/// Up to so many writers of a key are looked at one by one.
+const FEW: usize = 128;
+
+/// Raises the number of a session to that of a writer other than `a`, where the clock reaches it.
+fn lift_writer(need: &mut [u32], owners: &[u32], from: u32, clock: &[u32], b: u32, a: u32)
+    requires same { length need.old ≡ length clock.now }
+    requires inside { b < length owners.now }
+    ensures same { length need.new ≡ length need.old }
+    ensures each { (k : ℕ) → k < length need.old → slice_index need.new k ≡ lifted_by owners.now from clock.now a b k (slice_index need.old k) }
+{
+    let owner = owners[b as usize];
+    if b > 0 && b != a && owner >= from {
+        let column = (owner - from) as usize;
+        if column < need.len() && b <= clock[column] {
+            need[column] = b.max(need[column]);
+        }
+    }
+}
+
+/// Raises the number of a session to each of these writers in turn, where the clock reaches it.
+fn lift_each(need: &mut [u32], owners: &[u32], from: u32, clock: &[u32], writers: &[u32], a: u32)
+    requires same { length need.old ≡ length clock.now }
+    requires inside { All (λ b. b < length owners.now) writers.now }
+    ensures same { length need.new ≡ length need.old }
+    ensures each { (k : ℕ) → k < length need.old → IsLifted owners.now from clock.now writers.now a k (slice_index need.old k) (slice_index need.new k) }
+{
+    for writer in writers {
+        lift_writer(need, owners, from, clock, *writer, a);
+    }
+}
 
 /// How many of these, which rise, are no greater than `top`.
 fn count_up_to(numbers: &[u32], top: u32) -> usize
@@ -74,6 +116,124 @@ pub(crate) fn lift_session(
     number
 }
 
+/// Raises the number of each session to that of the last writer, other than `a`, that the clock reaches.
+fn lift_sessions(
+    need: &mut [u32],
+    owners: &[u32],
+    from: u32,
+    clock: &[u32],
+    writers: &[u32],
+    a: u32,
+)
+    requires { CanLift owners.now from clock.now writers.now need.old }
+    ensures same { length need.new ≡ length need.old }
+    ensures each { (k : ℕ) → k < length need.old → IsLifted owners.now from clock.now writers.now a k (slice_index need.old k) (slice_index need.new k) }
+{
+    for (column, number) in need.iter_mut().enumerate() {
+        let session = from as usize + column;
+        *number = lift_session(owners, session, clock[column], writers, a, *number);
+    }
+}
+
+/// Raises the numbers of the sessions to those of writers, other than `a`, that the clock reaches: writer by writer where they
+/// are few, and else session by session.
+fn lift_writers(need: &mut [u32], owners: &[u32], from: u32, clock: &[u32], writers: &[u32], a: u32)
+    requires { CanLift owners.now from clock.now writers.now need.old }
+    ensures same { length need.new ≡ length need.old }
+    ensures each { (k : ℕ) → k < length need.old → IsLifted owners.now from clock.now writers.now a k (slice_index need.old k) (slice_index need.new k) }
+{
+    if writers.len() <= FEW {
+        lift_each(need, owners, from, clock, writers, a);
+    } else {
+        lift_sessions(need, owners, from, clock, writers, a);
+    }
+}
+
+/// Where the readings of one key end that begin at `start`.
+fn end_of_key(readings: &[(u32, u32)], start: usize) -> usize
+    requires { start < length readings.now }
+    ensures past { start < result }
+    ensures within { result ≤ length readings.now }
+    ensures same { (k : ℕ) → start ≤ k → k < result → key_index_in readings.now k ≡ key_index_in readings.now start }
+{
+    let key_index = readings[start].1;
+    for index in start + 1..readings.len() {
+        if readings[index].1 != key_index {
+            return index;
+        }
+    }
+    readings.len()
+}
+
+/// Leaves of each session only a number that is past what is known.
+fn keep_past(top: &mut [u32], known: &[u32])
+    requires { length top.old ≡ length known.now }
+    ensures same { length top.new ≡ length top.old }
+    ensures each { (k : ℕ) → k < length top.old → slice_index top.new k ≡ past_of (slice_index known.now k) (slice_index top.old k) }
+{
+    for (session, last) in top.iter_mut().enumerate() {
+        *last = if *last <= known[session] { 0 } else { *last };
+    }
+}
+
+/// Of each session of the block the greatest number that reaches one of the readers from `start` to below `end`, where it is past
+/// the clock of `a`. One with that clock is passed over.
+fn top_of(table: &SharedRows, readings: &[(u32, u32)], start: usize, end: usize, a: u32) -> Clock
+    requires upto { start ≤ end }
+    requires within { end ≤ length readings.now }
+    requires readers { (k : ℕ) → k < length readings.now → reader_in readings.now k < length table.now }
+    requires wide { (c : ℕ) → c < length table.now → length (row_of table.now c) ≡ WIDE }
+    requires below { a < length table.now }
+    ensures wide { length result ≡ WIDE }
+    ensures tops { (k : ℕ) → k < WIDE → IsTop table.now readings.now start end (row_of table.now a) k (slice_index result k) }
+{
+    let known = table.get(a);
+    let mut top = [0; WIDE];
+    for index in start..end {
+        let reader = readings[index].0;
+        if !table.are_same(reader, a) {
+            raise_each(&mut top, table.get(reader));
+        }
+    }
+    keep_past(&mut top, known);
+    top
+}
+
+/// What has to stand before `a` by what was read from it: of each session of the block the last writer, past those that reach
+/// `a`, of a key that a transaction reads from `a`, where it reaches that reader. The readers of one key are taken together, so
+/// that its writers are gone through once.
+fn needed(
+    need: &mut [u32],
+    graph: &LargeGraph,
+    owners: &[u32],
+    from: u32,
+    bounds: (usize, usize),
+    table: &SharedRows,
+    readings: &[(u32, u32)],
+    a: u32,
+)
+    requires wide { length need.old ≡ WIDE }
+    requires numbered { IsBySession graph.now.entries }
+    requires owners { AreOwners graph.now owners.now }
+    requires clocks { AreClocks graph.now from table.now }
+    requires bounds { AreBounds owners.now from bounds.0 bounds.1 }
+    requires readings { AreNewsOf graph.now from table.now a readings.now }
+    requires below { a < count graph.now }
+    ensures { AreLatestPast graph.now (IsOverwritten graph.now (IsReadsPair graph.now a) a) from (row_of table.now a) need.new }
+{
+    need.fill(0);
+    let mut start = 0;
+    while start < readings.len() {
+        let end = end_of_key(readings, start);
+        let top = top_of(table, readings, start, end, a);
+        let key_index = readings[start].1;
+        let all = graph.writers_at(key_index);
+        let writers = between(all, span_of(all, bounds.0, bounds.1));
+        lift_writers(need, owners, from, &top, writers, a);
+        start = end;
+    }
+}
+
 /// The number before `c`, if it is of the same session, or else 0.
 pub(crate) fn before_in_session(owners: &[u32], c: u32) -> u32
     requires { c < length owners.now }
@@ -86,6 +246,120 @@ pub(crate) fn before_in_session(owners: &[u32], c: u32) -> u32
     } else {
         0
     }
+}
+
+/// Begins the run anew where `a` is the first transaction of its session.
+fn begin_session(run: &mut [u32], owners: &[u32], a: u32)
+    requires { a < length owners.now }
+    ensures same { length run.new ≡ length run.old }
+    ensures begun { IsBegun owners.now a run.old run.new }
+{
+    if before_in_session(owners, a) > 0 {
+        return;
+    }
+    run.fill(0);
+}
+
+/// Whether these are readers of the same keys, and each known to have the row of the other at its index.
+fn are_alike(table: &SharedRows, readings: &[(u32, u32)], others: &[(u32, u32)]) -> bool
+    requires readers { All (λ reading. reading.0 < length table.now) readings.now }
+    requires others { All (λ reading. reading.0 < length table.now) others.now }
+    ensures { result ≡ true → AreAlike table.now readings.now others.now }
+{
+    if readings.len() != others.len() {
+        return false;
+    }
+    for index in 0..readings.len() {
+        if readings[index].1 != others[index].1 {
+            return false;
+        }
+        if !table.are_same(readings[index].0, others[index].0) {
+            return false;
+        }
+    }
+    true
+}
+
+/// Whether the readers of `a` are like those of the transaction before it in its session.
+fn is_like_before(owners: &[u32], table: &SharedRows, readings: &[Readings], a: u32) -> bool
+    requires below { a < length owners.now }
+    requires long { length readings.now ≡ length owners.now }
+    requires readers { All (λ row. All (λ reading. reading.0 < length table.now) row) readings.now }
+    ensures { result ≡ true → IsLikeBefore owners.now table.now readings.now a }
+{
+    let before = before_in_session(owners, a);
+    if before == 0 {
+        return false;
+    }
+    let from_a = readings[a as usize].as_slice();
+    let from_before = readings[before as usize].as_slice();
+    are_alike(table, from_a, from_before)
+}
+
+/// Whether more may have to stand before `a` than what its clock holds, and than what has to stand before the transaction before
+/// it in its session.
+fn has_more(owners: &[u32], table: &SharedRows, readings: &[Readings], a: u32) -> bool
+    requires below { a < length owners.now }
+    requires long { length readings.now ≡ length owners.now }
+    requires readers { All (λ row. All (λ reading. reading.0 < length table.now) row) readings.now }
+    ensures { result ≡ false → (row_of readings.now a ≡ []) ⊎ IsLikeBefore owners.now table.now readings.now a }
+{
+    if readings[a as usize].as_slice().is_empty() {
+        return false;
+    }
+    !is_like_before(owners, table, readings, a)
+}
+
+/// Keeps the numbers that are greater than those of the clock and those of the run: what the run holds is kept already, into an
+/// earlier transaction of the session.
+fn keep(kept: &mut Row<u32>, need: &[u32], clock: &[u32], run: &mut [u32]) -> Result<(), NoMemory>
+    requires long { length need.now ≡ length clock.now }
+    requires runs { length run.old ≡ length need.now }
+    ensures same { length run.new ≡ length run.old }
+    ensures kept { OnOk result (KeepsNews need.now clock.now run.old run.new kept.old kept.new (length need.now)) }
+{
+    for (session, number) in need.iter().enumerate() {
+        let known = clock[session].max(run[session]);
+        if *number > known {
+            kept.push(*number)?;
+            run[session] = *number;
+        }
+    }
+    Ok(())
+}
+
+/// Keeps the links from the sessions of a block.
+fn keep_block(
+    kept: &mut [Row<u32>],
+    graph: &LargeGraph,
+    owners: &[u32],
+    from: u32,
+    table: &SharedRows,
+    readings: &[Readings],
+) -> Result<(), NoMemory>
+    requires numbered { IsBySession graph.now.entries }
+    requires owners { AreOwners graph.now owners.now }
+    requires clocks { AreClocks graph.now from table.now }
+    requires readings { AreNews graph.now from table.now readings.now }
+    requires long { length kept.old ≡ count graph.now }
+    requires derived { AreDerived (Overwrites graph.now) kept.old }
+    ensures same { length kept.new ≡ length kept.old }
+    ensures derived { OnOk result (AreDerived (Overwrites graph.now) kept.new) }
+    ensures still { OnOk result (AreStillKept kept.old kept.new) }
+    ensures enough { OnOk result (AreEnough graph.now (Overwrites graph.now) (IsFrom graph.now from (from + WIDE)) kept.new) }
+{
+    let mut need = [0; WIDE];
+    let mut run = [0; WIDE];
+    let bounds = block_bounds(owners, from);
+    for a in 0..graph.count() {
+        begin_session(&mut run, owners, a);
+        if has_more(owners, table, readings, a) {
+            let from_a = readings[a as usize].as_slice();
+            needed(&mut need, graph, owners, from, bounds, table, from_a, a);
+            keep(&mut kept[a as usize], &need, table.get(a), &mut run)?;
+        }
+    }
+    Ok(())
 }
 
 /// By what the links from each block of sessions are found.
@@ -126,6 +400,7 @@ pub(crate) fn links_from(
     let blocks = graph.sessions().len().div_ceil(WIDE);
     let mut kept = empty_rows(alloc, graph.count())?;
     let mut table = SharedRows::new(alloc, graph.count())?;
+    let mut readings = no_readings(alloc, graph.count())?;
     let mut last = no_writers(alloc, graph)?;
     let mut heads = vec![in alloc; 0; last.len()]?;
     for block in first..end.min(blocks) {
@@ -137,9 +412,18 @@ pub(crate) fn links_from(
         let order = sweep.order;
         let steps = sweep.steps;
         find_clocks(&mut table, graph, owners, from, order, steps)?;
-        keep_block(
-            &mut kept, &mut last, &mut heads, owners, from, graph, &table, order, steps,
+        find_news(
+            &mut readings,
+            &mut last,
+            &mut heads,
+            owners,
+            from,
+            graph,
+            &table,
+            order,
+            steps,
         )?;
+        keep_block(&mut kept, graph, owners, from, &table, &readings)?;
     }
     Ok(kept)
 }

@@ -10,10 +10,10 @@ mod kahn;
 pub mod laws;
 mod news;
 mod placement;
+mod reading_rows;
 mod ready;
 mod rows;
 mod shares;
-mod told;
 mod waiting;
 
 pub use clocks_along::clocks;

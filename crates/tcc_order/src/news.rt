@@ -1,22 +1,21 @@
-//! The links from a block of sessions, by what readers tell of those that they read from: the last writers of each key, by session, are
-//! noted along an order of the causal pairs (a sweep), and a reader is asked at its turn. Who is new is asked before who is known:
+//! Which readings may tell more of the transaction that they read from than its clock does: the last writers of each key, by session,
+//! are noted along an order of the causal pairs (a sweep), and a reader is asked at its turn. Who is new is asked before who is known:
 //! where no writer noted so far is past the clock of the source, the reading is done, by one comparison of 64 numbers; or of one
 //! alone, the head, where all writers noted so far reach it, as they mostly do. For N
-//! transactions, R reads and W writes that takes N + 64 R + W steps a block of 64 sessions, beside those of what is told (`told`). A key
-//! has a row of 64 numbers; past `SLOTS` keys several share one, which then holds more than it must: some readings are looked at in vain.
-ghost use Rattle.std.specs.Prelude.{◌≡◌, ◌<◌, ◌≤◌, ◌+◌, false, true, ℕ, List, min, length, slice_index, All, IfOk, OnOk};
+//! transactions, R reads and W writes that takes N + 64 R + W steps a block of 64 sessions. A key has a row of 64 numbers; past
+//! `SLOTS` keys several share one, which then holds more than it must: some readings are looked at in vain.
+ghost use Rattle.std.specs.Prelude.{◌≡◌, ◌<◌, ◌≤◌, false, true, ℕ, List, min, length, slice_index, All, IfOk, OnOk};
 ghost use Rattle.std.specs.List.Sorted.{IsNonDecreasing};
 ghost use Rattle.tcc_reads.specs.History.{IsBySession, count};
 ghost use Rattle.tcc_graph.specs.{Relations.IsReadsPair, Keys.keys, Keys.key_at, Tables.row_of, Orders.IsNumbering, Walks.IsReached};
 ghost use Rattle.tcc_clocks.specs.{Parents.AreSteps, Parents.parents};
 ghost use Rattle.tcc_clocks.specs.Clocks.{AreOwners, AreClocks, LeadsOnward};
 ghost use Rattle.tcc_clocks.specs.{private.Rows.with_own, declared.latest.TheConstants.WIDE, declared.side.Side.TheVariants.Past};
-ghost use Rattle.tcc_order.specs.private.CausalLinks.{AreDerived, AreEnough, AreStillKept, IsFrom, Overwrites};
-ghost use Rattle.tcc_order.specs.private.News.{AreNoted, AreRaised, HasHeads, HaveHeads, HaveRisen, IsFloor, IsHead, IsHeld, IsKnown, IsTold, KeepHeads, KeepsHead, TellsNone, known_of};
+ghost use Rattle.tcc_order.specs.private.CausalLinks.{HasNone};
+ghost use Rattle.tcc_order.specs.private.News.{AreNews, AreNoted, AreRaised, AreReadingsOf, AreWider, HasHeads, HaveHeads, HaveRisen, IsFloor, IsHead, IsHeld, IsKnown, IsTold, KeepHeads, KeepsHead, TellsNone, known_of};
 
-use crate::told::keep_told;
+use crate::reading_rows::{Readings, clear_all, sort_all};
 use std::alloc::{AllocError, Global};
-use tcc_bits::Row;
 use tcc_clocks::{Clock, SharedRows, Steps, WIDE, between, block_bounds, raise_each};
 use tcc_graph::LargeGraph;
 use tcc_txn::NoMemory;
@@ -41,7 +40,7 @@ fn raise_own(row: &mut [u32], owners: &[u32], from: u32, a: u32)
 
 /// Of each session of the block the greatest number that reaches `a`, or its own; and a number at least that is less than those
 /// of the block.
-pub(crate) fn known_by(table: &SharedRows, owners: &[u32], from: u32, floor: u32, a: u32) -> Clock
+fn known_by(table: &SharedRows, owners: &[u32], from: u32, floor: u32, a: u32) -> Clock
     requires inside { a < length owners.now }
     requires long { length table.now ≡ length owners.now }
     requires wide { length (row_of table.now a) ≡ WIDE }
@@ -165,9 +164,9 @@ fn are_sources_same(table: &SharedRows, found: &[u32], c: u32) -> bool
     true
 }
 
-/// Keeps what a transaction tells of those that it reads from: nothing where these have its row.
-fn keep_reads(
-    kept: &mut [Row<u32>],
+/// Adds what a transaction reads where it may tell more of that which it reads from: nothing where these have its row.
+fn add_readings(
+    rows: &mut [Readings],
     last: &[Clock],
     heads: &[u32],
     owners: &[u32],
@@ -189,12 +188,12 @@ fn keep_reads(
     requires reader { c < count graph.now }
     requires found { found.now ≡ parents graph.now c }
     requires inside { All (λ p. p < count graph.now) found.now }
-    requires long { length kept.old ≡ count graph.now }
-    requires derived { AreDerived (Overwrites graph.now) kept.old }
-    ensures same { length kept.new ≡ length kept.old }
-    ensures still { OnOk result (AreStillKept kept.old kept.new) }
-    ensures derived { OnOk result (AreDerived (Overwrites graph.now) kept.new) }
-    ensures told { OnOk result ((a : ℕ) (x : List ℕ) → IsReadsPair graph.now a c x → IsTold graph.now from kept.new a c x) }
+    requires long { length rows.old ≡ count graph.now }
+    requires sound { (a : ℕ) → AreReadingsOf graph.now a (row_of rows.old a) }
+    ensures same { length rows.new ≡ length rows.old }
+    ensures wider { OnOk result (AreWider rows.old rows.new) }
+    ensures sound { OnOk result ((a : ℕ) → AreReadingsOf graph.now a (row_of rows.new a)) }
+    ensures told { OnOk result ((a : ℕ) (x : List ℕ) → IsReadsPair graph.now a c x → IsTold graph.now from table.now a (row_of rows.new a) c x) }
 {
     if are_sources_same(table, found, c) {
         return Ok(());
@@ -204,18 +203,7 @@ fn keep_reads(
         if may_tell(
             last, heads, owners, from, floor, graph, table, c, key_index, a,
         ) {
-            keep_told(
-                &mut kept[a as usize],
-                last,
-                owners,
-                from,
-                floor,
-                graph,
-                table,
-                c,
-                key_index,
-                a,
-            )?;
+            rows[a as usize].push((c, key_index))?;
         }
     }
     Ok(())
@@ -344,10 +332,10 @@ fn note_writer(
     }
 }
 
-/// Keeps the links from the sessions of a block, by an order in which causal pairs lead onward. What was noted before in other blocks may
-/// stand there still.
-pub(crate) fn keep_block(
-    kept: &mut [Row<u32>],
+/// Adds the readings that may tell more of their source than its clock does, by an order in which causal pairs lead onward. What
+/// was noted before in other blocks may stand there still.
+fn add_along(
+    rows: &mut [Readings],
     last: &mut [Clock],
     heads: &mut [u32],
     owners: &[u32],
@@ -365,22 +353,53 @@ pub(crate) fn keep_block(
     requires steps { AreSteps graph.now order.now steps.now.spans.items steps.now.numbers.items (length order.now) }
     requires beside { length heads.old ≡ length last.old }
     requires some { 0 < length last.old }
-    requires long { length kept.old ≡ count graph.now }
-    requires derived { AreDerived (Overwrites graph.now) kept.old }
-    ensures same { length kept.new ≡ length kept.old }
+    requires long { length rows.old ≡ count graph.now }
+    requires none { HasNone rows.old }
+    ensures same { length rows.new ≡ length rows.old }
     ensures rows { length last.new ≡ length last.old }
     ensures heads { length heads.new ≡ length heads.old }
-    ensures derived { OnOk result (AreDerived (Overwrites graph.now) kept.new) }
-    ensures still { OnOk result (AreStillKept kept.old kept.new) }
-    ensures enough { OnOk result (AreEnough graph.now (Overwrites graph.now) (IsFrom graph.now from (from + WIDE)) kept.new) }
+    ensures news { OnOk result (AreNews graph.now from table.now rows.new) }
 {
     let floor = floor_of(owners, from);
     for (position, c) in order.iter().enumerate() {
         let found = between(&steps.numbers, steps.spans[position]);
-        keep_reads(
-            kept, last, heads, owners, from, floor, graph, table, found, *c,
+        add_readings(
+            rows, last, heads, owners, from, floor, graph, table, found, *c,
         )?;
         note_writer(last, heads, owners, from, floor, graph, table, *c);
     }
+    Ok(())
+}
+
+/// Finds the readings that may tell more of their source than its clock does, those of one key together, by an order in which
+/// causal pairs lead onward.
+pub(crate) fn find_news(
+    rows: &mut [Readings],
+    last: &mut [Clock],
+    heads: &mut [u32],
+    owners: &[u32],
+    from: u32,
+    graph: &LargeGraph,
+    table: &SharedRows,
+    order: &[u32],
+    steps: &Steps,
+) -> Result<(), NoMemory>
+    requires numbered { IsBySession graph.now.entries }
+    requires owners { AreOwners graph.now owners.now }
+    requires clocks { AreClocks graph.now from table.now }
+    requires numbering { IsNumbering (count graph.now) order.now }
+    requires onward { LeadsOnward graph.now order.now }
+    requires steps { AreSteps graph.now order.now steps.now.spans.items steps.now.numbers.items (length order.now) }
+    requires beside { length heads.old ≡ length last.old }
+    requires some { 0 < length last.old }
+    requires long { length rows.old ≡ count graph.now }
+    ensures same { length rows.new ≡ length rows.old }
+    ensures rows { length last.new ≡ length last.old }
+    ensures heads { length heads.new ≡ length heads.old }
+    ensures news { OnOk result (AreNews graph.now from table.now rows.new) }
+{
+    clear_all(rows);
+    add_along(rows, last, heads, owners, from, graph, table, order, steps)?;
+    sort_all(rows);
     Ok(())
 }

@@ -1,5 +1,6 @@
 -- The links that are kept, by the greatest numbers of the sessions of a block.
-use Rattle.std.specs.Prelude.{ℕ, ◌<◌, ◌≤◌, ◌+◌, ◌≡◌, ◌≢◌, ◌⊎◌, List, [], ◌++◌, length, slice_index, All, Contains}
+use Rattle.std.specs.Prelude.{ℕ, ◌<◌, ◌≤◌, ◌+◌, ◌-◌, ◌≡◌, ◌≢◌, ◌⊎◌, ◌==◌, ◌&&◌, nat_lt, nat_le, not, if◌then◌else◌, max, List, [], ◌++◌, length, slice_index, All, Contains}
+use Rattle.std.specs.List.Sorted.{IsNonDecreasing}
 use Rattle.tcc_reads.specs.History.{History, count, owner}
 use Rattle.tcc_graph.specs.Relations.{IsReadsPair, IsSessionPair}
 use Rattle.tcc_graph.specs.Keys.{writers}
@@ -7,6 +8,17 @@ use Rattle.tcc_graph.specs.Tables.{row_of}
 use Rattle.tcc_graph.specs.Walks.{IsReached}
 use Rattle.tcc_graph.specs.Levels.{Judged, IsAllowedWalk}
 use Rattle.tcc_graph.specs.declared.step.Step.{Step}
+use Rattle.tcc_clocks.specs.Clocks.{IsOneOf}
+use Rattle.tcc_clocks.specs.declared.latest.TheConstants.{WIDE}
+
+-- of those past a number that is known the greatest, if there are any
+pub record IsLatestPast (h : History) (Is : ℕ → Type 0) (session : ℕ) (known : ℕ) (latest : ℕ) : Type 0 where
+  pub attained : (latest ≡ 0) ⊎ IsOneOf h Is session latest
+  pub greatest : (b : ℕ) → IsOneOf h Is session b → b ≤ max latest known
+
+pub record AreLatestPast (h : History) (Is : ℕ → Type 0) (from : ℕ) (known : List ℕ) (row : List ℕ) : Type 0 where
+  pub wide : length row ≡ WIDE
+  pub each : (k : ℕ) → k < WIDE → IsLatestPast h Is (from + k) (slice_index known k) (slice_index row k)
 
 -- b, another writer of a key that is read from a, reaches the reader
 abbrev pub IsOverwritten : History → (ℕ → List ℕ → Type 0) → ℕ → ℕ → Type 0
@@ -22,6 +34,11 @@ pub record IsLifted (owners : List ℕ) (from : ℕ) (clock : List ℕ) (writers
   pub kept : old ≤ new
   pub greatest : (b : ℕ) → IsLiftable owners from clock writers a k b → b ≤ new
 
+-- the number of session k, raised to that of the writer b where b is not a and the clock reaches it
+abbrev pub lifted_by : List ℕ → ℕ → List ℕ → ℕ → ℕ → ℕ → ℕ → ℕ
+lifted_by owners from clock a b k latest =
+    if (nat_lt 0 b && not (b == a)) && ((slice_index owners b == from + k) && nat_le b (slice_index clock k)) then max b latest else latest
+
 -- a link from d is kept into a, or into what reaches it
 abbrev pub IsKeptUpTo : History → List (List ℕ) → ℕ → ℕ → Type 0
 IsKeptUpTo h kept a d = (e : ℕ) × Contains (row_of kept e) d × ((e ≡ a) ⊎ IsReached h e a)
@@ -29,6 +46,31 @@ IsKeptUpTo h kept a d = (e : ℕ) × Contains (row_of kept e) d × ((e ≡ a) �
 -- b stands before a by what is kept: a later one of its session, or itself, is kept so or reaches a
 abbrev pub IsCovered : History → List (List ℕ) → ℕ → ℕ → Type 0
 IsCovered h kept a b = (d : ℕ) × ((b ≡ d) ⊎ IsSessionPair h b d) × (IsKeptUpTo h kept a d ⊎ IsReached h d a)
+
+-- a link from d is kept into a transaction before a of the session at this index
+abbrev pub IsKeptEarlier : History → List (List ℕ) → ℕ → ℕ → ℕ → Type 0
+IsKeptEarlier h kept a session d = (e : ℕ) × (0 < e) × (e < a) × (owner h e ≡ session) × Contains (row_of kept e) d
+
+-- of each session of the block 0, or a transaction that is kept so
+abbrev pub AreRuns : History → List (List ℕ) → ℕ → ℕ → ℕ → List ℕ → Type 0
+AreRuns h kept from a session run =
+    (k : ℕ) → k < WIDE → (slice_index run k ≡ 0) ⊎ IsOneOf h (IsKeptEarlier h kept a session) (from + k) (slice_index run k)
+
+-- of the first n sessions: what is kept anew is more than the clock's number, each number that is more than this and than the
+-- run's is kept, and the run goes on with what is kept
+pub record KeepsNews (need : List ℕ) (clock : List ℕ) (before : List ℕ) (after : List ℕ) (old : List ℕ) (new : List ℕ) (n : ℕ) : Type 0 where
+  pub same : length after ≡ length before
+  pub later : (k : ℕ) → n ≤ k → slice_index after k ≡ slice_index before k
+  pub sound : (b : ℕ) → Contains new b → Contains old b ⊎ ((k : ℕ) × (k < n) × (slice_index need k ≡ b) × (slice_index clock k < b))
+  pub wider : (b : ℕ) → Contains old b → Contains new b
+  pub enough : (k : ℕ) → k < n → (slice_index need k ≤ max (slice_index clock k) (slice_index before k)) ⊎ Contains new (slice_index need k)
+  pub run : (k : ℕ) → k < n
+      → (slice_index after k ≡ slice_index before k) ⊎ ((slice_index after k ≡ slice_index need k) × Contains new (slice_index need k))
+
+-- a is the first of its session and nothing is left of the run, or the run goes on from the one before it
+abbrev pub IsBegun : List ℕ → ℕ → List ℕ → List ℕ → Type 0
+IsBegun owners a old new =
+    ((k : ℕ) → k < length new → slice_index new k ≡ 0) ⊎ ((1 < a) × (slice_index owners (a - 1) ≡ slice_index owners a) × (new ≡ old))
 
 -- each link that is kept is a derived pair
 abbrev pub AreDerived : (ℕ → ℕ → Type 0) → List (List ℕ) → Type 0
@@ -88,6 +130,14 @@ abbrev pub IsClock : List ℕ → ℕ → List ℕ → Type 0
 IsClock owners from clock =
     (k : ℕ) → k < length clock
     → (slice_index clock k ≡ 0) ⊎ ((slice_index clock k < length owners) × (slice_index owners (slice_index clock k) ≡ from + k))
+
+-- numbers of the sessions of a block that a clock and writers may lift: each writer is a transaction, and they rise
+pub record CanLift (owners : List ℕ) (from : ℕ) (clock : List ℕ) (writers : List ℕ) (need : List ℕ) : Type 0 where
+  pub same : length need ≡ length clock
+  pub ordered : AreOrdered owners
+  pub owned : IsClock owners from clock
+  pub rising : IsNonDecreasing writers
+  pub inside : All (λ b. b < length owners) writers
 
 -- the greatest of these that is no greater than `top`, or 0 where there is none
 pub record IsLastUpTo (numbers : List ℕ) (top : ℕ) (last : ℕ) : Type 0 where

@@ -1,7 +1,7 @@
--- Who is new: the writers that were noted so far along an order, and what readers tell of their sources more than the clocks of these do.
-use Rattle.std.specs.Prelude.{ℕ, ◌<◌, ◌≤◌, ◌+◌, ◌%◌, ◌≡◌, ◌≢◌, ◌⊎◌, max, List, length, slice_index, Contains}
+-- Who is new: the writers that were noted so far along an order, and the readings that may tell of their source more than its clock does.
+use Rattle.std.specs.Prelude.{ℕ, ◌<◌, ◌≤◌, ◌+◌, ◌%◌, ◌≡◌, ◌≢◌, ◌⊎◌, ◌↔◌, max, List, length, slice_index, Contains}
 use Rattle.tcc_reads.specs.History.{History, count}
-use Rattle.tcc_graph.specs.Relations.{IsSessionPair}
+use Rattle.tcc_graph.specs.Relations.{IsReadsPair}
 use Rattle.tcc_graph.specs.Keys.{keys, key_at, writers}
 use Rattle.tcc_graph.specs.Tables.{row_of}
 use Rattle.tcc_graph.specs.Walks.{IsReached}
@@ -9,7 +9,6 @@ use Rattle.tcc_clocks.specs.Clocks.{IsOneOf}
 use Rattle.tcc_clocks.specs.private.Rows.{with_own}
 use Rattle.tcc_clocks.specs.declared.side.Side.TheVariants.{Past}
 use Rattle.tcc_clocks.specs.declared.latest.TheConstants.{WIDE}
-use Rattle.tcc_order.specs.private.CausalLinks.{IsCovered}
 
 -- b is a writer of the key at this index, and one of those meant
 abbrev pub IsWriterAmong : History → ℕ → (ℕ → Type 0) → ℕ → Type 0
@@ -80,18 +79,28 @@ IsOtherWriter h a c x b = Contains (writers h x) b × (b ≢ a) × IsReached h b
 abbrev pub TellsNone : History → ℕ → List (List ℕ) → ℕ → ℕ → List ℕ → Type 0
 TellsNone h from table a c x = (k b : ℕ) → k < WIDE → IsOneOf h (IsOtherWriter h a c x) (from + k) b → b ≤ slice_index (row_of table a) k
 
--- d is this transaction, or a later one of its session
-abbrev pub IsLater : List ℕ → ℕ → ℕ → Type 0
-IsLater owners number d = (number ≤ d) × (number < length owners) × (d < length owners) × (slice_index owners number ≡ slice_index owners d)
+-- among these readings from a is the one of x by c, or it tells nothing more
+abbrev pub IsTold : History → ℕ → List (List ℕ) → ℕ → List (ℕ × ℕ) → ℕ → List ℕ → Type 0
+IsTold h from table a readings c x = ((key_index : ℕ) × (key_at h key_index ≡ x) × Contains readings (c, key_index)) ⊎ TellsNone h from table a c x
 
--- one that is stands in the row
-abbrev pub HasLater : List ℕ → List ℕ → ℕ → Type 0
-HasLater owners row number = (d : ℕ) × Contains row d × IsLater owners number d
+-- each of these readings, a reader and the index of a key, is one from a
+abbrev pub AreReadingsOf : History → ℕ → List (ℕ × ℕ) → Type 0
+AreReadingsOf h a readings = (c key_index : ℕ) → Contains readings (c, key_index) → (key_index < length (keys h)) × IsReadsPair h a c (key_at h key_index)
 
--- b stands before a by the links of this row: a later one of its session, or itself, stands in it or reaches a
-abbrev pub IsIn : History → List ℕ → ℕ → ℕ → Type 0
-IsIn h row a b = (d : ℕ) × ((b ≡ d) ⊎ IsSessionPair h b d) × (Contains row d ⊎ IsReached h d a)
+-- readings from a, among them all that may tell more
+pub record AreNewsOf (h : History) (from : ℕ) (table : List (List ℕ)) (a : ℕ) (readings : List (ℕ × ℕ)) : Type 0 where
+  pub sound : AreReadingsOf h a readings
+  pub enough : (c : ℕ) (x : List ℕ) → IsReadsPair h a c x → IsTold h from table a readings c x
 
--- each transaction of the block that stands before a as c reads x from it does so by what is kept
-abbrev pub IsTold : History → ℕ → List (List ℕ) → ℕ → ℕ → List ℕ → Type 0
-IsTold h from kept a c x = (k b : ℕ) → k < WIDE → IsOneOf h (IsOtherWriter h a c x) (from + k) b → IsCovered h kept a b
+-- for each transaction a row of such readings
+pub record AreNews (h : History) (from : ℕ) (table : List (List ℕ)) (rows : List (List (ℕ × ℕ))) : Type 0 where
+  pub long : length rows ≡ count h
+  pub each : (a : ℕ) → AreNewsOf h from table a (row_of rows a)
+
+-- rows only got longer, and what stands in them are readings
+abbrev pub AreWider : List (List (ℕ × ℕ)) → List (List (ℕ × ℕ)) → Type 0
+AreWider old new = (a : ℕ) (reading : ℕ × ℕ) → Contains (row_of old a) reading → Contains (row_of new a) reading
+
+-- the rows have the same readings, in any order
+abbrev pub AreSorted : List (List (ℕ × ℕ)) → List (List (ℕ × ℕ)) → Type 0
+AreSorted old new = (a : ℕ) (reading : ℕ × ℕ) → Contains (row_of new a) reading ↔ Contains (row_of old a) reading

@@ -15,10 +15,11 @@ loop-block-init c =
       (λ a b over some meant. absurd (omega (arith, meant.0, meant.1))),
       search rules,
       search rules,
+      search rules,
     )
 
 pub keep_block-requires-clause-derived : goal.keep_block-requires-clause-derived
-keep_block-requires-clause-derived c = rw c.deref_mut.ensures.value c.loop-block.invariant.2
+keep_block-requires-clause-derived c = rw c.deref_mut-in-loop-block-3.ensures.value c.loop-block.invariant.2
 
 pub loop-block-preserved-then-not-is_needed : goal.loop-block-preserved-then-not-is_needed
 loop-block-preserved-then-not-is_needed c =
@@ -31,7 +32,16 @@ loop-block-preserved-then-not-is_needed c =
       block_passed h c.loop-block.kept.items c.args.sweep.now.needed.now c.requires.needed c.args.first c.loop-block.block unmarked inv.3,
       inv.4,
       inv.5,
+      inv.6,
     )
+
+pub keep_block-requires-clause-readings : goal.keep_block-requires-clause-readings
+keep_block-requires-clause-readings c =
+    let new = c.find_news.new.rows in
+    let old = c.loop-block.readings.items in
+    let same : length new ≡ length old = rw c.deref_mut.ensures.value at c.find_news.ensures.same in
+    let long : c.loop-block.readings.len ≡ length old = search rules in
+    rw (c.deref.ensures.value, take_at new _ c.loop-block.readings.len (same ∙ sym long)) c.in_ok-find_news.ensures.news
 
 pub loop-block-preserved : goal.loop-block-preserved
 loop-block-preserved c =
@@ -39,13 +49,13 @@ loop-block-preserved c =
     let new = c.keep_block.new.kept in
     let old = c.loop-block.kept.items in
     let inv = c.loop-block.invariant in
-    let same : length new ≡ length old = rw c.deref_mut.ensures.value at c.in_ok-keep_block.ensures.same in
+    let same : length new ≡ length old = rw c.deref_mut-in-loop-block-3.ensures.value at c.in_ok-keep_block.ensures.same in
     let long : c.loop-block.kept.len ≡ length old = search rules in
-    let last = c.keep_block.new.last in
-    let kept_last : length last ≡ length c.loop-block.last.items = rw c.deref_mut-in-loop-block.ensures.value at c.keep_block.ensures.rows in
+    let last = c.find_news.new.last in
+    let kept_last : length last ≡ length c.loop-block.last.items = rw c.deref_mut-in-loop-block.ensures.value at c.find_news.ensures.rows in
     let long_last : c.loop-block.last.len ≡ length c.loop-block.last.items = search rules in
-    let heads = c.keep_block.new.heads in
-    let kept_heads : length heads ≡ length c.loop-block.heads.items = rw c.deref_mut-in-loop-block-2.ensures.value at c.keep_block.ensures.heads in
+    let heads = c.find_news.new.heads in
+    let kept_heads : length heads ≡ length c.loop-block.heads.items = rw c.deref_mut-in-loop-block-2.ensures.value at c.find_news.ensures.heads in
     let long_heads : c.loop-block.heads.len ≡ length c.loop-block.heads.items = search rules in
     rw (
       take_at new _ c.loop-block.kept.len (same ∙ sym long),
@@ -55,10 +65,11 @@ loop-block-preserved c =
       c.in_ok-find_clocks.ensures.long,
       same ∙ inv.1,
       c.in_ok-keep_block.ensures.derived,
-      block_kept h old new c.args.first c.loop-block.block (rw c.deref_mut.ensures.value at c.in_ok-keep_block.ensures.still) inv.3
+      block_kept h old new c.args.first c.loop-block.block (rw c.deref_mut-in-loop-block-3.ensures.value at c.in_ok-keep_block.ensures.still) inv.3
           c.in_ok-keep_block.ensures.enough,
-      kept_last ∙ inv.4,
-      kept_heads ∙ inv.5,
+      search rules,
+      kept_last ∙ inv.5,
+      kept_heads ∙ inv.6,
     )
 
 pub returns : goal.returns

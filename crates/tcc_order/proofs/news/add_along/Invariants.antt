@@ -1,0 +1,16 @@
+use Rattle.std.proofs.Common.{◌≡◌, ℕ, length, take}
+use Rattle.std.specs.List.{Contains}
+use Rattle.tcc_graph.specs.Tables.{row_of}
+use Rattle.tcc_order.specs.private.News.{AreNoted, AreReadingsOf, HaveHeads}
+use Rattle.tcc_order.proofs.NewsLemmas.{ArePassed}
+use Rattle.tcc_order.proofs.news.add_along.Given as goal
+
+abbrev pub invariant-loop-position : goal.invariant-loop-position
+invariant-loop-position l =
+    (length l.rows ≡ length l.initial.rows)
+    × (length l.last ≡ length l.initial.last)
+    × ((a : ℕ) → AreReadingsOf l.graph a (row_of l.rows a))
+    × AreNoted l.graph l.from (Contains (take l.position l.order)) l.last
+    × ArePassed l.graph l.from l.table l.order l.rows l.position
+    × (length l.heads ≡ length l.initial.heads)
+    × HaveHeads l.graph l.from l.floor (Contains (take l.position l.order)) l.heads
