@@ -260,7 +260,8 @@ def ordinary(size: int) -> str:
 def hard() -> Iterator[Hard]:
     """The histories, at sizes of a second and less. At `atomic` who reads an old value by one pair alone isn't
     contradicted by what it knows by two."""
-    large, atomic, small = (["explain", *words] for words in (["--large"], ["--large", "--level", "atomic"], ["--level", "atomic"]))
+    one = ["--large", "--workers", "1"]
+    large, atomic, small = (["explain", *words] for words in (one, [*one, "--level", "atomic"], ["--level", "atomic"]))
     yield Hard("waiting", large, records_of(waiting(1365, 2729)), "consistent: 5471 transactions, 4095 sessions\n")
     yield Hard("overwritten", atomic, records_of(read_early(30000, 30000, 1)), "consistent: 60002 transactions, 3 sessions\n")
     yield Hard("never written", atomic, records_of(read_early(30000, 30000, 0)), "consistent: 60002 transactions, 3 sessions\n")

@@ -139,7 +139,7 @@ def larger(tcc, words, records, status, begins, each):
 
 def longer(tcc):
     """What is wrong with an answer of many long walks, as JSON, or with the memory that it took; None if nothing is."""
-    status, said, _, most = run(tcc, ["explain", "--large", "--json"], long_walks())
+    status, said, _, most = run(tcc, ["explain", "--large", "--workers", "1", "--json"], long_walks())
     if status != 1 or len(said) < LONG << 20:
         return "status %d, %d bytes of standard output" % (status, len(said))
     return "%d bytes of memory for an answer of %d" % (most, len(said)) if most > SPARE + BESIDE_ANSWER * len(said) else None
