@@ -227,14 +227,6 @@ def known_by_chain(reads: int, readers: int) -> Transactions:
         yield "c", ["r,x,1"]
 
 
-def behind(sessions: int, count: int, lag: int) -> Transactions:
-    """Sessions in turn write one key, and read it as it was up to so many transactions ago: nearly each read is contradicted by many
-    writers, from each of which somebody reads."""
-    picked = random.Random(1)
-    for n in range(count):
-        yield "s%d" % (n % sessions), ["r,x,%d" % max(0, n - picked.randrange(lag)), "w,x,%d" % (n + 1)]
-
-
 def stale() -> str:
     """A session that doesn't read its own write."""
     return records_of([("a", ["w,x,1"]), ("a", ["r,x,0"])])
@@ -260,8 +252,7 @@ def ordinary(size: int) -> str:
 def hard() -> Iterator[Hard]:
     """The histories, at sizes of a second and less. At `atomic` who reads an old value by one pair alone isn't
     contradicted by what it knows by two."""
-    one = ["--large", "--workers", "1"]
-    large, atomic, small = (["explain", *words] for words in (one, [*one, "--level", "atomic"], ["--level", "atomic"]))
+    large, atomic, small = (["explain", *words] for words in (["--large"], ["--large", "--level", "atomic"], ["--level", "atomic"]))
     yield Hard("waiting", large, records_of(waiting(1365, 2729)), "consistent: 5471 transactions, 4095 sessions\n")
     yield Hard("overwritten", atomic, records_of(read_early(30000, 30000, 1)), "consistent: 60002 transactions, 3 sessions\n")
     yield Hard("never written", atomic, records_of(read_early(30000, 30000, 0)), "consistent: 60002 transactions, 3 sessions\n")
@@ -283,9 +274,6 @@ def hard() -> Iterator[Hard]:
     yield Hard("surveyed: initial reads", survey, records_of(read_initial(60000, 60000)), "0 contradicted reads of 60001, 0 faults\n")
     yield Hard("surveyed: known by steps", [*survey, "--level", "atomic"], records_of(known_by_steps(60000, 60000)),
                "0 contradicted reads of 60002, 0 faults\n")
-    yield Hard("surveyed: known by a chain, of many writers", survey, records_of(known_by_steps(60000, 60000)),
-               "contradicted c/2 op 1 x 1: knew of a/2, causal chain\n")
-    yield Hard("surveyed: one key, read late", survey, records_of(behind(40, 60000, 2000)), "contradicted ")
     yield Hard("surveyed: a session each", survey, records_of(each_its_own(60000)), "0 contradicted reads of 59999, 0 faults\n")
     yield Hard("surveyed: known by a chain", survey, records_of(known_by_chain(40000, 40000)),
                "contradicted c/2 op 1 x 1: knew of b/1, causal chain\n")

@@ -123,7 +123,7 @@ LARGE = [
     ("one field", ["explain"], lambda: all_of(b"a"), 3, b"row 1: UnknownWord\n", 4),
     ("empty lines", ["explain"], lambda: all_of(b"\n"), 0, b"consistent: 0 transactions, 0 sessions\norder: init\n", 0),
     ("faults", ["explain"], reads_of_nothing, 2, b"unresolved: 250000 faults\n", 16),
-    ("one after the other", ["explain", "--large", "--workers", "1"], one_after_the_other, 0, b"consistent: 44016 transactions, 4002 sessions\n", 40),
+    ("one after the other", ["explain", "--large"], one_after_the_other, 0, b"consistent: 44016 transactions, 4002 sessions\n", 40),
     ("faults as JSON", ["explain", "--json"], reads_of_nothing, 2, b'{"answer":"unresolved","faults":[', 20),
 ]
 
@@ -139,7 +139,7 @@ def larger(tcc, words, records, status, begins, each):
 
 def longer(tcc):
     """What is wrong with an answer of many long walks, as JSON, or with the memory that it took; None if nothing is."""
-    status, said, _, most = run(tcc, ["explain", "--large", "--workers", "1", "--json"], long_walks())
+    status, said, _, most = run(tcc, ["explain", "--large", "--json"], long_walks())
     if status != 1 or len(said) < LONG << 20:
         return "status %d, %d bytes of standard output" % (status, len(said))
     return "%d bytes of memory for an answer of %d" % (most, len(said)) if most > SPARE + BESIDE_ANSWER * len(said) else None

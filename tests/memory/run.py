@@ -157,7 +157,7 @@ ANSWERS = [
     (None, ["check", "--large", FORK, "@certificate"], b"accepted: order\n", 0),
     (None, ["check", "--large", FORK, "@large-cycle"], b"rejected: rule 1 at 0 0\n", 7),
     # after the answer its certificate takes memory, in whose place the line may come
-    ("@past", ["explain", "--large", "--workers", "1", "--certificate", "/dev/null"], [STALE_READ, b""], 1),
+    ("@past", ["explain", "--large", "--certificate", "/dev/null"], [STALE_READ, b""], 1),
     (STALE, ["survey"], SURVEYED, 1),
     (EXAMPLES / "aborted-read.csv", ["survey", "--large"], SURVEYED_FAULTS, 2),
     (STALE, ["survey", "--json"], SURVEYED_JSON, 1),
@@ -166,7 +166,7 @@ ANSWERS = [
     (FORK, ["explain", "--full", "--large"], full(FULL_ORDER, True), 0),
     (EXAMPLES / "aborted-read.csv", ["explain", "--full"], full(FULL_FAULTS), 2),
     ("@certificate", ["explain", "--full"], full(FULL_ROW), 3),
-    ("@past", ["explain", "--full", "--large", "--workers", "1"], full(LARGE_FULL_STALE, True), 1),
+    ("@past", ["explain", "--full", "--large"], full(LARGE_FULL_STALE, True), 1),
 ]
 # The same, by one worker and by two.
 SEARCHES = [(STALE, STALE_READ, 1), (FORK, FORK_ORDER, 0), ("@two-stale-reads", STALE_READ, 1)]

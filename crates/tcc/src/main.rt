@@ -10,7 +10,7 @@ use std::process::ExitCode;
 use std::sync::Wait;
 use std::thread::{self, Threads};
 use std::time::Clock;
-use tcc_base::{MAX_WORKERS, Workers};
+use tcc_base::Workers;
 use tcc_cli::{
     Apart, Quiet, RecordInput, Request, Telling, VERSION, are_waited_for, check_files, exit_code,
     is_waited_for, open_both, open_input, open_output, open_outputs, print_unopened, read, size_of,
@@ -287,15 +287,6 @@ fn check_large<W: Write>(
     })
 }
 
-/// As many workers as there are processors, within the most; one where the system doesn't say.
-fn processors(rt: &impl Threads) -> Workers {
-    let Ok(count) = thread::available_parallelism(rt) else {
-        return Workers::ONE;
-    };
-    let count = u32::try_from(count.get()).unwrap_or(MAX_WORKERS);
-    Workers::new(count.min(MAX_WORKERS)).unwrap_or(Workers::ONE)
-}
-
 fn main(rt: HostRuntime) -> ExitCode {
     let told = Telling::new(rt.stdout(), "standard output", rt.stderr());
     let mut out = Quiet::new(told);
@@ -303,7 +294,6 @@ fn main(rt: HostRuntime) -> ExitCode {
         Ok(
             Request::Explain {
                 options,
-                named,
                 history,
                 certificate,
                 large,
@@ -313,12 +303,6 @@ fn main(rt: HostRuntime) -> ExitCode {
             },
         ) => {
             out.leave_out_orders(quiet);
-            let options = if large && !named {
-                let workers = processors(&rt);
-                Options { workers, ..options }
-            } else {
-                options
-            };
             if full {
                 explain_full(&rt, &rt, options, large, history.as_deref(), &mut out)
             } else {

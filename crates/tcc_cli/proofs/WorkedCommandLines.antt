@@ -72,7 +72,7 @@ asks words =
 abbrev plain : Asked
 plain = record {
   level = Some (codes "causal");
-  workers = None;
+  workers = Some (codes "1");
   json = Some (codes "false");
   quiet = Some (codes "false");
   full = Some (codes "false");

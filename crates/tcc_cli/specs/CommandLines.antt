@@ -56,9 +56,9 @@ valued_option id parser word = record (new_rule id) { long = Some id; value_name
 abbrev pub level_option : Words → Rule
 level_option levels = valued_option (codes "level") (Names levels) (level_word Causal)
 
--- --workers N, a number from 1 to the most
+-- --workers N, a number from 1 to the most; without it, 1
 abbrev pub workers_option : Rule
-workers_option = record (new_rule (codes "workers")) { long = Some (codes "workers"); value_names = 1; parser = Some (Unsigned 1 MAX_WORKERS) }
+workers_option = valued_option (codes "workers") (Unsigned 1 MAX_WORKERS) (codes "1")
 
 -- an option by its own name, for a path
 abbrev pub path_option : Text → Rule
@@ -148,11 +148,6 @@ abbrev pub IsWorkers : Option Text → ℕ → Type 0
 IsWorkers None workers = workers ≡ 1
 IsWorkers (Some word) workers = SaysWorkers word workers
 
--- whether there is a word for it
-abbrev pub IsNamed : Option Text → Bool → Type 0
-IsNamed None named = named ≡ false
-IsNamed (Some word) named = named ≡ true
-
 -- for the path of the certificate
 abbrev pub certificate_path : Option (Text × List Row) → Option Text
 certificate_path met = option_text (codes "certificate") met
@@ -184,9 +179,9 @@ IsInput (Some word) (Some path) = (word ≢ codes "-") × (path ≡ word)
 -- as many workers as the word says, and for as many transactions. The records are those of the file, and the certificate and the
 -- slice go to their paths, if there are any
 abbrev pub AsksExplain : Option (Text × List Row) → Request → Type 0
-AsksExplain met (Explain options named history certificate large slice quiet full) =
+AsksExplain met (Explain options history certificate large slice quiet full) =
     IsFlag (flag_text (codes "json") met) options.json × IsLevel (level_text met) options.level × IsWorkers (workers_text met) options.workers
-    × IsNamed (workers_text met) named × IsRequired (required_text met) options.required × IsInput (history_path met) (option_map string_bytes history)
+    × IsRequired (required_text met) options.required × IsInput (history_path met) (option_map string_bytes history)
     × (option_map string_bytes certificate ≡ certificate_path met)
     × IsFlag (flag_text (codes "large") met) large × (option_map string_bytes slice ≡ slice_path met)
     × IsFlag (flag_text (codes "quiet") met) quiet × IsFlag (flag_text (codes "full") met) full
@@ -199,7 +194,7 @@ abbrev pub AsksSurvey : Option (Text × List Row) → Request → Type 0
 AsksSurvey met (Survey level json large history) =
     IsLevel (level_text met) level × IsFlag (flag_text (codes "json") met) json × IsFlag (flag_text (codes "large") met) large
     × IsInput (history_path met) (option_map string_bytes history)
-AsksSurvey met (Explain options named history certificate large slice quiet full) = ⊥
+AsksSurvey met (Explain options history certificate large slice quiet full) = ⊥
 AsksSurvey met (Watch level json history) = ⊥
 AsksSurvey met (Check files) = ⊥
 
@@ -207,7 +202,7 @@ AsksSurvey met (Check files) = ⊥
 abbrev pub AsksWatch : Option (Text × List Row) → Request → Type 0
 AsksWatch met (Watch level json history) =
     IsLevel (level_text met) level × IsFlag (flag_text (codes "json") met) json × IsInput (history_path met) (option_map string_bytes history)
-AsksWatch met (Explain options named history certificate large slice quiet full) = ⊥
+AsksWatch met (Explain options history certificate large slice quiet full) = ⊥
 AsksWatch met (Survey level json large history) = ⊥
 AsksWatch met (Check files) = ⊥
 
@@ -219,9 +214,9 @@ AsksFiles rows files =
 
 -- what the subcommand that was met asks for: a check by its name with its two paths; a survey or a watch by its name; else answers
 abbrev pub AsksBy : Option (Text × List Row) → Request → Type 0
-AsksBy met (Explain options named history certificate large slice quiet full) =
+AsksBy met (Explain options history certificate large slice quiet full) =
     (option_map (λ entered. entered.0) met ≢ Some (codes "check")) × (option_map (λ entered. entered.0) met ≢ Some (codes "survey"))
-    × (option_map (λ entered. entered.0) met ≢ Some (codes "watch")) × AsksExplain met (Explain options named history certificate large slice quiet full)
+    × (option_map (λ entered. entered.0) met ≢ Some (codes "watch")) × AsksExplain met (Explain options history certificate large slice quiet full)
 AsksBy met (Survey level json large history) =
     (option_map (λ entered. entered.0) met ≡ Some (codes "survey")) × AsksSurvey met (Survey level json large history)
 AsksBy met (Watch level json history) = (option_map (λ entered. entered.0) met ≡ Some (codes "watch")) × AsksWatch met (Watch level json history)
@@ -233,7 +228,7 @@ Asks app words request = AsksBy (subcommand_of app words) request
 
 -- a slice is asked for only of a large history; JSON keeps its orders; and what says all goes with no file
 abbrev pub GoesTogether : Request → Type 0
-GoesTogether (Explain options named history certificate large slice quiet full) =
+GoesTogether (Explain options history certificate large slice quiet full) =
     (large ≡ false → slice ≡ None) × (quiet ≡ true → options.json ≡ false)
     × (full ≡ true → (quiet ≡ false) × (certificate ≡ None) × (slice ≡ None))
 GoesTogether (Survey level json large history) = Unit {0}

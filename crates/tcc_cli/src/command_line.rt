@@ -24,10 +24,8 @@ use tcc_print::{Options, Status};
 pub enum Request {
     /// Answer for records.
     Explain {
-        /// How answers are wanted, by one worker where no number is named.
+        /// How answers are wanted.
         options: Options,
-        /// Whether a number of workers is named.
-        named: bool,
         /// The path of the records; without it they are those of the standard input.
         history: Option<String>,
         /// The path of the file for the certificate of the last answer, if it is wanted.
@@ -108,13 +106,16 @@ fn workers_option<'a>(alloc: Global) -> Arg<'a>
     ensures rule { rule_of result ≡ workers_option }
     ensures own { result.global ≡ false }
 {
-    Arg::new(alloc, "workers")
-        .long("workers")
-        .value_name("N")
-        .value_parser(ValueParser::Unsigned(1, MAX_WORKERS as u64))
-        .help(
-            "Works with so many threads, 1 to 32; by default with one, and with --large with one for each processor",
-        )
+    valued_option(
+        alloc,
+        "workers",
+        "N",
+        ValueParser::Unsigned(1, MAX_WORKERS as u64),
+        "1",
+    )
+    .help(
+        "Searches for a least anomaly with so many workers, 1 to 32; past the limits without --large there is no search",
+    )
 }
 
 /// An option by its own name for the path of a file.
@@ -435,7 +436,6 @@ fn options_of(alloc: Global, matches: &ArgMatches) -> Result<Request, Error>
             json: is_set(matches, "json"),
             required,
         },
-        named: word_for(matches, "workers").is_some(),
         history: history_of(alloc, matches)?,
         certificate: path_for(alloc, matches, "certificate")?,
         large: is_set(matches, "large"),

@@ -12,7 +12,7 @@ use Rattle.tcc_cli.proofs.command_line.asked_of.Goals as goal
 explains : (met : Option (Text × List Row)) (request : Request) → option_map (λ entered. entered.0) met ≢ Some (codes "check")
     → option_map (λ entered. entered.0) met ≢ Some (codes "survey") → option_map (λ entered. entered.0) met ≢ Some (codes "watch")
     → AsksExplain met request → AsksBy met request
-explains met (Explain options named history certificate large slice quiet full) no_check no_survey no_watch asks = (no_check, no_survey, no_watch, asks)
+explains met (Explain options history certificate large slice quiet full) no_check no_survey no_watch asks = (no_check, no_survey, no_watch, asks)
 explains met (Survey level json large history) no_check no_survey no_watch asks = absurd asks
 explains met (Watch level json history) no_check no_survey no_watch asks = absurd asks
 explains met (Check files) no_check no_survey no_watch asks = absurd asks
