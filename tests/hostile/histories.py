@@ -17,6 +17,15 @@ class Hard(NamedTuple):
     begins: str
 
 
+class Claimed(NamedTuple):
+    """A certificate: what it has many of, the records that it is for, its text in pieces, and how the verdict begins."""
+
+    name: str
+    records: str
+    text: Iterable[str]
+    begins: str
+
+
 Transactions = Iterable[Tuple[str, Iterable[str]]]
 READS_A_TRANSACTION = 256
 
@@ -232,6 +241,12 @@ def stale() -> str:
     return records_of([("a", ["w,x,1"]), ("a", ["r,x,0"])])
 
 
+def read_from_one_another() -> Transactions:
+    """Two transactions that read from one another, of which the second reads the initial z, though the first wrote it."""
+    yield "a", ["w,x,1", "r,y,1", "w,z,1"]
+    yield "b", ["r,x,1", "w,y,1", "r,z,0"]
+
+
 def ordinary(size: int) -> str:
     """A history with at least this many bytes: 32 sessions, of whose transactions each writes a key and reads the last value of
     another one."""
@@ -265,7 +280,7 @@ def hard() -> Iterator[Hard]:
                "consistent: 56017 transactions, 4002 sessions\n")
     yield Hard("gathered", large, records_of(gathered(4000, 30000)), "consistent: 64016 transactions, 4002 sessions\n")
     yield Hard("gathered, one stale", large, records_of(gathered(4000, 15000, again=1)), "anomaly: 4 steps, overwritten-read\n")
-    yield Hard("ring", large, records_of(ring(250, 64, 20000)), "anomaly: 753 steps, ")
+    yield Hard("ring", large, records_of(ring(1000, 64, 20000)), "anomaly: 3003 steps, ")
     yield Hard("stale beside", large, records_of(stale_beside(64, 255, 40000)), "anomaly: 3 steps, ")
     yield Hard("circling", large, records_of(circling(4095, 100)), "anomaly: 2 steps, cyclic-causality\n")
     yield Hard("circling at atomic", small, records_of(circling(4095, 100)), "anomaly: 2 steps, cyclic-causality\n")
@@ -286,12 +301,21 @@ def hard_to_check() -> Iterator[Tuple[str, str]]:
     yield "written by many", records_of(written_by_many(4000, 8000))
 
 
-def claims(size: int) -> Iterator[Tuple[str, Iterable[str]]]:
-    """Certificates for the stale read of about this size, which claim what isn't so, in pieces, by what they have many of."""
+def claims(size: int) -> Iterator[Claimed]:
+    """Certificates of about this size. Those for the stale read claim what isn't so; the last claims a cycle whose one long walk goes
+    round two pairs, again and again."""
     for name, begins, line in (
             ("links", "cycle 3 %d 3\n", "D 1 0 x 2 1\nS 1 2\n"),
             ("steps", "cycle 3 1 3\nD 1 0 x 2 %d\n", "S 1 2\n"),
             ("runs", "order 3 1 %d\n", "0 1\n"),
             ("runs beside links", "cycle 3 2 3\nS 0 1\nD 1 0 x 2 1\nS 1 2\nleast %d\n", "0 1\n")):
         many = size // len(line)
-        yield name, itertools.chain(["tcc-certificate 3 causal\n" + begins % many], itertools.repeat(line, many), ["end\n"])
+        text = itertools.chain(["tcc-certificate 3 causal\n" + begins % many], itertools.repeat(line, many), ["end\n"])
+        yield Claimed("a certificate of many " + name, stale(), text, "rejected: ")
+    there, back = "R 1 2 x\n", "R 2 1 y\n"
+    rounds = size // len(there + back)
+    steps = 2 * rounds + 1
+    text = itertools.chain(["tcc-certificate 3 causal\ncycle 3 2 %d\nD 1 0 z 2 %d\n" % (steps + 2, steps)],
+                           itertools.repeat(there + back, rounds), [there, "S 0 1\nend\n"])
+    yield Claimed("a certificate of a walk that goes round", records_of(read_from_one_another()), text,
+                  "accepted: cycle, %d steps, least not claimed\n" % (steps + 2))

@@ -7,9 +7,9 @@ Values of one key that hash alike, and names of keys and sessions that do, may t
 many others, and have the same answers. Long records, and many faults, may take no more than some times their bytes of memory, and a
 long answer no more than some times its own. All about an answer may take no more than some times the memory of the answer.
 Histories that have many of what some loop goes through (`histories.py`) may take no more than ten times the processor time of an
-ordinary one of as many bytes, and so may the check of what is answered for some. A certificate of many links, steps or runs may take no
-more than some times its bytes of memory. The values and names are made by `alike.c`, which needs a C compiler on the path (`cc` or `clang`);
-where there is none it says so and has failed. Each difference is one line; the last line is `N passed, M failed`.
+ordinary one of as many bytes, and so may the check of what is answered for some. A certificate of many links, steps or runs, or of a
+walk that goes round, may take no more than some times its bytes of memory. The values and names are made by `alike.c`, which needs a C
+compiler on the path (`cc` or `clang`); where there is none it says so and has failed. Each difference is one line; the last line is `N passed, M failed`.
 """
 import itertools
 import os
@@ -24,7 +24,7 @@ TOP = HERE.parent.parent
 sys.path.insert(0, str(TOP / "tests"))
 from arguments import status_on_tcc  # noqa: E402
 from compared import first_difference, shown  # noqa: E402
-from histories import claims, gathered, hard, hard_to_check, ordinary, records_of, stale, walked  # noqa: E402
+from histories import claims, gathered, hard, hard_to_check, ordinary, records_of, walked  # noqa: E402
 
 WRITERS, WRITES = 400, 250
 KEYS, SESSIONS = 1024, 64
@@ -32,7 +32,7 @@ KEYS, SESSIONS = 1024, 64
 TIMES, BESIDE = 3, 0.5
 MEGABYTE, LONG = 1 << 20, 16
 # So many times the processor time of an ordinary history, and so many seconds beside it, may a hard one take.
-TIMES_ORDINARY, BESIDE_ORDINARY = 10, 1.5
+TIMES_ORDINARY, BESIDE_ORDINARY = 10, 4.0
 # The bytes of memory that a long answer may take for each of its own.
 BESIDE_ANSWER = 4
 # The bytes of memory that the check of a certificate may take for each byte of it.
@@ -195,24 +195,24 @@ def checked(tcc, records):
     return "%.2f seconds, and %.2f for an ordinary one" % (seconds[1], seconds[0]) if seconds[1] > most else None
 
 
-def claimed(tcc, claim):
-    """What is wrong with the check of a long certificate, which claims what isn't so, or with its memory; None if nothing is."""
+def claimed(tcc, one):
+    """What is wrong with the check of a long certificate, or with its memory; None if nothing is."""
     with tempfile.TemporaryDirectory() as folder:
         history, certificate = (pathlib.Path(folder, name) for name in ("history", "certificate"))
-        history.write_text(stale())
+        history.write_text(one.records)
         with certificate.open("w") as file:
-            file.writelines(claim)
+            file.writelines(one.text)
         size = certificate.stat().st_size
         status, said, _, most = run(tcc, ["check", "--large", str(history), str(certificate)], [])
-    if status != 7 or not said.startswith(b"rejected: "):
+    if status != (0 if one.begins.startswith("accepted") else 7) or not said.startswith(one.begins.encode()):
         return "status %d, standard output %s" % (status, shown(said[:200]))
     return "%d bytes of memory for %d bytes" % (most, size) if most > SPARE + BESIDE_CERTIFICATE * size else None
 
 
 def outcomes(tcc):
     """Each test, with what is wrong, or None. Those of memory come first: what this process holds counts."""
-    for name, claim in claims(LONG << 20):
-        yield "a certificate of many " + name, claimed(tcc, claim)
+    for one in claims(LONG << 20):
+        yield one.name, claimed(tcc, one)
     for name, *large in LARGE:
         yield name, larger(tcc, *large)
     yield "long walks as JSON", longer(tcc)

@@ -1,5 +1,6 @@
 """Looks at what was recorded so far, while clients work: of one recorder, of several, of other processes; and seals."""
 import contextlib
+import io
 import os
 import pathlib
 import random
@@ -94,6 +95,40 @@ def ended_between(folder: pathlib.Path) -> Iterator[Outcome]:
     wanted = ["a,begin", "a,w,x,1", "a,commit", "look-1,begin", "look-1,commit", "look-2,begin", "look-2,w,x,2", "look-2,unknown",
               "a,begin", "a,w,x,3", "a,w,y,4", "a,unknown"]
     yield differs("a copy of what ended between", wanted, copy.read_text().split())
+
+
+def in_blocks(folder: pathlib.Path) -> Iterator[Outcome]:
+    """A copy of records that are longer than a block, up to the last byte that counts; with a seal, which is left out."""
+    from tcc import looking, snapshot
+    path, copy, kept = folder / "blocks.csv", folder / "blocks-copy.csv", looking.BLOCK
+    text = "".join("a,begin\na,w,x,%d\na,commit\n" % number for number in range(1, 9))
+    for about, more in (("", ""), (" with a seal", "seal\nb,begin\nb,r,x,8\nb,commit\n")):
+        path.write_text(text + more + "c,begin\nc,w")
+        looking.BLOCK = 16
+        try:
+            snapshot([path], copy)
+        finally:
+            looking.BLOCK = kept
+        yield differs("a copy in blocks" + about, (text + more).replace("seal\n", "").split(), copy.read_text().split())
+
+
+def joins(folder: pathlib.Path) -> Iterator[Outcome]:
+    """Several files as one history: part after part between seals; none of sessions of one name, of files out of step, or without an end."""
+    from tcc import NoRecord
+    from tcc.looking import joined
+
+    def told(*texts: str) -> str:
+        paths = [folder / ("joined.%d.csv" % number) for number in range(len(texts))]
+        for path, text in zip(paths, texts):
+            path.write_text(text)
+        out = io.StringIO()
+        joined(paths, out)
+        return out.getvalue()
+
+    a, b, c = ("{0},begin\n{0},commit\n".format(name) for name in "abc")
+    yield differs("files that are joined", a + c + "seal\n" + b + "seal\n" + c, told(a + "seal\n" + b + "seal\n", c + "seal\nseal\n" + c))
+    yield "files out of step", raises(NoRecord, lambda: told(a + "seal\n", b + "seal\n", c))
+    yield "sessions of one name in two files", raises(NoRecord, lambda: told(a + b, c + b))
 
 
 def kind(answer):
@@ -253,6 +288,6 @@ def heads(tcc: List[str], path: pathlib.Path) -> List[str]:
 
 
 def outcomes(folder: pathlib.Path, library: str, tcc: List[str]) -> Iterator[Outcome]:
-    for part in (under_way(folder, tcc), ended_between(folder), several(folder, tcc), of_another_process(folder, library, tcc), asked(folder, tcc),
+    for part in (ended_between(folder), in_blocks(folder), joins(folder), under_way(folder, tcc), several(folder, tcc), of_another_process(folder, library, tcc), asked(folder, tcc),
                  seals(folder, library, tcc)):
         yield from part

@@ -103,6 +103,71 @@ def full_at_the_end(folder: pathlib.Path, library: str) -> Iterator[Outcome]:
     yield differs("the records of it", ["b,begin", "b,r,x,5", "b,commit", "a,begin", "a,w,x,5", "a,unknown"], texts(other))
 
 
+def torn(folder: pathlib.Path) -> Iterator[Outcome]:
+    """An append fails, and what it left can't be cut off at once: the next one cuts it off."""
+    from tcc import Recorder
+    path, cut = folder / "torn.csv", os.ftruncate
+    with Recorder(path) as recorder:
+        session = recorder.session("a")
+        ended(session, [("r", "k%d" % number, None) for number in range(9)], None, True)
+        before = texts(path)
+
+        def refused(file: int, length: int) -> None:
+            raise OSError(5, "no cut")
+
+        os.ftruncate = refused
+        try:
+            with full(10, path):
+                failed = fails(lambda: ended(session, [("w", "x", 1)], None, True))
+        finally:
+            os.ftruncate = cut
+        yield differs("an append that fails, and no cut", (True, "a,begin\na,"), (failed, path.read_text()[-10:]))
+        ended(session, [("r", "x", 1)], None, True)
+        yield differs("records after a part that stayed", before + ["a.2,begin", "a.2,r,x,1", "a.2,commit"], texts(path))
+    yield differs("records in the end", before + ["a.2,begin", "a.2,r,x,1", "a.2,commit", "a,begin", "a,w,x,1", "a,unknown"], texts(path))
+
+
+def unnoted(folder: pathlib.Path) -> Iterator[Outcome]:
+    """A write that can't be noted never goes to the store: nothing is recorded of it, and its value may be written later."""
+    from tcc import Recorder
+    path = folder / "unnoted.csv"
+    recorder = Recorder(path)
+    session = recorder.session("a")
+    ended(session, [("w", "x", 1)], None, True)
+    with full(0, pathlib.Path(str(path) + ".pending")):
+        failed = fails(lambda: ended(session, [("w", "x", 2)], None, True))
+    yield differs("a write without room, and its session", (True, "a"), (failed, session.name))
+    ended(session, [("w", "x", 2)], None, True)
+    yield differs("what is in doubt of it", 0, recorder.close())
+    yield differs("records of a write without room", ["a,begin", "a,w,x,1", "a,commit", "a,begin", "a,w,x,2", "a,commit"], texts(path))
+
+
+def sealed(folder: pathlib.Path) -> Iterator[Outcome]:
+    """A seal after a transaction whose records couldn't be written: it is before the seal, of unknown outcome, and only there. Where a seal
+    can't be written, nothing of it is there, and the next one has all."""
+    from tcc import Recorder, seal
+    path, other = folder / "sealed-full.csv", folder / "sealed-other.csv"
+    with Recorder(path) as recorder, Recorder(other, number=1) as second:
+        session = recorder.session("a")
+        ended(second.session("b"), [("r", "x", None)], None, True)
+        ended(session, [("r", "k%d" % number, None) for number in range(20)], None, True)
+        before, beside = texts(path), texts(other)
+        with full(0, path):
+            failed = [fails(lambda: ended(session, [("w", "x", 1)], None, True)), fails(lambda: seal([second, recorder], SECONDS))]
+        yield differs("a transaction before a seal, and a seal, without room", [True, True], failed)
+        yield differs("what it leaves of two", (before, beside), (texts(path), texts(other)))
+        last = max((recorder, second), key=id)  # of the two the one whose seal is written after that of the other
+        append, last._records.append = last._records.append, lambda text: (_ for _ in ()).throw(OSError(28, "full"))
+        yield differs("a second seal without room", True, fails(lambda: seal([second, recorder], SECONDS)))
+        last._records.append = append
+        yield differs("what that leaves of two", (before, beside), (texts(path), texts(other)))
+        yield differs("a seal with room", True, seal([second, recorder], SECONDS))
+        ended(session, [("r", "x", 1)], None, True)
+        counts = [recorder.close(), second.close()]
+    wanted = before + ["a,begin", "a,w,x,1", "a,unknown", "seal", "a.2,begin", "a.2,r,x,1", "a.2,commit"]
+    yield differs("records of a seal after what failed", (wanted, beside + ["seal"], [1, 0]), (texts(path), texts(other), counts))
+
+
 def short_writes(folder: pathlib.Path) -> Iterator[Outcome]:
     """The system takes a few bytes at a time."""
     from tcc import Recorder
@@ -154,6 +219,18 @@ def reopened(folder: pathlib.Path) -> Iterator[Outcome]:
     with Recorder(unknown) as recorder:
         ended(recorder.session("b"), [("r", "x", 8192)], None, True)
     yield differs("records whose last one is of unknown outcome", text.split() + ["b.2,begin", "b.2,r,x,8192", "b.2,commit"], texts(unknown))
+    noted = folder / "noted-beside.csv"
+    noted.write_text("a,begin\na,w,x,4096\na,commit\n")
+    (folder / "noted-beside.csv.pending").write_text("a,1,x,4096,0.1,\nb,1,x,81920,0.2,\nb,1,y,12288,0.3,\n")
+    with Recorder(noted) as recorder:
+        value = recorder.new_value()
+        yield differs("a value after the greatest of what was under way", True, value > 81920)
+        with recorder.session("c").transaction() as one:
+            for key, old in (("x", 81920), ("y", 12288)):
+                yield "a value of what was under way, %s %d" % (key, old), raises(NoRecord, lambda key=key, old=old: one.write(key, old))
+            one.write("x", 12288)  # at another key it is none that was written
+    wanted = ["a,begin", "a,w,x,4096", "a,commit", "c,begin", "c,w,x,12288", "c,commit", "b,begin", "b,w,x,81920", "b,w,y,12288", "b,unknown"]
+    yield differs("records after what was under way", wanted, texts(noted))
     many = folder / "many.csv"
     given = set()
     for _ in range(3):
@@ -204,12 +281,18 @@ def values(folder: pathlib.Path) -> Iterator[Outcome]:
             one.write("y", mine)  # at another key
             for key in "xy":
                 yield "a value of the recorder twice, at %s" % key, raises(NoRecord, lambda key=key: one.write(key, mine))
+            far = 4096 * 300000  # far ahead of what the recorder gave
+            for key in "xy":
+                one.write(key, far)
+            for key in "xy":
+                yield "a value far ahead twice, at %s" % key, raises(NoRecord, lambda key=key: one.write(key, far))
+            yield differs("a value after one far ahead", True, recorder.new_value() > far)
         yield "a read after its transaction", raises(NoRecord, lambda: one.read("x", 1))
         yield "a write after its transaction", raises(NoRecord, lambda: one.write("x", 1))
         ended(session, [("w", "x", 3)], Broken(), False)
         yield "a value of what aborted", raises(NoRecord, lambda: ended(session, [("w", "x", 3)], None, True))
-    wanted = ["a,begin", "a,w,x,%d" % greatest, "a,r,x,%d" % greatest, "a,w,x,%d" % mine, "a,w,y,%d" % mine, "a,commit",
-              "a,begin", "a,w,x,3", "a,abort"]
+    wanted = ["a,begin", "a,w,x,%d" % greatest, "a,r,x,%d" % greatest, "a,w,x,%d" % mine, "a,w,y,%d" % mine,
+              "a,w,x,%d" % far, "a,w,y,%d" % far, "a,commit", "a,begin", "a,w,x,3", "a,abort"]
     yield differs("records of the greatest value", wanted, texts(path))
 
 
@@ -320,6 +403,13 @@ def annotations(folder: pathlib.Path, library: str) -> Iterator[Outcome]:
     found = read_notes(notes)
     yield differs("nodes", ["=n1", "=n2", "=n3", "=n4"], [found["a/%d" % number].node for number in range(1, 5)])
     yield differs("a node that isn't a formula", "a/1,'=n1,", notes.read_text().splitlines()[1][:9])
+    moved = folder / "moved.notes"
+    with Recorder(folder / "moved.csv", notes=moved) as recorder:
+        session = recorder.session("a")
+        for number, node in enumerate(("n1", "n2", "", "n1"), 1):
+            session.node = node  # the client has turned to another node
+            ended(session, [("w", "x", number)], None, True)
+    yield differs("nodes of a client that turns to others", ["n1", "n2", "", "n1"], [read_notes(moved)["a/%d" % place].node for place in range(1, 5)])
     os.utime(notes, (1e9, 1e9))  # as if the first run had been long ago
     dying = "\n".join(("import os, sys", "from tcc import Recorder", "recorder = Recorder(sys.argv[1], notes=sys.argv[2])",
                        "session = recorder.session('b', node='n, 5')", "with session.transaction() as one:",
@@ -371,7 +461,7 @@ def busy_threads(folder: pathlib.Path, tcc: List[str]) -> Iterator[Outcome]:
 
 
 def outcomes(folder: pathlib.Path, library: str, tcc: List[str]) -> Iterator[Outcome]:
-    for part in (full_disk(folder, tcc), full_at_the_end(folder, library), short_writes(folder), notes_fail(folder), reopened(folder),
+    for part in (full_disk(folder, tcc), full_at_the_end(folder, library), torn(folder), unnoted(folder), sealed(folder), short_writes(folder), notes_fail(folder), reopened(folder),
                  unfinished(folder), values(folder), outcomes_in_doubt(folder), closed_meanwhile(folder), forked(folder), links(folder),
                  annotations(folder, library), busy_threads(folder, tcc)):
         yield from part

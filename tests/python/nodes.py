@@ -30,6 +30,21 @@ def events(folder: pathlib.Path) -> Iterator[Outcome]:
     yield differs("events of another order", [Event("early", 0.5), Event("late", 2.5, "n1")], read_events(path))
 
 
+def spelled(folder: pathlib.Path) -> Iterator[Outcome]:
+    """No cell begins as a formula does, and each is read as it was; an apostrophe of somebody's own stays."""
+    from tcc import Recorder
+    from tcc.notes import Note, read_events, read_notes, write_notes
+    path, texts = folder / "spelled.notes", ["=1+1", "+1", "-1", "@a", "'a", "''=a", 'a "b", c']
+    with Recorder(folder / "spelled.csv", notes=path) as recorder:
+        for text in texts:
+            recorder.event(text)
+    yield differs("events that look like formulas", texts, [one.what for one in read_events(path)])
+    write_notes(path, [("a/%d" % place, Note(node=text, note=text)) for place, text in enumerate(texts, 1)])
+    yield differs("annotations that look like formulas", [(text, text) for text in texts], [(one.node, one.note) for one in read_notes(path).values()])
+    raw = [line.split(",")[1][0] for line in path.read_text().splitlines()[1:5]]
+    yield differs("how their cells begin", ["'"] * 4, raw)
+
+
 def ways(folder: pathlib.Path, library: str, tcc: List[str]) -> Iterator[Outcome]:
     """A client writes at one node, and doesn't see it at the next: an anomaly of the client's session, and none of each node's."""
     from tcc import Anomaly, Consistent, Recorder, explain
@@ -61,4 +76,5 @@ def ways(folder: pathlib.Path, library: str, tcc: List[str]) -> Iterator[Outcome
 
 def outcomes(folder: pathlib.Path, library: str, tcc: List[str]) -> Iterator[Outcome]:
     yield from events(folder)
+    yield from spelled(folder)
     yield from ways(folder, library, tcc)

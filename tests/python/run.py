@@ -22,10 +22,12 @@ from typing import Callable, Dict, Iterator, List, Optional
 
 sys.path.insert(0, str(pathlib.Path(__file__).resolve().parent.parent))
 import calls  # noqa: E402
+import imports  # noqa: E402
 import looks  # noqa: E402
 import losses  # noqa: E402
 import patterns  # noqa: E402
 import nodes  # noqa: E402
+import reported  # noqa: E402
 import several  # noqa: E402
 import stores  # noqa: E402
 import versioned  # noqa: E402
@@ -378,6 +380,7 @@ def outcomes(tcc: List[str]) -> Iterator[Outcome]:
                  "calls": calls.outcomes(folder, tcc), "looks": looks.outcomes(folder, library, tcc),
                  "watches": watches.outcomes(folder, tcc),
                  "several": several.outcomes(folder, library, tcc), "nodes": nodes.outcomes(folder, library, tcc),
+                 "reported": reported.outcomes(folder), "imports": imports.outcomes(),
                  "versions": versioned.outcomes(folder, library, tcc), "stores": stores.outcomes(folder, tcc), "answers": answers(folder, tcc), "commands": commands(folder, library, tcc),
                  "fixtures": fixtures(folder, library, tcc), "rounds": rounds(folder, library, tcc)}
         for about, part in parts.items():

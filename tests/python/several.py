@@ -93,6 +93,21 @@ def settled(folder: pathlib.Path, library: str) -> Iterator[Outcome]:
     yield differs("records of two that were read", wanted.split(), path.read_text().split())
 
 
+def settled_by_others(folder: pathlib.Path, library: str) -> Iterator[Outcome]:
+    """Two that dead processes left open, each of which a client of another file read."""
+    paths = [folder / ("others.%d.csv" % number) for number in range(3)]
+    for path, text in zip(paths, ("a,begin\na,r,y,6\na,commit\n", "b,begin\nb,commit\n", "c,begin\nc,r,x,5\nc,commit\n")):
+        path.write_text(text)
+    (folder / "others.0.csv.pending").write_text("a,2,x,5,0.5,\n")
+    (folder / "others.1.csv.pending").write_text("b,2,y,6,0.5,\n")
+    done = run([sys.executable, os.path.join(library, "bin/tcc-settle"), *map(str, paths)], library)
+    said = "tcc-settle: of unknown outcome 2 read, so committed, 0 unread, so aborted\n"
+    yield differs("tcc-settle of two that other files read", (0, said), (done.returncode, done.stderr))
+    wanted = [["a,begin", "a,r,y,6", "a,commit", "a,begin", "a,w,x,5", "a,commit"], ["b,begin", "b,commit", "b,begin", "b,w,y,6", "b,commit"],
+              ["c,begin", "c,r,x,5", "c,commit"]]
+    yield differs("records of two that other files read", wanted, [path.read_text().split() for path in paths])
+
+
 def work(store: Store, recorder, number: int) -> None:
     """Swaps and reads; one answer in four gets lost, of what happened and of what didn't."""
     chance, session = random.Random(number), recorder.session("c%d.%d" % (recorder.number, number))
@@ -133,4 +148,5 @@ def outcomes(folder: pathlib.Path, library: str, tcc: List[str]) -> Iterator[Out
     yield from least(folder, tcc)
     yield from dead(folder, library, tcc)
     yield from settled(folder, library)
+    yield from settled_by_others(folder, library)
     yield from at_work(folder, tcc)

@@ -73,6 +73,30 @@ def recorded(folder: pathlib.Path, library: str, tcc: List[str]) -> Iterator[Out
             yield "a version without a file", raises(NoRecord, lambda: one.read("x", 1, version=1))
 
 
+def retold(folder: pathlib.Path) -> Iterator[Outcome]:
+    """A version that comes again is kept once; another one of the same value is kept too, so that the file is refused."""
+    from tcc import Recorder
+    from tcc.versions import NoVersions, read_versions
+    versions = folder / "retold.versions"
+    with Recorder(folder / "retold.csv", versions=versions) as recorder:
+        session = recorder.session("a")
+        for version in (10, 10, 11):
+            with session.transaction() as one:
+                one.read("x", 1, version=version)
+    yield differs("versions that come again", ["key,value,version", "x,1,10", "x,1,11"], versions.read_text().split())
+    yield "two versions of a value that was read", raises(NoVersions, lambda: read_versions(versions))
+
+
+def neighbours() -> Iterator[Outcome]:
+    """A read of a version of which the next one was known is older; one of the greatest isn't."""
+    from tcc.rows import read_history
+    from tcc.versions import Versioned
+    text = "".join(line + "\n" for line in RECORDS)
+    for told, wanted in (({"1": 1, "2": 2}, [("c/2", "1", "b/1")]), ({"1": 2, "2": 1}, []), ({"1": 7, "2": 8}, [("c/2", "1", "b/1")])):
+        stale = Versioned(read_history(io.StringIO(text)), {"x": told}).stale
+        yield differs("older by %s" % told, wanted, [(one.reader, one.operation.value, one.writer) for one in stale])
+
+
 class Txn(NamedTuple):
     """A transaction: its session, the keys and values that it reads, and those that it writes."""
 
@@ -97,7 +121,8 @@ def history(pick: random.Random, count: int) -> Tuple[List[Txn], Dict[str, Dict[
         if len(order) > 1 and pick.random() < 0.4:
             at = pick.randrange(len(order) - 1)
             order[at], order[at + 1] = order[at + 1], order[at]
-        versions[key] = {value: 3 * place for place, value in enumerate(order, 1) if pick.random() < 0.9}
+        step = 1 if count % 2 else 3  # neighbours, and versions that other keys share
+        versions[key] = {value: step * place for place, value in enumerate(order, 1) if pick.random() < 0.9}
     return found, versions
 
 
@@ -218,5 +243,7 @@ def of_etcd() -> Iterator[Outcome]:
 
 def outcomes(folder: pathlib.Path, library: str, tcc: List[str]) -> Iterator[Outcome]:
     yield from recorded(folder, library, tcc)
+    yield from retold(folder)
+    yield from neighbours()
     yield from by_definition(tcc, 150)
     yield from of_etcd()

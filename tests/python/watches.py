@@ -1,4 +1,6 @@
 """A recorder that `tcc watch` follows: which answers come, when it ends, and that a client is stopped."""
+import io
+import json
 import pathlib
 import time
 from typing import Iterator, List
@@ -97,7 +99,39 @@ def several(folder: pathlib.Path, tcc: List[str]) -> Iterator[Outcome]:
     yield differs("what a watch of two tells", [Consistent, Anomaly], [type(one) for one in said])
 
 
+def passed_on(folder: pathlib.Path) -> Iterator[Outcome]:
+    """What a watch passes on: whole transactions alone, each once, and no seals of the file."""
+    from tcc import Asking, Watching
+    path, sent = folder / "passed-on.csv", io.BytesIO()
+    watching = Watching([path], Asking(lambda told: None))
+    first, second, third = ("%s,begin\n%s,w,x,%d\n%s,commit\n" % (name, name, number, name) for number, name in enumerate("abc", 1))
+    for text, wanted, count in ((first + "b,beg", first, 1), (first + "b,begin\nb,w,x,2\n", first, 1), (first + second + "seal\n", first + second, 2),
+                                (first + second + "seal\n" + third.replace("commit", "unknown"), first + second + third.replace("commit", "unknown"), 3)):
+        path.write_text(text)
+        watching._pass_on(sent)
+        yield differs("what is passed on of %d bytes" % len(text), (wanted, count), (sent.getvalue().decode(), watching._count))
+
+
+def taken() -> Iterator[Outcome]:
+    """Which answer is the last, and which are passed to who asked: the first of a kind, and none that is unresolved for reads that may be traced later."""
+    from tcc import Anomaly, Asking, Consistent, NoAnswer, Unresolved, Watching
+    fault = {"key": "x", "op": 1, "place": 1, "session": "a", "value": 7}
+    consistent = {"answer": "consistent", "transactions": 1, "sessions": 1}
+    anomaly = {"answer": "anomaly", "shape": "stale-initial-read", "steps": 3, "cycle": []}
+    thin, aborted = ({"answer": "unresolved", "faults": [{**fault, "kind": kind}]} for kind in ("ThinAir", "Aborted"))
+    for about, lines, wanted, kinds in (
+            ("an anomaly", [consistent, thin, consistent, anomaly], [False, False, False, True], [Consistent, Anomaly]),
+            ("an aborted read", [thin, aborted], [False, True], [Unresolved]),
+            ("no answer", [consistent, {"answer": "memory"}], [False, True], [Consistent, NoAnswer])):
+        said: list = []
+        watching = Watching([], Asking(said.append))
+        ends = [watching._is_done(json.dumps(line).encode() + b"\n") for line in lines]
+        yield differs("answers up to " + about, (wanted, kinds, about != "no answer"), (ends, [type(one) for one in said], watching.broken is not None))
+
+
 def outcomes(folder: pathlib.Path, tcc: List[str]) -> Iterator[Outcome]:
+    yield from passed_on(folder)
+    yield from taken()
     yield from told(folder, tcc)
     yield from stopped(folder, tcc)
     yield from without(folder)

@@ -4,6 +4,7 @@ import contextlib
 import io
 import os
 import pathlib
+import signal
 import subprocess
 import sys
 import threading
@@ -96,6 +97,10 @@ def written(folder: pathlib.Path, library: str) -> Iterator[Outcome]:
              for each in ("begin", "w,x,%d" % (4096 * count + number), "commit")]
     done = run([*words, "-o", str(folder / "a.csv"), "--notes", str(folder / "a.notes")], library)
     yield differs("records into a file", (0, "", whole), (done.returncode, done.stdout, (folder / "a.csv").read_text().split()))
+    mask = os.umask(0)
+    os.umask(mask)
+    modes = [(folder / name).stat().st_mode & 0o777 for name in ("a.csv", "a.notes")]
+    yield differs("who may read them", [0o666 & ~mask] * 2, modes)
     told = [line.split(",")[:2] for line in (folder / "a.notes").read_text().splitlines()[1:]]
     yield differs("its annotations", [["c%d/%d" % (number, place), "n0"] for number in (1, 2) for place in (1, 2, 3)], told)
     done = run([*words, "-o", str(folder / "b.csv")], library)
@@ -116,7 +121,40 @@ def written(folder: pathlib.Path, library: str) -> Iterator[Outcome]:
     yield "an output without room", None if done.returncode == 1 and said else "%d, %s" % (done.returncode, done.stderr)
 
 
+def warned() -> Iterator[Outcome]:
+    """What is said of a limit that is passed, and nothing at it."""
+    from tcc.noted import Transaction, warnings
+    for sessions, keys, transactions, wanted in (
+            (64, 1024, 4095, []), (65, 1, 65, ["65 sessions: tcc explain takes at most 64, so say --large"]),
+            (1, 1025, 1025, ["1025 keys: tcc explain takes at most 1024, so say --large"]),
+            (64, 1, 4096, ["4096 transactions: tcc explain takes at most 4095, so say --large"]),
+            (65536, 1, 65536, ["65536 sessions: tcc takes at most 65535, so make the run shorter",
+                               "65536 transactions: tcc explain takes at most 4095, so say --large"])):
+        done = [Transaction("s%d" % (number % sessions), [("w", "k%d" % (number % keys), number + 1)], True) for number in range(transactions)]
+        yield differs("what is said of %d sessions, %d keys and %d transactions" % (sessions, keys, transactions), wanted, list(warnings(done)))
+
+
+def unplayed() -> Iterator[Outcome]:
+    """The status where nothing was recorded: by a server that doesn't answer in time the round may be played again, else not."""
+    from tcc import clients
+    asked, kept = argparse.Namespace(output=None, notes=None), signal.getsignal(signal.SIGTERM)
+    try:
+        for error, wanted in ((clients.NoServer("late"), clients.UNPLAYED), (clients.Unplayed("too few"), 75), (OSError("full"), 1),
+                              (subprocess.SubprocessError("no"), 75), (ImportError("none"), 1)):
+            def fails(_, error=error):
+                raise error
+
+            said = io.StringIO()
+            with contextlib.redirect_stderr(said):
+                status = clients.write_records(fails, asked, "a library", "a package")
+            yield differs("status of %r" % error, (wanted, 1), (status, len(said.getvalue().splitlines())))
+    finally:
+        signal.signal(signal.SIGTERM, kept)
+
+
 def outcomes(folder: pathlib.Path, library: str, tcc: List[str]) -> Iterator[Outcome]:
     yield from five_clients(folder, tcc)
     yield from limits()
+    yield from warned()
+    yield from unplayed()
     yield from written(folder, library)

@@ -1,45 +1,45 @@
--- The search between two costs.
-use Rattle.std.proofs.Common.{◌≡◌, ◌<◌, ◌≤◌, ◌+◌, ◌⊎◌, inl, inr, ℕ, Some, refl, sym, subst, arith}
+-- The search at one cost after the other.
+use Rattle.std.proofs.Common.{◌<◌, ◌≤◌, ◌+◌, ◌⊎◌, inl, inr, ℕ, None, Option, Some, refl, arith}
 use Rattle.std.specs.Global.{Vec}
+use Rattle.std.specs.Prelude.{MatchOption}
+use Rattle.std.proofs.lemmas.Bool.{cases_lt}
 use Rattle.tcc_graph.specs.Levels.{Judged}
-use Rattle.tcc_graph.specs.Links.{cost}
 use Rattle.tcc_least.specs.Shapes.{NoneBelow}
 use Rattle.tcc_judge.specs.Picking.{IsFirstAround}
-use Rattle.tcc_judge.specs.private.Picking.{IsBetween, IsCircleBelow}
+use Rattle.tcc_judge.specs.declared.picking.FirstAround.{FirstAround}
+use Rattle.tcc_judge.specs.private.Picking.{IsCircleBelow, IsNoneYet}
 
-module _ (j : Judged) (most : ℕ) where
-  pub begin_between : NoneBelow j 4 → IsBetween j most 4 4 most
-  begin_between none = record { below = none; some = inl refl; low = omega arith; high = omega arith; nearer = omega arith }
+-- what costs no less than one number costs no less than a lower one
+pub none_lower : (j : Judged) (most n : ℕ) → n ≤ most → NoneBelow j most → NoneBelow j n
+none_lower j most n below none s links cycle = omega (arith, none s links cycle, below)
 
-  -- nothing is left to be asked
-  pub none_left : (turn none end : ℕ) → IsBetween j most turn none end → end ≤ none → NoneBelow j most
-  none_left turn none end w met s links cycle = go w.some
-    where
-      go : (end ≡ most) ⊎ (NoneBelow j end → ⊥) → most ≤ cost links
-      go (inl same) = omega (arith, same, met, w.below s links cycle)
-      go (inr some) = absurd (some (λ t others circle. omega (arith, met, w.below t others circle)))
+pub begin_yet : (j : Judged) → NoneBelow j 4 → IsNoneYet j 4 4
+begin_yet j none = record { below = none; low = omega arith; greater = omega arith }
 
-  module _ (turn none end steps : ℕ) (w : IsBetween j most turn none end) (from : none ≤ steps) (to : steps < end) where
-    pub none_up_to : NoneBelow j (steps + 1) → IsBetween j most (turn + 1) (steps + 1) end
-    none_up_to nothing = record {
-      below = nothing;
-      some = w.some;
-      low = omega (arith, w.low, from);
-      high = w.high;
-      nearer = omega (arith, w.nearer, from);
-    }
+pub none_up_to : (j : Judged) (turn none steps : ℕ) → IsNoneYet j turn none → none ≤ steps → NoneBelow j (steps + 1) → IsNoneYet j (turn + 1) (steps + 1)
+none_up_to j turn none steps w from nothing = record {
+  below = nothing;
+  low = omega (arith, w.low, from);
+  greater = omega (arith, w.greater, from);
+}
 
-    pub some_up_to : (NoneBelow j (steps + 1) → ⊥) → steps + 1 < end → IsBetween j most (turn + 1) none (steps + 1)
-    some_up_to some nearer = record {
-      below = w.below;
-      some = inr some;
-      low = w.low;
-      high = omega (arith, w.high, to);
-      nearer = omega (arith, w.nearer, nearer);
-    }
+-- the circle of the least cost
+pub first_found : (j : Judged) (steps : ℕ) (circle : Vec ℕ) → 4 ≤ steps → NoneBelow j steps → IsCircleBelow j (steps + 1) (Some circle)
+    → IsFirstAround j (record { steps = steps; circle = circle })
+first_found j steps circle low nothing found =
+    let first = found.1 steps refl nothing in
+    record { some = omega (arith, low); none = nothing; inside = first.0; picked = first.1 }
 
-    pub first_found : (circle : Vec ℕ) → steps ≡ none → IsCircleBelow j (steps + 1) (Some circle) → IsFirstAround j (record { steps = steps; circle = circle })
-    first_found circle same found =
-        let nothing : NoneBelow j steps = subst (NoneBelow j) (sym same) w.below in
-        let first = found.1 steps refl nothing in
-        record { some = omega (arith, same, w.low); none = nothing; inside = first.0; picked = first.1 }
+-- a cycle costs so much, so that is no less than all cost
+pub least_low : (j : Judged) (least : ℕ) → NoneBelow j 4 → (NoneBelow j (least + 1) → ⊥) → 4 ≤ least
+least_low j least four some = go (cases_lt least 4)
+  where
+    go : (least < 4) ⊎ (4 ≤ least) → 4 ≤ least
+    go (inl less) = absurd (some (none_lower j 4 (least + 1) (omega (arith, less)) four))
+    go (inr enough) = enough
+
+-- what is found at a cost that some cycle has isn't nothing
+pub found_at : (j : Judged) (least most : ℕ) (found : Option FirstAround) → (NoneBelow j (least + 1) → ⊥)
+    → MatchOption found (NoneBelow j (least + 1)) (IsFirstAround j) → MatchOption found (NoneBelow j most) (IsFirstAround j)
+found_at j least most None some none = absurd (some none)
+found_at j least most (Some first) some is = is

@@ -182,12 +182,12 @@ module _ (h : History) (level : Level) (order positions : List ℕ) (numbering :
     named b x c walk reason = let key = is_stale b x c walk reason in (key.0, of_keys key.0 key.1, key.2)
 
     -- where none comes to `init`, each is among them
-    pub all_among : (s : ℕ) (links : List Link) → IsCycle (judged h level) s links → cost links < most
-        → (HasCheaperIntoInit (judged h level) key_indices most → ⊥) → All (IsAmong members) links
-    all_among s links cycle few into i d l = among (get_or links i d) (i, l, get_or_default links i (get_or links i d) d l)
+    pub all_among : (n : ℕ) → n ≤ most → (s : ℕ) (links : List Link) → IsCycle (judged h level) s links → cost links < n
+        → (HasCheaperIntoInit (judged h level) key_indices n → ⊥) → All (IsAmong members) links
+    all_among n below s links cycle few into i d l = among (get_or links i d) (i, l, get_or_default links i (get_or links i d) d l)
       where
         never : All (λ l. link_to l ≢ 0) links
-        never = never_comes (judged h level) (never_into there) most key_indices named s links cycle few into
+        never = never_comes (judged h level) (never_into there) n key_indices named s links cycle few into
 
         never_to : (d : Link) → Contains links d → link_to d ≢ 0
         never_to d listed = subst (λ (m : Link). link_to m ≢ 0) listed.2 (never listed.0 d listed.1)
@@ -195,5 +195,5 @@ module _ (h : History) (level : Level) (order positions : List ℕ) (numbering :
         among : (l : Link) → Contains links l → IsAmong members l
         among l listed =
             let both = spanned_aside (judged h level) rank rises s links cycle never_to l listed in
-            let near = near_ends (judged h level) rank rises most s links cycle never_to few l listed in
+            let near = near_ends (judged h level) rank rises most s links cycle never_to (omega (arith, few, below)) l listed in
             (all (link_from l) (is_spanned there (link_from l) both.0, near.0), all (link_to l) (is_spanned there (link_to l) both.1, near.1))

@@ -99,8 +99,8 @@ module _ (j : Judged) (none : NoneBelow j 4) (there : 0 < count j.history) where
       aside = subst (All (λ v. 0 < v)) (sym members_are) (all_in_range (λ v. 0 < v) 1 (count j.history - 1) (λ v low high. omega (arith, low)));
       ascend = subst (AllPairs (λ u v. u < v)) (sym members_are) rising;
       keys = subst (All (λ k. k < length (keys j.history))) (sym keys_are) (all_in_range (λ k. k < length (keys j.history)) 0 (length (keys j.history)) (λ v low high. omega (arith, high)));
-      all = λ s links cycle few into i d l.
-          among s links cycle (never_comes j never_read most key_indices named_all s links cycle few into) (get_or links i d)
+      all = λ n below s links cycle few into i d l.
+          among s links cycle (never_comes j never_read n key_indices named_all s links cycle few into) (get_or links i d)
           (i, l, get_or_default links i (get_or links i d) d l);
       named = named_all;
     }

@@ -1,6 +1,6 @@
 -- What the rules with an order say of a claim that no cycle costs less.
-use Rattle.std.proofs.Common.{◌≡◌, ◌≢◌, ◌<◌, ◌≤◌, ◌+◌, ◌⊎◌, ◌↔◌, ◌∙◌, inl, inr, ℕ, Bool, Option, Some, List, [], ◌∷◌, length, get_or, sym, ap, subst, arith}
-use Rattle.std.specs.Prelude.{IsTrue, false}
+use Rattle.std.proofs.Common.{◌≡◌, ◌≢◌, ◌<◌, ◌≤◌, ◌+◌, ◌⊎◌, ◌↔◌, ◌∙◌, inl, inr, ℕ, Bool, Option, None, Some, List, [], ◌∷◌, length, get_or, sym, ap, subst, arith}
+use Rattle.std.specs.Prelude.{IsTrue, false, unwrap_or}
 use Rattle.std.specs.List.{All}
 use Rattle.std.proofs.lemmas.Bool.{cases_eq, cases_lt, false≢true}
 use Rattle.tcc_reads.specs.History.{History, count}
@@ -26,9 +26,10 @@ use Rattle.tcc_judge.specs.private.Decoding.{IsOrdered}
 use Rattle.tcc_judge.specs.private.Contradicted.{AreContradicted}
 use Rattle.tcc_judge.specs.private.Members.{AreListed, AreThose, IsMarked}
 use Rattle.tcc_judge.specs.private.Onward.{HasAllBelow, onward_rules}
+use Rattle.tcc_judge.specs.private.Picking.{IsLeastBelow}
 use Rattle.tcc_judge.specs.private.Positions.{KeepsPairs}
 use Rattle.tcc_graph.proofs.Numberings.{has_index}
-use Rattle.tcc_lanes.specs.Among.{HasCheaperAmong, HasCheaperIntoInit, IsLowestIntoInit}
+use Rattle.tcc_lanes.specs.Among.{HasCheaperAmong, HasCheaperIntoInit, IsCheapest, IsLowestIntoInit}
 use Rattle.tcc_lanes.specs.declared.limits.TheConstants.{MOST_MEMBERS, MOST_STEPS}
 use Rattle.tcc_lanes.specs.Picked.{HasAllAmong, IsPickedAround}
 use Rattle.tcc_judge.proofs.Cheaper.{all_among, below_among, below_into, named}
@@ -137,15 +138,57 @@ module _ (j : Judged) (most : ℕ) (members key_indices : List ℕ) (w : HasAllB
   none_cheaper none s links cycle = go (cases_lt (cost links) most)
     where
       go : (cost links < most) ⊎ (most ≤ cost links) → most ≤ cost links
-      go (inl few) = absurd (none (inl (s, links, cycle, w.all s links cycle few (λ into. none (inr into)), few)))
+      go (inl few) = absurd (none (inl (s, links, cycle, w.all most (omega arith) s links cycle few (λ into. none (inr into)), few)))
       go (inr much) = much
 
   -- where none comes to `init`, all those of so many steps are among them
   pub all_of_cost : (n : ℕ) → most ≡ n + 1 → NoneBelow j n → (HasCheaperIntoInit j key_indices most → ⊥) → HasAllAmong j members n
-  all_of_cost n limit none into = record { none = none; all = λ s links cycle costs. w.all s links cycle (omega (arith, costs, limit)) into }
+  all_of_cost n limit none into = record { none = none; all = λ s links cycle costs. w.all most (omega arith) s links cycle (omega (arith, costs, limit)) into }
 
   -- the lowest that comes to `init` is in the first of those of so many steps
   pub into_picked : NoneBelow j 4 → (n : ℕ) → most ≡ n + 1 → NoneBelow j n → (b : ℕ) → IsLowestIntoInit j key_indices most b
       → All (λ v. v < count j.history) (0 ∷ b ∷ []) × IsPickedAround j n (0 ∷ b ∷ [])
   into_picked four n limit none b is =
       picked_into j n none (never_read j four w.there) w.there key_indices w.named b (subst (λ (z : ℕ). IsLowestIntoInit j key_indices z b) limit is)
+
+-- ---- and what the least of it costs
+-- what has all below a cost has all below a lower one
+pub all_lower : (j : Judged) (most n : ℕ) (members key_indices : List ℕ) → n ≤ most → HasAllBelow j most members key_indices → HasAllBelow j n members key_indices
+all_lower j most n members key_indices below w = record {
+  there = w.there;
+  inside = w.inside;
+  aside = w.aside;
+  ascend = w.ascend;
+  keys = w.keys;
+  all = λ k low. w.all k (omega (arith, low, below));
+  named = w.named;
+}
+
+into_lower : (j : Judged) (key_indices : List ℕ) (most n : ℕ) → n ≤ most → HasCheaperIntoInit j key_indices n → HasCheaperIntoInit j key_indices most
+into_lower j key_indices most n below (b, (k, c, walk, listed, reason, few)) = (b, (k, c, walk, listed, reason, omega (arith, few, below)))
+
+module _ (j : Judged) (most : ℕ) (members key_indices : List ℕ) (w : HasAllBelow j most members key_indices) where
+  -- the cheapest of those among the transactions, where none into `init` costs less than a limit
+  pub least_among : (limit : ℕ) → limit ≤ most → (HasCheaperIntoInit j key_indices limit → ⊥) → (c : ℕ) → IsCheapest (HasCheaperAmong j members) limit (Some c)
+      → IsLeastBelow j most (Some c)
+  least_among limit below into c (low, some, none) = (
+    omega (arith, low, below),
+    none_cheaper j c members key_indices (all_lower j most c members key_indices (omega (arith, low, below)) w)
+        (elim [ inl is ↦ none is | inr is ↦ into (into_lower j key_indices limit c (omega (arith, low)) is) ]),
+    (λ nothing. below_among j members (c + 1) nothing some),
+  )
+
+  -- or else the cheapest into `init`, where none of the others costs less
+  pub least_else : (found : Option ℕ) → IsCheapest (HasCheaperIntoInit j key_indices) most found → (HasCheaperAmong j members (unwrap_or found most) → ⊥)
+      → IsLeastBelow j most found
+  least_else None none among = none_cheaper j most members key_indices w (elim [ inl is ↦ among is | inr is ↦ none is ])
+  least_else (Some c) (low, some, none) among = (
+    low,
+    none_cheaper j c members key_indices (all_lower j most c members key_indices (omega (arith, low)) w) (elim [ inl is ↦ among is | inr is ↦ none is ]),
+    (λ nothing. below_into j key_indices (c + 1) w.there nothing some),
+  )
+
+-- nothing costs less than the least, or than the limit where nothing costs less than that
+pub least_limit : (Has : ℕ → Type 0) (most : ℕ) (found : Option ℕ) → IsCheapest Has most found → (unwrap_or found most ≤ most) × (Has (unwrap_or found most) → ⊥)
+least_limit Has most None none = (omega arith, none)
+least_limit Has most (Some c) (low, some, none) = (omega (arith, low), none)

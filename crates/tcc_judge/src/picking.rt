@@ -1,15 +1,16 @@
 //! Where the first of the least cycles goes, where it costs more than the shapes of short cycles tell: by the searches of rule 7, at one
-//! cost after the other, until none costs less and one costs as much. From 8 steps on the cost is doubled while nothing is found, and
-//! halved in between where something is. What is found is picked by the rule of ties, from the last link backwards.
+//! cost after the other, until none costs less and one costs as much. From 8 steps on the cost is doubled, and what a least cycle costs is
+//! asked first. It is picked by the rule of ties, from the last link backwards.
 //!
 //! It is looked for near to what an order of all transactions contradicts; where there is no order that keeps all pairs, at all
-//! transactions. No limit refuses a history. A search at L steps takes what `near` and `cheaper_among` of `tcc_lanes` do: for S sources
-//! and T targets of links back, M transactions near to them, N in all and R reads some L (S + M) (N + R) / 64 + S T steps, and then for
-//! each start what the links among the M are.
-ghost use Rattle.std.specs.Prelude.{◌<◌, ◌≤◌, ◌≡◌, ◌+◌, ◌⊎◌, ℕ, [], ◌∷◌, IfOk, IfSome, MatchOption};
+//! transactions. No limit refuses a history. A search at L steps takes what `near` and `cheapest_among` of `tcc_lanes` do: for S sources
+//! and T targets of links back, M transactions near to them, N in all and R reads some L (S + M) (N + R) / 64 + S T + M M steps, where L
+//! counts for no more than the longest of shortest walks; and then for each of the M in a feedback vertex set what the links among the
+//! M are. What `cheaper_among` takes is added once.
+ghost use Rattle.std.specs.Prelude.{◌<◌, ◌≤◌, ◌≡◌, ◌+◌, ◌^◌, ℕ, [], ◌∷◌, IfOk, IfSome, MatchOption};
 ghost use Rattle.tcc_graph.specs.Levels.{judged};
 ghost use Rattle.tcc_least.specs.Shapes.{NoneBelow};
-ghost use Rattle.tcc_judge.specs.{Picking.IsFirstAround, private.Onward.HasAllBelow, private.Picking.IsCircleBelow, private.Picking.IsOrderKept};
+ghost use Rattle.tcc_judge.specs.{Picking.IsFirstAround, private.Onward.HasAllBelow, private.Picking.IsCircleBelow, private.Picking.IsLeastBelow, private.Picking.IsOrderKept};
 
 use crate::contradicted::{Contradicted, contradicted_along};
 use crate::decoding::{push_all, told};
@@ -19,7 +20,7 @@ use std::alloc::Global;
 use tcc_base::Unwatched;
 use tcc_cert::Run;
 use tcc_graph::{LargeGraph, Level};
-use tcc_lanes::{cheaper_among, lowest_into_init};
+use tcc_lanes::{cheaper_among, cheapest_among, cheapest_into_init, lowest_into_init};
 use tcc_txn::NoMemory;
 
 /// The first of the least cycles by the rule of ties.
@@ -140,18 +141,90 @@ fn circle_below(
     }
 }
 
-/// The cost up to which cycles are looked for next, where none costs less than one number, and less than the other is left.
-fn next_cost(none: u32, end: u32) -> u32
+/// What a least cycle costs, if that is less than `most`.
+fn least_below(
+    alloc: Global,
+    graph: &LargeGraph,
+    level: Level,
+    there: &Narrowed,
+    most: u32,
+) -> Result<Option<u32>, NoMemory>
+    requires { HasAllBelow (judged graph.now level) most there.now.members.items there.now.key_indices.items }
+    ensures { IfOk result (IsLeastBelow (judged graph.now level) most) }
+{
+    let into = cheapest_into_init(alloc, graph, level, &there.key_indices, most)?;
+    let limit = into.unwrap_or(most);
+    match cheapest_among(alloc, graph, level, &there.members, limit)? {
+        Some(cost) => Ok(Some(cost)),
+        None => Ok(into),
+    }
+}
+
+/// The first of the cycles of so many steps, where none has fewer.
+fn first_of(
+    alloc: Global,
+    graph: &LargeGraph,
+    level: Level,
+    there: &Narrowed,
+    steps: u32,
+) -> Result<Option<FirstAround>, NoMemory>
+    requires few { steps + 1 < 2 ^ 32 }
+    requires low { 4 ≤ steps }
+    requires all { HasAllBelow (judged graph.now level) (steps + 1) there.now.members.items there.now.key_indices.items }
+    requires short { NoneBelow (judged graph.now level) 4 }
+    requires none { NoneBelow (judged graph.now level) steps }
+    ensures { IfOk result (λ found. MatchOption found (NoneBelow (judged graph.now level) (steps + 1)) (IsFirstAround (judged graph.now level))) }
+{
+    match circle_below(alloc, graph, level, there, steps + 1)? {
+        Some(circle) => Ok(Some(FirstAround { steps, circle })),
+        None => Ok(None),
+    }
+}
+
+/// The first of the least cycles, if it costs so many steps at most, where none costs less than one number. If that is as many, it is
+/// looked for at once; else what it costs is asked first.
+fn first_between(
+    alloc: Global,
+    graph: &LargeGraph,
+    level: Level,
+    by: &Option<OrderKept>,
+    none: u32,
+    steps: u32,
+) -> Result<Option<FirstAround>, NoMemory>
+    requires few { steps + 1 < 2 ^ 32 }
+    requires low { 4 ≤ none }
+    requires from { none ≤ steps }
+    requires by { IfSome by.now (IsOrderKept graph.now) }
+    requires short { NoneBelow (judged graph.now level) 4 }
+    requires none { NoneBelow (judged graph.now level) none }
+    ensures { IfOk result (λ found. MatchOption found (NoneBelow (judged graph.now level) (steps + 1)) (IsFirstAround (judged graph.now level))) }
+{
+    let there = where_below(alloc, graph, level, by, steps + 1)?;
+    if steps == none {
+        return first_of(alloc, graph, level, &there, steps);
+    }
+    let Some(least) = least_below(alloc, graph, level, &there, steps + 1)? else {
+        return Ok(None);
+    };
+    let nearer = where_below(alloc, graph, level, by, least + 1)?;
+    let first = first_of(alloc, graph, level, &nearer, least)?;
+    Ok(first)
+}
+
+/// The cost up to which cycles are looked for next, where none costs less than one number, and less than the other is asked of. A
+/// shortest walk comes to no transaction twice, so past as many steps as there are transactions all is looked for at once.
+fn next_cost(none: u32, end: u32, count: u32) -> u32
     requires { none < end }
     ensures from { none ≤ result }
     ensures to { result < end }
-    ensures nearer { (result ≡ none) ⊎ (result + 1 < end) }
 {
     if none < 8 {
-        return none;
+        none
+    } else if none < count {
+        none.saturating_mul(2).min(end - 1)
+    } else {
+        end - 1
     }
-    let half = (end - none - 1) / 2;
-    none + half.min(none)
 }
 
 /// The first of the least cycles, if it costs less than `most`.
@@ -167,20 +240,13 @@ fn first_below(
     ensures { IfOk result (λ found. MatchOption found (NoneBelow (judged graph.now level) most) (IsFirstAround (judged graph.now level))) }
 {
     let mut none = 4;
-    let mut end = most;
     for _turn in 4..most {
-        if none >= end {
+        if none >= most {
             return Ok(None);
         }
-        let steps = next_cost(none, end);
-        let there = where_below(alloc, graph, level, by, steps + 1)?;
-        match circle_below(alloc, graph, level, &there, steps + 1)? {
-            Some(circle) => {
-                if steps == none {
-                    return Ok(Some(FirstAround { steps, circle }));
-                }
-                end = steps + 1;
-            }
+        let steps = next_cost(none, most, graph.count());
+        match first_between(alloc, graph, level, by, none, steps)? {
+            Some(first) => return Ok(Some(first)),
             None => none = steps + 1,
         }
     }

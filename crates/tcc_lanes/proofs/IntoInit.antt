@@ -275,3 +275,36 @@ module _ (j : Judged) (most end : ℕ) (key_indices : List ℕ) (turn low high m
 
   pub halved_up : (HasIntoInit j most middle key_indices → ⊥) → AreHalved j most end key_indices (turn + 1) middle high
   halved_up none = record { some = omega (arith, l); apart = m; within = w.within; near = omega (arith, l, m, w.near); none = none; has = w.has }
+
+-- ---- halving of costs
+-- nothing costs less than low, something less than high, and these come nearer with each turn
+pub record AreCostsHalved (Has : ℕ → Type 0) (most turn low high : ℕ) : Type 0 where
+  pub apart : low < high
+  pub within : high ≤ most
+  pub near : high - low + turn ≤ most
+  pub none : Has low → ⊥
+  pub has : Has high
+
+-- nothing costs less than nothing
+pub costs_halving : (j : Judged) (most : ℕ) (key_indices : List ℕ) → HasCheaperIntoInit j key_indices most
+    → AreCostsHalved (HasCheaperIntoInit j key_indices) most 0 0 most
+costs_halving j most key_indices (b, (k, c, walk, there, reason, few)) = record {
+  apart = omega (arith, few);
+  within = omega arith;
+  near = omega arith;
+  none = λ (u, (key, reader, other, listed, is, less)). omega (arith, less);
+  has = (b, (k, c, walk, there, reason, few));
+}
+
+pub costs_halved : (Has : ℕ → Type 0) (most turn low high : ℕ) → AreCostsHalved Has most turn low high → high - low ≤ 1 → (low < most) × Has (low + 1) × (Has low → ⊥)
+costs_halved Has most turn low high w near = (omega (arith, w.apart, w.within), subst Has (same w.apart) w.has, w.none)
+  where
+    same : low < high → high ≡ low + 1
+    same apart = omega (arith, apart, near)
+
+module _ (Has : ℕ → Type 0) (most turn low high middle : ℕ) (w : AreCostsHalved Has most turn low high) (l : low < middle) (m : middle < high) where
+  pub costs_down : Has middle → AreCostsHalved Has most (turn + 1) low middle
+  costs_down has = record { apart = l; within = omega (arith, m, w.within); near = omega (arith, l, m, w.near); none = w.none; has = has }
+
+  pub costs_up : (Has middle → ⊥) → AreCostsHalved Has most (turn + 1) middle high
+  costs_up none = record { apart = m; within = w.within; near = omega (arith, l, m, w.near); none = none; has = w.has }

@@ -15,6 +15,7 @@ pub mod SettledCosts
 pub mod Attained
 pub mod Circled
 pub mod PickLemmas
+pub mod FeedbackLemmas
 pub mod BackLemmas
 pub mod NearLemmas
 pub mod ClosingLemmas

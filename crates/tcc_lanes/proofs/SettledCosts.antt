@@ -12,7 +12,7 @@ use Rattle.tcc_graph.specs.declared.link.Link.{Link}
 use Rattle.tcc_graph.proofs.Linking.{cost_cons, link_route, one_cost, route_on, some_cost}
 use Rattle.tcc_lanes.specs.Among.{HasCheaperAmong, IsAmong}
 use Rattle.tcc_lanes.specs.declared.pricing.TheConstants.{NONE}
-use Rattle.tcc_lanes.specs.private.Pricing.{ArePriceRows, HasReturn, IsPriceRow, IsReached, IsSettled, IsTable}
+use Rattle.tcc_lanes.specs.private.Pricing.{ArePriceRows, HasReturn, IsLeastReturn, IsPriceRow, IsReached, IsSettled, IsTable}
 
 -- ---- members that ascend
 pub once : (members : List ℕ) → AllPairs (λ u v. u < v) members → (u v : ℕ) → u < length members → v < length members
@@ -213,6 +213,16 @@ module _ (j : Judged) (members : List ℕ) (most : ℕ) (rows : List (List ℕ))
       pub returns : most ≤ NONE → get_or costs s 0 < most → HasReturn j members most s
       returns high low =
           let (links, route, listed, cheap) = w.sound s inside (omega (arith, high, low)) in (links, route, listed, omega (arith, cheap, low))
+
+      -- what a cheapest cycle costs, up to the limit
+      pub least_return : most ≤ NONE → IsLeastReturn j members most s (min (get_or costs s 0) most)
+      least_return high = record { within = omega arith; none = none; some = some }
+        where
+          none : HasReturn j members (min (get_or costs s 0) most) s → ⊥
+          none (links, (more, lead), listed, few) = omega (arith, come_to s links inside more lead listed (omega (arith, few)), few)
+
+          some : min (get_or costs s 0) most < most → HasReturn j members (min (get_or costs s 0) most + 1) s
+          some low = let (links, route, listed, cheap) = w.sound s inside (omega (arith, high, low)) in (links, route, listed, omega (arith, cheap, low))
 
   -- ---- all starts
   pub from_start : (s : ℕ) → s < length members → HasReturn j members most s → HasCheaperAmong j members most

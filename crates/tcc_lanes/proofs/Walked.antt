@@ -1,5 +1,5 @@
 -- Walks, one pair longer each time.
-use Rattle.std.proofs.Common.{◌≡◌, ◌<◌, ◌≤◌, ◌+◌, ◌-◌, ◌↔◌, inl, inr, ℕ, suc, zero, List, get_or, [], ◌∷◌, length, replicate, refl, sym, subst, arith}
+use Rattle.std.proofs.Common.{◌≡◌, ◌<◌, ◌≤◌, ◌+◌, ◌-◌, ◌↔◌, ◌⊎◌, inl, inr, ℕ, suc, zero, List, get_or, [], ◌∷◌, length, replicate, refl, sym, subst, arith}
 use Rattle.tcc_reads.specs.History.{History, count}
 use Rattle.tcc_graph.specs.Relations.{IsCausalPair}
 use Rattle.tcc_graph.specs.Levels.{judged, IsAllowed}
@@ -33,7 +33,16 @@ last_of h b c (s ∷ t ∷ steps) w = go (last_of h (step_to s) c (t ∷ steps) 
     go (alone last e) = behind (step_to s) (s ∷ []) (omega arith, (w.1.0, w.1.1, refl)) (omega (arith, e)) last
     go (behind u front is e last) = behind u (s ∷ front) (omega arith, (w.1.0, w.1.1, is.1)) (omega (arith, e)) last
 
-one_allowed : (v : Level) (walk : List Step) → length walk ≡ 1 → IsAllowed v walk
+pub last_pair : (h : History) (b c : ℕ) (walk : List Step) → IsWalk h b c walk → (IsCausalPair h b c × (length walk ≡ 1))
+    ⊎ ((u : ℕ) × (front : List Step) × IsWalk h b u front × (length front + 1 ≡ length walk) × IsCausalPair h u c)
+last_pair h b c walk w = go (last_of h b c walk w)
+  where
+    go : LastPair h b c walk → (IsCausalPair h b c × (length walk ≡ 1))
+        ⊎ ((u : ℕ) × (front : List Step) × IsWalk h b u front × (length front + 1 ≡ length walk) × IsCausalPair h u c)
+    go (alone pair one) = inl (pair, one)
+    go (behind u front is long pair) = inr (u, front, is, long, pair)
+
+pub one_allowed : (v : Level) (walk : List Step) → length walk ≡ 1 → IsAllowed v walk
 one_allowed level.Causal walk one = tt
 one_allowed level.Atomic walk one = one
 

@@ -1,5 +1,5 @@
 -- Cycles among some transactions, and derived links into `init`.
-use Rattle.std.specs.Prelude.{ℕ, ◌<◌, ◌≤◌, ◌≡◌, ◌+◌, List, All, Contains, length, map}
+use Rattle.std.specs.Prelude.{ℕ, ◌<◌, ◌≤◌, ◌≡◌, ◌+◌, List, Option, None, Some, All, Contains, length, map}
 use Rattle.tcc_graph.specs.Keys.{key_at}
 use Rattle.tcc_graph.specs.Levels.{Judged}
 use Rattle.tcc_graph.specs.Links.{IsReason, cost, link_from, link_to}
@@ -33,3 +33,8 @@ HasCheaperIntoInit j key_indices n = (b : ℕ) × ComesIntoInit j key_indices n 
 -- and this is the lowest that does
 abbrev pub IsLowestIntoInit : Judged → List ℕ → ℕ → ℕ → Type 0
 IsLowestIntoInit j key_indices n b = ComesIntoInit j key_indices n b × ((w : ℕ) → ComesIntoInit j key_indices n w → b ≤ w)
+
+-- the least cost, where `Has` says whether something costs less than a limit: none, if nothing costs less than n
+abbrev pub IsCheapest : (ℕ → Type 0) → ℕ → Option ℕ → Type 0
+IsCheapest Has n None = Has n → ⊥
+IsCheapest Has n (Some c) = (c < n) × Has (c + 1) × (Has c → ⊥)

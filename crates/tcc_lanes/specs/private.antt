@@ -2,9 +2,11 @@
 pub mod Marks
 pub mod Walking
 pub mod Walks
+pub mod Lowering
 pub mod IntoInit
 pub mod Stretches
 pub mod Pricing
+pub mod Feedback
 pub mod Buckets
 pub mod Tiles
 pub mod Closings

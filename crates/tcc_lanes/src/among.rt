@@ -1,12 +1,15 @@
 //! Cycles among some transactions.
-ghost use Rattle.std.specs.Prelude.{◌≡◌, ◌≤◌, ◌<◌, ◌+◌, ◌↔◌, ℕ, length, All, AllPairs, IfOk, IsTrue, MatchOption};
+ghost use Rattle.std.specs.Prelude.{◌≡◌, ◌≤◌, ◌<◌, ◌+◌, ◌↔◌, ℕ, List, length, All, AllPairs, IfOk, IsTrue, MatchOption};
 ghost use Rattle.tcc_reads.specs.History.{count};
-ghost use Rattle.tcc_graph.specs.Levels.{judged};
-ghost use Rattle.tcc_lanes.specs.{Among.HasCheaperAlong, Among.HasCheaperAmong, Picked.HasAllAmong, Picked.IsPickedAround};
+ghost use Rattle.tcc_graph.specs.Levels.{Judged, judged};
+ghost use Rattle.tcc_lanes.specs.{Among.HasCheaperAlong, Among.HasCheaperAmong, Among.IsCheapest, Picked.HasAllAmong, Picked.IsPickedAround};
+ghost use Rattle.tcc_lanes.specs.private.Pricing.{ArePriceRows, IsTable};
 
 use crate::circling::circle;
+use crate::feedback::feedback_vertices;
 use crate::price_rows::price_rows;
-use crate::settling::has_return;
+use crate::settling::{has_return, least_return};
+use crate::stretches::PriceRow;
 use std::alloc::Global;
 use tcc_graph::{LargeGraph, Level};
 use tcc_txn::NoMemory;
@@ -58,5 +61,47 @@ pub fn has_cheaper_among(
     match found {
         Some(_circle) => Ok(true),
         None => Ok(false),
+    }
+}
+
+/// What the cheapest cycle of links among the members costs, if that is less than `most`; else `most`.
+fn least_around(alloc: Global, rows: &[PriceRow], most: u32) -> Result<u32, NoMemory>
+    requires table { IsTable rows.now }
+    ensures within { IfOk result (λ least. least ≤ most) }
+    ensures each { IfOk result (λ least. (j : Judged) (members : List ℕ) → ArePriceRows j members most (length members) rows.now
+        → AllPairs (λ u v. u < v) members
+        → (HasCheaperAmong j members least → ⊥) × (least < most → HasCheaperAmong j members (least + 1))) }
+{
+    let starts = feedback_vertices(alloc, rows)?;
+    let mut least = most;
+    for (start, is_start) in starts.iter().enumerate() {
+        if *is_start {
+            least = least_return(alloc, rows, start, least)?;
+        }
+    }
+    Ok(least)
+}
+
+/// What the cheapest cycle costs all of whose links begin and end at these transactions, if that is less than `most`. The members ascend,
+/// and `init` isn't among them. That takes the rows of prices that `cheaper_among` makes, and M * M steps more for M members. Then a
+/// search goes from each member of a feedback vertex set, up to the least cost that was found by those before.
+pub fn cheapest_among(
+    alloc: Global,
+    graph: &LargeGraph,
+    level: Level,
+    members: &[u32],
+    most: u32,
+) -> Result<Option<u32>, NoMemory>
+    requires inside { All (λ v. v < count graph.now) members.now }
+    requires some { All (λ v. 0 < v) members.now }
+    requires ascending { AllPairs (λ u v. u < v) members.now }
+    ensures { IfOk result (IsCheapest (HasCheaperAmong (judged graph.now level) members.now) most) }
+{
+    let rows = price_rows(alloc, graph, level, members, most)?;
+    let least = least_around(alloc, &rows, most)?;
+    if least < most {
+        Ok(Some(least))
+    } else {
+        Ok(None)
     }
 }

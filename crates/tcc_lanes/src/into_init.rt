@@ -4,7 +4,7 @@ ghost use Rattle.std.specs.Prelude.{◌≡◌, ◌≤◌, ◌<◌, ◌↔◌, �
 ghost use Rattle.tcc_reads.specs.History.{IsBySession, count};
 ghost use Rattle.tcc_graph.specs.{Keys.keys, Levels.judged};
 ghost use Rattle.tcc_clocks.specs.Parents.{ArePrevious};
-ghost use Rattle.tcc_lanes.specs.{declared.words.TheConstants.LANES, Among.HasCheaperIntoInit, Among.IsLowestIntoInit, private.Marks.HasLane};
+ghost use Rattle.tcc_lanes.specs.{declared.words.TheConstants.LANES, Among.HasCheaperIntoInit, Among.IsCheapest, Among.IsLowestIntoInit, private.Marks.HasLane};
 ghost use Rattle.tcc_lanes.specs.private.IntoInit.{AreBegun, HasIntoInit, IsLowestInto, IsMetByInit, IsReadOfInit, IsWrittenBy};
 
 use crate::frontier::walked;
@@ -128,6 +128,37 @@ pub fn has_cheaper_into_init(
         }
     }
     Ok(false)
+}
+
+/// What a derived link into `init`, by a reader of one of these keys, and a pair that leads on from there cost together at least, if that
+/// is less than `most`. It takes what `has_cheaper_into_init` does, and that so many times more as `most` can be halved where there is one.
+pub fn cheapest_into_init(
+    alloc: Global,
+    graph: &LargeGraph,
+    level: Level,
+    key_indices: &[u32],
+    most: u32,
+) -> Result<Option<u32>, NoMemory>
+    requires { All (λ k. k < length (keys graph.now)) key_indices.now }
+    ensures { IfOk result (IsCheapest (HasCheaperIntoInit (judged graph.now level) key_indices.now) most) }
+{
+    if !has_cheaper_into_init(alloc, graph, level, key_indices, most)? {
+        return Ok(None);
+    }
+    let mut low = 0;
+    let mut high = most;
+    for _turn in 0..most {
+        if high - low <= 1 {
+            return Ok(Some(low));
+        }
+        let middle = low + (high - low) / 2;
+        if has_cheaper_into_init(alloc, graph, level, key_indices, middle)? {
+            high = middle;
+        } else {
+            low = middle;
+        }
+    }
+    unreachable!()
 }
 
 /// The lowest transaction before the end from which a derived link leads into `init` by one of these keys and a walk of so many steps at

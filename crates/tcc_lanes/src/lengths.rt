@@ -1,13 +1,13 @@
-//! How many steps the shortest walks from a transaction have: breadth-first search level by level, by one lane. For N transactions and R
-//! reads that takes a sweep of N + R more than the longest of them has steps.
-ghost use Rattle.std.specs.Prelude.{◌≡◌, ◌<◌, ℕ, length, slice_index, IfOk, IsTrue};
-ghost use Rattle.tcc_reads.specs.History.{count};
+//! How many steps the shortest walks from a transaction have: lengths are lowered along the pairs until none is any more (Bellman,
+//! Quarterly of Applied Mathematics 16(1), 1958), in sweeps along the numbers that go on from what they lowered. For N transactions and R
+//! reads that takes a sweep of N + R for each time that shortest walks lead to a lower number, and two more.
+ghost use Rattle.std.specs.Prelude.{◌≡◌, ◌<◌, ◌+◌, ℕ, false, length, slice_index, IfOk};
+ghost use Rattle.tcc_reads.specs.History.{IsBySession, count};
+ghost use Rattle.tcc_clocks.specs.Parents.{ArePrevious};
 ghost use Rattle.tcc_graph.specs.Levels.{judged};
-ghost use Rattle.tcc_lanes.specs.{Lengths.AreWalkLengths, private.Marks.IsAt, private.Pricing.IsLowered};
+ghost use Rattle.tcc_least.specs.Shapes.{IsRead};
+ghost use Rattle.tcc_lanes.specs.{Lengths.AreWalkLengths, private.Lowering.AreLowered, private.Lowering.IsLeastOver, private.Lowering.least_on, private.Lowering.steps_at, private.Pricing.IsLowered};
 
-use crate::frontier::walk_on;
-use crate::marking::marks_of;
-use crate::words::has_lane;
 use std::alloc::Global;
 use tcc_clocks::previous_of_each;
 use tcc_graph::{LargeGraph, Level};
@@ -16,27 +16,99 @@ use tcc_txn::NoMemory;
 /// The length that stands for no walk.
 pub const NO_WALK: u32 = u32::MAX;
 
-/// A length, lowered to so many steps where a walk of them leads there.
-fn lowered(length: u32, is_reached: bool, steps: u32) -> u32
-    ensures { IsLowered (IsTrue is_reached) steps length result }
+/// How many steps lead to a transaction to go on from there: none to where walks begin. Where all walks are of one step none goes on from
+/// any other.
+fn steps_at(level: Level, from: u32, lengths: &[u32], v: u32) -> u32
+    requires { v < length lengths.now }
+    ensures { result ≡ steps_at level from lengths.now v }
 {
-    if is_reached {
-        length.min(steps)
+    if v == from {
+        return 0;
+    }
+    match level {
+        Level::Causal => lengths[v as usize],
+        Level::Atomic => NO_WALK,
+    }
+}
+
+/// The fewest steps to a source of a transaction.
+fn least_at_sources(graph: &LargeGraph, level: Level, from: u32, lengths: &[u32], v: u32) -> u32
+    requires below { v < count graph.now }
+    requires long { length lengths.now ≡ count graph.now }
+    ensures { IsLeastOver (λ u. IsRead graph.now u v) (steps_at level from lengths.now) result }
+{
+    let mut least = NO_WALK;
+    for read in graph.reads_at(v) {
+        least = steps_at(level, from, lengths, read.1).min(least);
+    }
+    least
+}
+
+/// The fewest steps to a transaction before this one in session order, by those of the number before.
+fn least_before(
+    level: Level,
+    from: u32,
+    parent_of: &[u32],
+    lengths: &[u32],
+    run: u32,
+    v: u32,
+) -> u32
+    requires v { v < length parent_of.now }
+    requires parents { (p : ℕ) → p < length parent_of.now → slice_index parent_of.now p < length lengths.now }
+    ensures { result ≡ least_on level from parent_of.now lengths.now run v }
+{
+    if v == 0 {
+        return NO_WALK;
+    }
+    let parent = parent_of[v as usize];
+    let last = steps_at(level, from, lengths, parent);
+    if parent == 0 { last } else { run.min(last) }
+}
+
+/// A length, lowered to a step more than lead to where a pair begins, where these are fewer than the most.
+fn lowered(length: u32, steps: u32, most: u32) -> u32
+    ensures { IsLowered (steps < most) (steps + 1) length result }
+{
+    if steps < most {
+        length.min(steps + 1)
     } else {
         length
     }
 }
 
-/// Lowers the length of each transaction that the first lane has come to.
-fn lower_lengths(lengths: &mut [u32], reached: &[u64], steps: u32)
-    requires { length reached.now ≡ length lengths.old }
-    ensures same { length lengths.new ≡ length lengths.old }
-    ensures each { (v : ℕ) → v < length lengths.old
-        → IsLowered (IsAt reached.now v 0) steps (slice_index lengths.old v) (slice_index lengths.new v) }
+/// Whether any length is new: one was before, or this isn't what it was.
+fn is_new_by(is_new: bool, old: u32, length: u32) -> bool
+    ensures { result ≡ false → (is_new ≡ false) × (length ≡ old) }
 {
-    for (v, least) in lengths.iter_mut().enumerate() {
-        *least = lowered(*least, has_lane(reached[v], 0), steps);
+    is_new || length != old
+}
+
+/// Lowers each length along the pairs that lead there, for walks of so many steps at most. It answers whether any is new.
+fn lower_lengths(
+    graph: &LargeGraph,
+    level: Level,
+    parent_of: &[u32],
+    from: u32,
+    most: u32,
+    lengths: &mut [u32],
+) -> bool
+    requires numbered { IsBySession graph.now.entries }
+    requires parents { ArePrevious graph.now parent_of.now }
+    requires from { from < count graph.now }
+    requires long { length lengths.old ≡ count graph.now }
+    ensures lowered { AreLowered (judged graph.now level) from most lengths.old lengths.new }
+    ensures still { result ≡ false → (v : ℕ) → v < count graph.now → slice_index lengths.new v ≡ slice_index lengths.old v }
+{
+    let mut run = NO_WALK;
+    let mut is_new = false;
+    for v in 0..graph.count() {
+        run = least_before(level, from, parent_of, lengths, run, v);
+        let steps = least_at_sources(graph, level, from, lengths, v).min(run);
+        let length = lowered(lengths[v as usize], steps, most);
+        is_new = is_new_by(is_new, lengths[v as usize], length);
+        lengths[v as usize] = length;
     }
+    is_new
 }
 
 /// Of each transaction how many steps the shortest walk from this one to it has that the level allows, where these are so many at most;
@@ -53,24 +125,12 @@ pub fn walk_lengths(
 {
     // transactions stand by session and by place, as this call says
     graph.sessions();
-    let count = graph.count() as usize;
     let parent_of = previous_of_each(alloc, graph)?;
-    let begun = marks_of(alloc, count, &[from])?;
-    let mut reached = vec![in alloc; 0; count]?;
-    let mut underway = vec![in alloc; 0; count]?;
-    let mut lengths = vec![in alloc; NO_WALK; count]?;
-    for steps in 0..most {
-        if !walk_on(
-            graph,
-            level,
-            &parent_of,
-            &begun,
-            &mut reached,
-            &mut underway,
-        ) {
+    let mut lengths = vec![in alloc; NO_WALK; graph.count() as usize]?;
+    for _sweep in 0..most {
+        if !lower_lengths(graph, level, &parent_of, from, most, &mut lengths) {
             return Ok(lengths);
         }
-        lower_lengths(&mut lengths, &reached, steps + 1);
     }
     Ok(lengths)
 }

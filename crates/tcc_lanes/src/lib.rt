@@ -6,6 +6,7 @@ mod among;
 mod buckets;
 mod circling;
 mod closings;
+mod feedback;
 mod frontier;
 mod into_init;
 pub mod laws;
@@ -23,8 +24,8 @@ mod stretches;
 mod tiles;
 mod words;
 
-pub use among::{cheaper_among, has_cheaper_among};
-pub use into_init::{has_cheaper_into_init, lowest_into_init};
+pub use among::{cheaper_among, cheapest_among, has_cheaper_among};
+pub use into_init::{cheapest_into_init, has_cheaper_into_init, lowest_into_init};
 pub use lengths::{NO_WALK, walk_lengths};
 pub use limits::{MOST_MEMBERS, MOST_STEPS, MOST_SWEPT};
 pub use nearness::near;

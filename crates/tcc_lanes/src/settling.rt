@@ -5,7 +5,7 @@ ghost use Rattle.std.specs.Prelude.{◌≡◌, ◌≤◌, ◌<◌, ◌+◌, ◌�
 ghost use Rattle.tcc_graph.specs.Levels.{Judged};
 ghost use Rattle.tcc_lanes.specs.declared.pricing.TheConstants.{NONE};
 ghost use Rattle.tcc_lanes.specs.private.Buckets.{AreQueuedOn};
-ghost use Rattle.tcc_lanes.specs.private.Pricing.{ArePriceRows, HasReturn, IsAttained, IsReached, IsSettled, IsTable};
+ghost use Rattle.tcc_lanes.specs.private.Pricing.{ArePriceRows, HasReturn, IsAttained, IsLeastReturn, IsReached, IsSettled, IsTable};
 
 use crate::buckets::{is_past, take};
 use crate::pricing::NONE;
@@ -87,4 +87,21 @@ pub(crate) fn has_return(
 {
     let costs = costs_from(alloc, rows, start, most)?;
     Ok(costs[start] < most)
+}
+
+/// What a cheapest cycle from a member costs, of links among the members, if that is less than `most`; else `most`.
+pub(crate) fn least_return(
+    alloc: Global,
+    rows: &[PriceRow],
+    start: usize,
+    most: u32,
+) -> Result<u32, NoMemory>
+    requires table { IsTable rows.now }
+    requires start { start < length rows.now }
+    ensures within { IfOk result (λ least. least ≤ most) }
+    ensures each { IfOk result (λ least. (j : Judged) (members : List ℕ) → ArePriceRows j members most (length members) rows.now
+        → AllPairs (λ u v. u < v) members → IsLeastReturn j members most start least) }
+{
+    let costs = costs_from(alloc, rows, start, most)?;
+    Ok(costs[start].min(most))
 }

@@ -1,6 +1,6 @@
 //! Run-length encoding of what links from one member cost: columns beside one another with the same price are one stretch. Members of
 //! one session stand beside one another, and mostly cost the same. A row of S stretches takes 8 S bytes, and S steps to go through.
-ghost use Rattle.std.specs.Prelude.{◌≡◌, ◌≢◌, ◌≤◌, ◌<◌, ◌+◌, ◌^◌, ◌++◌, ◌∷◌, [], ◌⊎◌, ℕ, false, length, slice_index, min, OnOk};
+ghost use Rattle.std.specs.Prelude.{◌≡◌, ◌≢◌, ◌≤◌, ◌<◌, ◌+◌, ◌^◌, ◌++◌, ◌∷◌, [], ◌⊎◌, ℕ, false, length, slice_index, min, IfOk, OnOk};
 ghost use Rattle.tcc_lanes.specs.private.Buckets.{AreQueuedOn};
 
 use crate::buckets::put;
@@ -145,6 +145,17 @@ impl PriceRow {
             left -= stretch.columns as usize;
         }
         unreachable!()
+    }
+
+    /// The price of each column.
+    pub(crate) fn prices(&self, alloc: Global) -> Result<Vec<u32>, NoMemory>
+        ensures { IfOk result (λ prices. prices.items ≡ self.now) }
+    {
+        let mut prices = Vec::new(alloc);
+        for stretch in &self.stretches {
+            prices.resize(prices.len() + stretch.columns as usize, stretch.price)?;
+        }
+        Ok(prices)
     }
 
     /// Lowers what it costs to come to each member, by going on from this one where that costs a level; those that are lowered are put

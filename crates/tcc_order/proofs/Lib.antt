@@ -17,6 +17,8 @@ pub mod Readings
 pub mod KeptRows
 pub mod NewsLemmas
 pub mod Needing
+pub mod BlockStart
+pub mod Sweeping
 pub mod ByKey
 pub mod Finding
 pub mod ShareLemmas

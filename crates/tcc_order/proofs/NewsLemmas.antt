@@ -5,7 +5,7 @@ use Rattle.std.specs.Prelude.{max, min}
 use Rattle.std.specs.List.{All, Contains, list_any}
 use Rattle.std.proofs.lemmas.Bool.{cases_eq, cases_lt, cases_Bool, and_parts, ltb-true, eqb-true, eq-eqb, or_cases}
 use Rattle.std.proofs.lemmas.List.{get_or-set_same, get_or-set_other, length-set, get_or_default, get_or-take, length-take-le}
-use Rattle.std.proofs.lemmas.List.Elements.{All-weaker, All-contains_itself, Contains-append_left, Contains-push, Contains-push_cases}
+use Rattle.std.proofs.lemmas.List.Elements.{All-weaker, All-contains, All-contains_itself, Contains-append_left, Contains-append_right, Contains-push, Contains-push_cases}
 use Rattle.std.proofs.lemmas.List.Sorted.{Contains-permutation, IsPermutation-sym}
 use Rattle.std.specs.List.Sorted.{IsPermutation}
 use Rattle.tcc_txn.proofs.Lists.{found_number, in_filter, from_filter, in_map, from_map}
@@ -24,19 +24,19 @@ use Rattle.tcc_graph.proofs.Pairs.{step_pair}
 use Rattle.tcc_graph.proofs.Walking.{pair_walk, reached_append}
 use Rattle.tcc_clocks.proofs.EntryLemmas.{clock_reaches}
 use Rattle.tcc_bits.proofs.Lists.{one_of_taken, nothing_in}
-use Rattle.tcc_clocks.specs.Clocks.{IsOneOf, AreOwners, AreClocks, LeadsOnward}
+use Rattle.tcc_clocks.specs.Clocks.{IsOneOf, AreOwners, LeadsOnward}
 use Rattle.tcc_clocks.specs.declared.latest.TheConstants.{WIDE}
-use Rattle.tcc_clocks.specs.Parents.{parents, previous, sources}
+use Rattle.tcc_clocks.specs.Parents.{parents, previous, previous_one, sources}
 use Rattle.tcc_clocks.proofs.LatestLemmas.{session_some}
 use Rattle.tcc_clocks.proofs.Reaching.{same_session, reads_source}
 use Rattle.tcc_order.specs.private.CausalLinks.{HasNone}
-use Rattle.tcc_order.specs.private.News.{AreNoted, HaveRisen, AreRaised, known_of, IsKnown, IsHead, HaveHeads, KeepsHead, KeepHeads, HasHeads, IsFloor, IsOtherWriter, TellsNone, IsTold, AreReadingsOf, AreNewsOf, AreNews, AreWider, AreSorted}
+use Rattle.tcc_order.specs.private.News.{AreNoted, HasClock, HaveRisen, AreRaised, known_of, IsKnown, IsHead, HaveHeads, KeepsHead, KeepHeads, HasHeads, IsFloor, IsOtherWriter, TellsNone, IsTold, AreReadingsOf, AreNewsOf, AreNews, AreWider, AreSorted}
 use Rattle.tcc_order.proofs.EmptyRows.{nothing_kept}
 use Rattle.tcc_order.proofs.OrderOrCycle.{before_join}
 
 -- ---- what is known
 module _ (h : History) (numbered : IsBySession h.entries) (owners : List ℕ) (are : AreOwners h owners) (from floor : ℕ) (is_floor : IsFloor owners from floor)
-    (table : List (List ℕ)) (clocks : AreClocks h from table) (a : ℕ) (low : a < count h) where
+    (table : List (List ℕ)) (a : ℕ) (low : a < count h) (clock : HasClock h from table a) where
   -- another of the block that is no greater than what is known is held by the clock
   known_holds : (P : ℕ → Type 0) (k b : ℕ) → k < WIDE → IsOneOf h P (from + k) b → b ≢ a → b ≤ known_of owners from floor (row_of table a) a k
       → b ≤ slice_index (row_of table a) k
@@ -52,7 +52,7 @@ module _ (h : History) (numbered : IsBySession h.entries) (owners : List ℕ) (a
       before_it : owner h a ≡ from + k → b < a → b ≤ slice_index (row_of table a) k
       before_it mine less =
           let w = pair_walk h b a (inl (same_session h numbered b a one.committed less low (one.owned ∙ sym mine))) in
-          ((clocks.each a low low).each k l).greatest b record { committed = one.committed; below = one.below; owned = one.owned; meant = (w.0, w.1) }
+          (clock.each k l).greatest b record { committed = one.committed; below = one.below; owned = one.owned; meant = (w.0, w.1) }
 
       by_own : owner h a ≡ from + k → (slice_index (row_of table a) k < b) ⊎ (b ≤ slice_index (row_of table a) k)
           → b ≤ max a (max (slice_index (row_of table a) k) floor) → b ≤ slice_index (row_of table a) k
@@ -69,10 +69,10 @@ module _ (h : History) (numbered : IsBySession h.entries) (owners : List ℕ) (a
           let most : b ≤ max (slice_index (row_of table a) k) floor = rw f at upto in
           omega (arith, most, past_floor)
 
-  module _ (c : ℕ) (reader : c < count h) where
+  module _ (c : ℕ) (reader : HasClock h from table c) where
     reached_held : (P : ℕ → Type 0) (k b : ℕ) → k < WIDE → IsOneOf h P (from + k) b → IsReached h b c → b ≤ slice_index (row_of table c) k
     reached_held P k b l one reached =
-        ((clocks.each c reader reader).each k l).greatest b record { committed = one.committed; below = one.below; owned = one.owned; meant = reached }
+        (reader.each k l).greatest b record { committed = one.committed; below = one.below; owned = one.owned; meant = reached }
 
     -- a reader with the row of what it reads from
     pub told_same : (x : List ℕ) → row_of table c ≡ row_of table a → TellsNone h from table a c x
@@ -100,12 +100,19 @@ alike_more P n was here k above l = go (cases_eq k n)
     go (inl same) = subst P (sym same) here
     go (inr other) = was k above (omega (arith, l, other))
 
+-- what a transaction reads from has its clock, where those right before it have theirs
+pub source_clock : (h : History) (from : ℕ) (table : List (List ℕ)) (c : ℕ) (found : List ℕ) → found ≡ parents h c → All (HasClock h from table) found
+    → (a : ℕ) (x : List ℕ) → IsReadsPair h a c x → HasClock h from table a
+source_clock h from table c found is clocks a x pair =
+    All-contains (HasClock h from table) found a clocks
+    (rw is (Contains-append_right (previous_one h c) (sources h c) a (reads_source h a c x pair.2)))
+
 -- where all that a transaction reads from have its row it tells nothing
 pub told_alike : (h : History) → IsBySession h.entries → (owners : List ℕ) → AreOwners h owners → (from floor : ℕ) → IsFloor owners from floor
-    → (table : List (List ℕ)) → AreClocks h from table → (c : ℕ) → c < count h → (found : List ℕ) → found ≡ parents h c → 0 < c
+    → (table : List (List ℕ)) (c : ℕ) → HasClock h from table c → (found : List ℕ) → found ≡ parents h c → All (HasClock h from table) found → 0 < c
     → ((k : ℕ) → 0 < k → k < length found → row_of table (get_or found k 0) ≡ row_of table c) → (a : ℕ) (x : List ℕ) → IsReadsPair h a c x
     → TellsNone h from table a c x
-told_alike h numbered owners are from floor is_floor table clocks c reader found is some same a x pair = go (reads_source h a c x pair.2)
+told_alike h numbered owners are from floor is_floor table c clock found is clocks some same a x pair = go (reads_source h a c x pair.2)
   where
     whole : found ≡ previous h c ∷ sources h c
     whole = is ∙ ap (λ (z : List ℕ). z ++ sources h c) (session_some h c some)
@@ -114,7 +121,7 @@ told_alike h numbered owners are from floor is_floor table clocks c reader found
     go (j, l, e) =
         let at : get_or found (suc j) 0 ≡ a = ap (λ (z : List ℕ). get_or z (suc j) 0) whole ∙ (get_or_default (sources h c) j 0 a l ∙ e) in
         let inside : suc j < length found = rw whole (omega (arith, l)) in
-        told_same h numbered owners are from floor is_floor table clocks a pair.0 c reader x
+        told_same h numbered owners are from floor is_floor table a pair.0 (source_clock h from table c found is clocks a x pair) c clock x
         (sym (subst (λ (z : ℕ). row_of table z ≡ row_of table c) at (same (suc j) (omega arith) inside)))
 
 -- ---- the reads of one transaction
@@ -281,9 +288,6 @@ noted_fewer h from P Q rows fewer noted key_index k b within l one =
     noted key_index k b within l
     record { committed = one.committed; below = one.below; owned = one.owned; meant = (one.meant.0, fewer b one.meant.1) }
 
-pub noted_none : (h : History) (from : ℕ) (order : List ℕ) (rows : List (List ℕ)) → AreNoted h from (Contains (take 0 order)) rows
-noted_none h from order rows key_index k b within l one = absurd (nothing_in b one.meant.1)
-
 -- one more of an order
 pub noted_more : (h : History) (from : ℕ) (order : List ℕ) (n : ℕ) (old new : List (List ℕ)) → n < length order → length new ≡ length old
     → HaveRisen old new → AreNoted h from (λ b. b ≡ get_or order n 0) new
@@ -350,7 +354,7 @@ module _ (h : History) (order : List ℕ) (numbering : IsNumbering (count h) ord
       let long : i < length (take n order) = omega (arith, early, length-take-le n order (omega (arith, inside))) in
       (i, long, get_or_default (take n order) i b 0 long ∙ (get_or-take n order i 0 early ∙ at_b))
 
-  reached_passed : (n b : ℕ) → n < length order → IsReached h b (get_or order n 0) → Contains (take n order) b
+  pub reached_passed : (n b : ℕ) → n < length order → IsReached h b (get_or order n 0) → Contains (take n order) b
   reached_passed n b inside reached = passed n b inside (reached_onward b (get_or order n 0) reached)
 
   pub noted_reached : (from n : ℕ) (rows : List (List ℕ)) → n < length order → AreNoted h from (Contains (take n order)) rows
@@ -375,6 +379,25 @@ passed_more h from table order old new n wider here told j l a x pair = go (case
     go (inl same) =
         subst (λ (z : ℕ). IsTold h from table a (row_of new a) (get_or order z 0) x) (sym same)
         (here a x (subst (λ (z : ℕ). IsReadsPair h a (get_or order z 0) x) same pair))
+
+-- the next one has its row now: none of those that were read from is it
+pub passed_still : (h : History) (from : ℕ) (table : List (List ℕ)) (row : List ℕ) (order : List ℕ) (rows : List (List (ℕ × ℕ))) (n : ℕ)
+    → IsNumbering (count h) order → LeadsOnward h order → n < length order → ArePassed h from table order rows n
+    → ArePassed h from (set table (get_or order n 0) row) order rows n
+passed_still h from table row order rows n numbering onward inside told j l a x pair = go (told j l a x pair)
+  where
+    apart : Before order a (get_or order j 0) → a ≢ get_or order n 0
+    apart (i, m, less, within, at_a, at_j) same =
+        let first : m ≡ j = one_index numbering m j within (omega (arith, l, inside)) at_j in
+        let second : i ≡ n = one_index numbering i n (omega (arith, less, within)) inside (at_a ∙ same) in
+        omega (arith, less, first, second, l)
+
+    here : row_of (set table (get_or order n 0) row) a ≡ row_of table a
+    here = get_or-set_other table (get_or order n 0) a row [] (apart (onward a (get_or order j 0) (inr (x, pair))))
+
+    go : IsTold h from table a (row_of rows a) (get_or order j 0) x → IsTold h from (set table (get_or order n 0) row) a (row_of rows a) (get_or order j 0) x
+    go (inl there) = inl there
+    go (inr tells) = inr (rw here tells)
 
 pub passed_all : (h : History) (from : ℕ) (table : List (List ℕ)) (order : List ℕ) (rows : List (List (ℕ × ℕ))) (n : ℕ) → IsNumbering (count h) order
     → length order ≤ n → length rows ≡ count h → ((a : ℕ) → AreReadingsOf h a (row_of rows a)) → ArePassed h from table order rows n
@@ -442,7 +465,7 @@ news_readers h from table rows news n whole k d l = rw (get_or_default rows k d 
 
 -- ---- heads
 module _ (h : History) (numbered : IsBySession h.entries) (owners : List ℕ) (are : AreOwners h owners) (from floor : ℕ) (is_floor : IsFloor owners from floor)
-    (table : List (List ℕ)) (clocks : AreClocks h from table) (a : ℕ) (low : a < count h) where
+    (table : List (List ℕ)) (a : ℕ) (low : a < count h) (clock : HasClock h from table a) where
   -- who has a head that is known is a, or reaches it
   head_known : (b z : ℕ) → IsKnown owners from floor (row_of table a) a z → IsHead h floor b z → (b ≡ a) ⊎ IsReached h b a
   head_known b z (inl under) head = absurd (omega (arith, under, head.0))
@@ -461,11 +484,11 @@ module _ (h : History) (numbered : IsBySession h.entries) (owners : List ℕ) (a
       some = omega (arith, head.0)
 
       wide : k < WIDE
-      wide = omega (arith, l, (clocks.each a low low).wide)
+      wide = omega (arith, l, clock.wide)
 
       leads : IsReached h z a
       leads =
-          clock_reaches h numbered a (from + k) (slice_index (row_of table a) k) z ((clocks.each a low low).each k wide) some below
+          clock_reaches h numbered a (from + k) (slice_index (row_of table a) k) z (clock.each k wide) some below
           (sym (are.each z some below) ∙ mine) upto
 
       go : (count h ≤ z) ⊎ ((b ≡ z) ⊎ IsReached h b z) → (b ≡ a) ⊎ IsReached h b a
@@ -486,7 +509,7 @@ module _ (h : History) (numbered : IsBySession h.entries) (owners : List ℕ) (a
       go : (b ≡ a) ⊎ IsReached h b a → b ≤ slice_index (row_of table a) k
       go (inl same) = absurd (one.meant.1 same)
       go (inr reached) =
-          ((clocks.each a low low).each k l).greatest b record { committed = one.committed; below = one.below; owned = one.owned; meant = reached }
+          (clock.each k l).greatest b record { committed = one.committed; below = one.below; owned = one.owned; meant = reached }
 
   -- the head after a itself was noted
   pub head_own : floor < a → IsHead h floor a a
@@ -507,8 +530,8 @@ module _ (h : History) (numbered : IsBySession h.entries) (owners : List ℕ) (a
       go (inl same) = inl same
       go (inr apart) =
           let held : b ≤ slice_index (row_of table a) k
-          = known_holds h numbered owners are from floor is_floor table clocks a low (λ b. Unit {0}) k b l one apart (omega (arith, under, less k l, is k l)) in
-          inr (clock_reaches h numbered a (from + k) (slice_index (row_of table a) k) b ((clocks.each a low low).each k l) one.committed one.below one.owned held)
+          = known_holds h numbered owners are from floor is_floor table a low clock (λ b. Unit {0}) k b l one apart (omega (arith, under, less k l, is k l)) in
+          inr (clock_reaches h numbered a (from + k) (slice_index (row_of table a) k) b (clock.each k l) one.committed one.below one.owned held)
 
 -- ---- heads of keys
 pub heads_none : (h : History) (from floor c : ℕ) (rows : List (List ℕ)) (heads key_indices : List ℕ)
@@ -553,9 +576,6 @@ pub heads_fewer : (h : History) (from floor : ℕ) (P Q : ℕ → Type 0) (heads
     → HaveHeads h from floor P heads
 heads_fewer h from floor P Q heads fewer have key_index k b within l one =
     have key_index k b within l record { committed = one.committed; below = one.below; owned = one.owned; meant = (one.meant.0, fewer b one.meant.1) }
-
-pub heads_begun : (h : History) (from floor : ℕ) (order heads : List ℕ) → HaveHeads h from floor (Contains (take 0 order)) heads
-heads_begun h from floor order heads key_index k b within l one = absurd (nothing_in b one.meant.1)
 
 -- one more of an order
 pub heads_more : (h : History) (from floor : ℕ) (order : List ℕ) (n : ℕ) (rows : List (List ℕ)) (old new : List ℕ) → n < length order → length new ≡ length old

@@ -21,8 +21,8 @@ use crate::rows::{MadeRows, empty_rows};
 use std::alloc::Global;
 use tcc_bits::Row;
 use tcc_clocks::{
-    Clock, SharedRows, Steps, WIDE, between, block_bounds, find_clocks, needed_blocks, owners,
-    raise_each, span_of, steps_along,
+    Clock, SharedRows, Steps, WIDE, between, block_bounds, needed_blocks, owners, raise_each,
+    span_of, steps_along,
 };
 use tcc_graph::LargeGraph;
 use tcc_txn::NoMemory;
@@ -411,7 +411,6 @@ pub(crate) fn links_from(
         let owners = sweep.owners;
         let order = sweep.order;
         let steps = sweep.steps;
-        find_clocks(&mut table, graph, owners, from, order, steps)?;
         find_news(
             &mut readings,
             &mut last,
@@ -419,7 +418,7 @@ pub(crate) fn links_from(
             owners,
             from,
             graph,
-            &table,
+            &mut table,
             order,
             steps,
         )?;

@@ -3,6 +3,7 @@
 #![tactic(auto)]
 
 mod atomic_links;
+mod block_start;
 mod causal_links;
 mod clocks_along;
 mod commit_order;

@@ -4,7 +4,7 @@
 //! alone, the head, where all writers noted so far reach it, as they mostly do. For N
 //! transactions, R reads and W writes that takes N + 64 R + W steps a block of 64 sessions. A key has a row of 64 numbers; past
 //! `SLOTS` keys several share one, which then holds more than it must: some readings are looked at in vain.
-ghost use Rattle.std.specs.Prelude.{◌≡◌, ◌<◌, ◌≤◌, false, true, ℕ, List, min, length, slice_index, All, IfOk, OnOk};
+ghost use Rattle.std.specs.Prelude.{◌≡◌, ◌<◌, ◌≤◌, false, true, ℕ, List, min, length, replicate, slice_index, All, IfOk, OnOk};
 ghost use Rattle.std.specs.List.Sorted.{IsNonDecreasing};
 ghost use Rattle.tcc_reads.specs.History.{IsBySession, count};
 ghost use Rattle.tcc_graph.specs.{Relations.IsReadsPair, Keys.keys, Keys.key_at, Tables.row_of, Orders.IsNumbering, Walks.IsReached};
@@ -12,11 +12,14 @@ ghost use Rattle.tcc_clocks.specs.{Parents.AreSteps, Parents.parents};
 ghost use Rattle.tcc_clocks.specs.Clocks.{AreOwners, AreClocks, LeadsOnward};
 ghost use Rattle.tcc_clocks.specs.{private.Rows.with_own, declared.latest.TheConstants.WIDE, declared.side.Side.TheVariants.Past};
 ghost use Rattle.tcc_order.specs.private.CausalLinks.{HasNone};
-ghost use Rattle.tcc_order.specs.private.News.{AreNews, AreNoted, AreRaised, AreReadingsOf, AreWider, HasHeads, HaveHeads, HaveRisen, IsFloor, IsHead, IsHeld, IsKnown, IsTold, KeepHeads, KeepsHead, TellsNone, known_of};
+ghost use Rattle.tcc_order.specs.private.News.{AreNews, AreNoted, AreRaised, AreReadingsOf, AreWider, HasClock, HasHeads, HaveHeads, HaveRisen, IsFloor, IsHead, IsHeld, IsKnown, IsTold, KeepHeads, KeepsHead, NoneBefore, TellsNone, known_of};
 
+use crate::block_start::{block_start, zeros_before};
 use crate::reading_rows::{Readings, clear_all, sort_all};
 use std::alloc::{AllocError, Global};
-use tcc_clocks::{Clock, SharedRows, Steps, WIDE, between, block_bounds, raise_each};
+use tcc_clocks::{
+    Clock, SharedRows, Side, Steps, WIDE, between, block_bounds, put_row, raise_each,
+};
 use tcc_graph::LargeGraph;
 use tcc_txn::NoMemory;
 
@@ -122,7 +125,9 @@ fn may_tell(
 ) -> bool
     requires numbered { IsBySession graph.now.entries }
     requires owners { AreOwners graph.now owners.now }
-    requires clocks { AreClocks graph.now from table.now }
+    requires table { length table.now ≡ count graph.now }
+    requires clock { HasClock graph.now from table.now c }
+    requires source_clock { HasClock graph.now from table.now a }
     requires floor { IsFloor owners.now from floor }
     requires noted { AreNoted graph.now from (λ b. IsReached graph.now b c) last.now }
     requires heads { HaveHeads graph.now from floor (λ b. IsReached graph.now b c) heads.now }
@@ -179,7 +184,9 @@ fn add_readings(
 ) -> Result<(), NoMemory>
     requires numbered { IsBySession graph.now.entries }
     requires owners { AreOwners graph.now owners.now }
-    requires clocks { AreClocks graph.now from table.now }
+    requires table { length table.now ≡ count graph.now }
+    requires clock { HasClock graph.now from table.now c }
+    requires clocks { All (HasClock graph.now from table.now) found.now }
     requires floor { IsFloor owners.now from floor }
     requires noted { AreNoted graph.now from (λ b. IsReached graph.now b c) last.now }
     requires heads { HaveHeads graph.now from floor (λ b. IsReached graph.now b c) heads.now }
@@ -222,7 +229,8 @@ fn head_after(
 ) -> u32
     requires numbered { IsBySession graph.now.entries }
     requires owners { AreOwners graph.now owners.now }
-    requires clocks { AreClocks graph.now from table.now }
+    requires table { length table.now ≡ count graph.now }
+    requires clock { HasClock graph.now from table.now c }
     requires floor { IsFloor owners.now from floor }
     requires wide { length row.now ≡ WIDE }
     requires below { c < count graph.now }
@@ -257,7 +265,8 @@ fn raise_keys(
 )
     requires numbered { IsBySession graph.now.entries }
     requires owners { AreOwners graph.now owners.now }
-    requires clocks { AreClocks graph.now from table.now }
+    requires table { length table.now ≡ count graph.now }
+    requires clock { HasClock graph.now from table.now c }
     requires floor { IsFloor owners.now from floor }
     requires beside { length heads.old ≡ length last.old }
     requires some { 0 < length last.old }
@@ -300,7 +309,8 @@ fn note_writer(
 )
     requires numbered { IsBySession graph.now.entries }
     requires owners { AreOwners graph.now owners.now }
-    requires clocks { AreClocks graph.now from table.now }
+    requires table { length table.now ≡ count graph.now }
+    requires clock { HasClock graph.now from table.now c }
     requires floor { IsFloor owners.now from floor }
     requires beside { length heads.old ≡ length last.old }
     requires some { 0 < length last.old }
@@ -332,8 +342,8 @@ fn note_writer(
     }
 }
 
-/// Adds the readings that may tell more of their source than its clock does, by an order in which causal pairs lead onward. What
-/// was noted before in other blocks may stand there still.
+/// Works out the clocks along an order in which causal pairs lead onward, from the position on at which the block begins, and adds
+/// the readings that may tell more of their source than its clock does. What was noted before in other blocks may stand there still.
 fn add_along(
     rows: &mut [Readings],
     last: &mut [Clock],
@@ -341,16 +351,20 @@ fn add_along(
     owners: &[u32],
     from: u32,
     graph: &LargeGraph,
-    table: &SharedRows,
+    table: &mut SharedRows,
     order: &[u32],
+    start: usize,
     steps: &Steps,
 ) -> Result<(), NoMemory>
     requires numbered { IsBySession graph.now.entries }
     requires owners { AreOwners graph.now owners.now }
-    requires clocks { AreClocks graph.now from table.now }
     requires numbering { IsNumbering (count graph.now) order.now }
     requires onward { LeadsOnward graph.now order.now }
     requires steps { AreSteps graph.now order.now steps.now.spans.items steps.now.numbers.items (length order.now) }
+    requires begun { NoneBefore owners.now from order.now start }
+    requires within { start ≤ length order.now }
+    requires table { length table.old ≡ count graph.now }
+    requires zeros { (j : ℕ) → j < start → row_of table.old (slice_index order.now j) ≡ replicate WIDE 0 }
     requires beside { length heads.old ≡ length last.old }
     requires some { 0 < length last.old }
     requires long { length rows.old ≡ count graph.now }
@@ -358,21 +372,24 @@ fn add_along(
     ensures same { length rows.new ≡ length rows.old }
     ensures rows { length last.new ≡ length last.old }
     ensures heads { length heads.new ≡ length heads.old }
-    ensures news { OnOk result (AreNews graph.now from table.now rows.new) }
+    ensures clocks { OnOk result (AreClocks graph.now from table.new) }
+    ensures news { OnOk result (AreNews graph.now from table.new rows.new) }
 {
     let floor = floor_of(owners, from);
-    for (position, c) in order.iter().enumerate() {
+    for position in start..order.len() {
+        let c = order[position];
         let found = between(&steps.numbers, steps.spans[position]);
+        put_row(table, Side::Past, graph, owners, from, found, c)?;
         add_readings(
-            rows, last, heads, owners, from, floor, graph, table, found, *c,
+            rows, last, heads, owners, from, floor, graph, table, found, c,
         )?;
-        note_writer(last, heads, owners, from, floor, graph, table, *c);
+        note_writer(last, heads, owners, from, floor, graph, table, c);
     }
     Ok(())
 }
 
-/// Finds the readings that may tell more of their source than its clock does, those of one key together, by an order in which
-/// causal pairs lead onward.
+/// Finds the clocks of a block of sessions, and the readings that may tell more of their source than its clock does, those of one
+/// key together; by an order in which causal pairs lead onward.
 pub(crate) fn find_news(
     rows: &mut [Readings],
     last: &mut [Clock],
@@ -380,26 +397,31 @@ pub(crate) fn find_news(
     owners: &[u32],
     from: u32,
     graph: &LargeGraph,
-    table: &SharedRows,
+    table: &mut SharedRows,
     order: &[u32],
     steps: &Steps,
 ) -> Result<(), NoMemory>
     requires numbered { IsBySession graph.now.entries }
     requires owners { AreOwners graph.now owners.now }
-    requires clocks { AreClocks graph.now from table.now }
     requires numbering { IsNumbering (count graph.now) order.now }
     requires onward { LeadsOnward graph.now order.now }
     requires steps { AreSteps graph.now order.now steps.now.spans.items steps.now.numbers.items (length order.now) }
+    requires table { length table.old ≡ count graph.now }
     requires beside { length heads.old ≡ length last.old }
     requires some { 0 < length last.old }
     requires long { length rows.old ≡ count graph.now }
     ensures same { length rows.new ≡ length rows.old }
     ensures rows { length last.new ≡ length last.old }
     ensures heads { length heads.new ≡ length heads.old }
-    ensures news { OnOk result (AreNews graph.now from table.now rows.new) }
+    ensures clocks { OnOk result (AreClocks graph.now from table.new) }
+    ensures news { OnOk result (AreNews graph.now from table.new rows.new) }
 {
     clear_all(rows);
-    add_along(rows, last, heads, owners, from, graph, table, order, steps)?;
+    let start = block_start(order, owners, from);
+    zeros_before(table, order, start)?;
+    add_along(
+        rows, last, heads, owners, from, graph, table, order, start, steps,
+    )?;
     sort_all(rows);
     Ok(())
 }

@@ -1,4 +1,5 @@
 pub mod Asked
 pub mod Rules
+pub mod Known
 pub mod Links
 pub mod private

@@ -3,11 +3,13 @@
 #![tactic(auto)]
 
 mod judgement;
+mod known;
 mod links;
 mod stream_fault;
 mod verdict;
 
 pub use judgement::{Claim, Judgement};
+pub use known::{KnownLink, KnownWalk};
 pub use links::{
     LinksJudge, LinksSeen, are_links_below, first_wrong_link, no_links, seen_wrong, with_link,
 };

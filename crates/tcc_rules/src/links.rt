@@ -1,9 +1,10 @@
-//! The rule on the links of a cycle, one link after the other.
+//! The rule on the links of a cycle, one link after the other, by what is known of each.
 ghost use Rattle.std.specs.Prelude.{◌≡◌, ◌+◌, ◌<◌, ◌++◌, ◌∷◌, [], ◌↔◌, ℕ, All, IfOk, IsTrue, List, OnOk, Some, get_or, length};
 ghost use Rattle.tcc_graph.specs.{Levels.Judged, Levels.judged, Links.cost, declared.link.Link.Link};
 ghost use Rattle.tcc_cert.specs.CycleRules.{IsFirstWrongLink, IsLinkBelow, IsLinkRight};
-ghost use Rattle.tcc_rules.specs.Links.{AreJudged, AreSeenTo, ends_or, first_wrong, left_behind};
+ghost use Rattle.tcc_rules.specs.{Known.IsKnownLink, Links.AreJudged, Links.AreSeenTo, Links.ends_or, Links.first_wrong, Links.left_behind};
 
+use crate::KnownLink;
 use tcc_graph::{LargeGraph, Level, Link};
 use tcc_txn::NoMemory;
 
@@ -19,10 +20,10 @@ pub struct LinksSeen {
 }
 
 /// Whether the link begins there and is one of the history.
-fn is_link_right(graph: &LargeGraph, level: Level, at: u32, link: &Link) -> bool
-    ensures { IsTrue result ↔ IsLinkRight (judged graph.now level) at link.now }
+fn is_link_right(at: u32, known: KnownLink) -> bool
+    ensures { (j : Judged) (link : Link) → IsKnownLink j link known → IsTrue result ↔ IsLinkRight j at link }
 {
-    link.from() == at && graph.is_link(level, link)
+    known.from == at && known.is_link
 }
 
 /// Where the first link begins and the last ends; where there is none yet, a link that comes is to begin where it does.
@@ -66,6 +67,22 @@ pub fn no_links(least: u32) -> LinksSeen
     }
 }
 
+/// One link more, the one of this number, from 1, by what is known of it.
+fn with_known(seen: LinksSeen, number: usize, known: KnownLink) -> LinksSeen
+    ensures { (j : Judged) (least i : ℕ) (links : List Link) (link : Link) → IsKnownLink j link known
+        → number ≡ i + 1 → i < length links → link ≡ get_or links i link
+        → AreSeenTo j least links i seen
+        → AreSeenTo j least links (i + 1) result }
+{
+    let (begin, at) = ends_or(seen.ends, known.from);
+    let is_right = is_link_right(at, known);
+    LinksSeen {
+        ends: Some((begin, known.to)),
+        wrong: first_wrong(seen.wrong, is_right, number),
+        left: left_behind(seen.left, known.cost),
+    }
+}
+
 /// One link more, the one of this number, from 1.
 pub fn with_link(
     seen: LinksSeen,
@@ -78,13 +95,7 @@ pub fn with_link(
         → AreSeenTo (judged graph.now level) least links i seen
         → AreSeenTo (judged graph.now level) least links (i + 1) result }
 {
-    let (begin, at) = ends_or(seen.ends, link.from());
-    let is_right = is_link_right(graph, level, at, link);
-    LinksSeen {
-        ends: Some((begin, link.to())),
-        wrong: first_wrong(seen.wrong, is_right, number),
-        left: left_behind(seen.left, link.cost()),
-    }
+    with_known(seen, number, KnownLink::of(graph, level, link))
 }
 
 /// Whether nothing is left, and no more was taken than there was.
@@ -170,11 +181,20 @@ impl LinksJudge {
         ensures { OnOk result ((most : ℕ) (links : List Link) → AreJudged (judged graph.now level) most links self.old
             → AreJudged (judged graph.now level) most (links ++ link.now ∷ []) self.new) }
     {
+        self.judge_known(KnownLink::of(graph, level, link))?;
+        Ok(())
+    }
+
+    /// One link more, by what is known of it.
+    pub fn judge_known(&mut self, known: KnownLink) -> Result<(), NoMemory>
+        ensures { OnOk result ((j : Judged) (most : ℕ) (links : List Link) (link : Link) → IsKnownLink j link known
+            → AreJudged j most links self.old → AreJudged j most (links ++ link ∷ []) self.new) }
+    {
         // No text has so many.
         let Some(number) = self.count.checked_add(1) else {
             return Err(NoMemory);
         };
-        self.seen = with_link(self.seen, graph, level, number, link);
+        self.seen = with_known(self.seen, number, known);
         self.count = number;
         Ok(())
     }

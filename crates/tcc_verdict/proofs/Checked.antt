@@ -101,3 +101,9 @@ module _ {G J : Type 0} (check : Check J) (is_made : Sessions → G → Type 0) 
 pub for_any : (bytes : Option (List ℕ)) {P : List ℕ → Type 0} → ((text : List ℕ) → P text) → IfSome bytes P
 for_any None all = tt
 for_any (Some text) all = all text
+
+-- what follows of every text from two facts follows of the text of a reader
+pub from_two : (bytes : Option (List ℕ)) {P Q R : List ℕ → Type 0} → IfSome bytes P → IfSome bytes Q
+    → ((text : List ℕ) → P text → Q text → R text) → IfSome bytes R
+from_two None p q both = tt
+from_two (Some text) p q both = both text p q

@@ -1,26 +1,92 @@
--- What is noted of a snapshot, from what is noted of the answer of its resolver.
-use Rattle.std.proofs.Common.{ℕ, List, [], ◌∷◌, Option, Err, subst}
+-- What is noted of an outcome, from what is noted at each stage.
+use Rattle.std.proofs.Common.{◌≡◌, ℕ, List, [], ◌∷◌, Bool, true, false, cond, Option, Ok, Err, inl, inr, refl, sym, subst}
+use Rattle.std.specs.Prelude.{Result, IsErrAnd}
 use Rattle.std.proofs.KnownBytes.{Appends-nil}
 use Rattle.std.specs.Io.KnownBytes.{Appends}
 use Rattle.tcc_txn.specs.Snapshots.{Sessions}
-use Rattle.tcc_reads.specs.Faults.{read_faults}
-use Rattle.tcc_reads.specs.Refusals.{IsRefusal}
+use Rattle.tcc_txn.specs.declared.limits.Limits.{Limits}
+use Rattle.tcc_rows.specs.Answers.{answers_within}
+use Rattle.tcc_rows.specs.Items.{finished_in}
+use Rattle.tcc_rows.specs.Lines.{Record}
+use Rattle.tcc_rows.specs.declared.fault.RowFault.{RowFault}
+use Rattle.tcc_rows.specs.declared.fault.RowFaultKind.{RowFaultKind}
+use Rattle.tcc_rows.specs.declared.fault.RowFaultKind.TheVariants as row_kind
 use Rattle.tcc_reads.specs.declared.fault.ResolveFault.{ResolveFault}
 use Rattle.tcc_reads.specs.declared.fault.ResolveFault.TheVariants as refusal
+use Rattle.tcc_print.specs.Halts.{by_row, is_memory}
+use Rattle.tcc_print.specs.private.Halts.{unresolved_by}
 use Rattle.tcc_print.specs.Notes.{AddsEach, read_notes, resolved_notes}
+use Rattle.tcc_print.specs.declared.halt.Halt.{Halt}
+use Rattle.tcc_print.specs.declared.halt.Halt.TheVariants.{Row, Reads, Text, NoMemory}
+use Rattle.tcc_verdict.specs.Checking.{Check}
+use Rattle.tcc_verdict.specs.Noting.{NotesHalt, NotesOutcome, snapshot_notes}
+use Rattle.tcc_verdict.specs.Stopping.{NotesStop}
+use Rattle.tcc_verdict.specs.private.Stages.{IsCheckWithin, MayBeOfText, MayBeResolution}
 
--- where nothing was added, no more than a part of each was
-pub none_added : (before after : Option (List ℕ)) (texts : List (List ℕ)) → Appends before after [] → AddsEach before after texts
-none_added before after [] is = is
-none_added before after (text ∷ texts) is = (before, (0, Appends-nil before), none_added before after texts is)
+module _ (before after : Option (List ℕ)) where
+  -- where nothing was added, no more than a part of each was
+  none_added : (texts : List (List ℕ)) → Appends before after [] → AddsEach before after texts
+  none_added [] is = is
+  none_added (text ∷ texts) is = (before, (0, Appends-nil before), none_added texts is)
 
-module _ (s : Sessions) (before after : Option (List ℕ)) where
-  -- of a refusal all is noted that is to be noted of the snapshot
-  pub refusal_noted : (T : Type 0) (fault : ResolveFault) → IsRefusal s fault → AddsEach before after (resolved_notes {T = T} s (Err fault))
-      → AddsEach before after (read_notes s (read_faults s))
-  refusal_noted T (refusal.Reads faults) refuses noted = subst (λ found. AddsEach before after (read_notes s found)) refuses.0 noted
-  refusal_noted T refusal.NoMemory refuses noted = none_added before after _ noted
+  module _ {T : Type 0} (s : Sessions) where
+    -- what is noted of a refusal is what is noted of the snapshot that it is about
+    pub refusal_noted : (R : Type 0) (fault : ResolveFault) (o : Result T Halt) → IsErrAnd o (λ why. why ≡ unresolved_by fault)
+        → AddsEach before after (resolved_notes {T = R} s (Err fault)) → AddsEach before after (snapshot_notes s o)
+    refusal_noted R fault (Ok made) is noted = absurd is
+    refusal_noted R (refusal.Reads faults) (Err why) is noted = subst (λ u. AddsEach before after (snapshot_notes {T = T} s (Err u))) (sym is) noted
+    refusal_noted R refusal.NoMemory (Err why) is noted = subst (λ u. AddsEach before after (snapshot_notes {T = T} s (Err u))) (sym is) noted
 
-  -- and of a snapshot that is resolved nothing
-  pub nothing_noted : Appends before after [] → AddsEach before after (read_notes s (read_faults s))
-  nothing_noted none = none_added before after _ none
+    -- of refused memory nothing is
+    pub memory_noted : (o : Result T Halt) → IsErrAnd o (λ why. why ≡ NoMemory) → Appends before after [] → AddsEach before after (snapshot_notes s o)
+    memory_noted (Ok made) is none = absurd is
+    memory_noted (Err why) is none = subst (λ u. AddsEach before after (snapshot_notes {T = T} s (Err u))) (sym is) none
+
+  -- ---- of the records
+
+  module _ (limits : Limits) (records : List ℕ) where
+    module _ {T : Type 0} where
+      -- of the fault of a record its own note, and of refused memory none
+      pub fault_noted : (fault : RowFault) (o : Result T Halt) → IsErrAnd o (λ why. why ≡ by_row fault) → (last : Record)
+          → NotesStop limits fault last before after → NotesOutcome limits records o before after
+      fault_noted fault (Ok made) is last stops = absurd is
+      fault_noted fault (Err why) is last stops =
+          subst (λ u. NotesHalt limits records u before after) (sym is) (by_test (is_memory fault.kind) refl)
+        where
+          memory : (k : RowFaultKind) → is_memory k ≡ true → k ≡ row_kind.NoMemory
+          memory row_kind.NoMemory e = refl
+          memory _ e = cc e
+
+          by_test : (b : Bool) → is_memory fault.kind ≡ b → NotesHalt limits records (cond b NoMemory (Row fault)) before after
+          by_test true e = subst (λ now. Appends before now []) (sym (stops.refused (memory fault.kind e))) (Appends-nil before)
+          by_test false e = (last, stops)
+
+      -- what is noted of the snapshot that they finish
+      pub snapshot_noted : (is_made : Sessions → T → Type 0) (s : Sessions) (o : Result T Halt)
+          → s ≡ finished_in (answers_within limits records).items → MayBeResolution is_made s o → AddsEach before after (snapshot_notes s o)
+          → NotesOutcome limits records o before after
+      snapshot_noted is_made s (Ok made) same may noted = noted
+      snapshot_noted is_made s (Err (Reads faults)) same may noted = subst (λ snapshot. AddsEach before after (read_notes snapshot faults.items)) same noted
+      snapshot_noted is_made s (Err (Text fault)) same may noted = noted
+      snapshot_noted is_made s (Err NoMemory) same may noted = noted
+      snapshot_noted is_made s (Err (Row fault)) same (inl is) noted = absurd is
+      snapshot_noted is_made s (Err (Row fault)) same (inr memory) noted = let bad : ⊥ = cc memory in absurd bad
+
+    -- ---- of both
+
+    module _ {J : Type 0} where
+      -- what is noted of records of which nothing is made
+      pub halt_noted : (why : Halt) (o : Result J Halt) → IsErrAnd o (λ u. u ≡ why) → NotesHalt limits records why before after
+          → NotesOutcome limits records o before after
+      halt_noted why (Ok judged) is noted = absurd is
+      halt_noted why (Err u) is noted = subst (λ v. NotesHalt limits records v before after) (sym is) noted
+
+      -- and nothing more of a certificate
+      pub text_noted : (check : Check J) → IsCheckWithin limits check → (s : Sessions) (text : List ℕ) (o : Result J Halt) → MayBeOfText check s text o
+          → Appends before after [] → NotesOutcome limits records o before after
+      text_noted check within s text (Ok judged) may none = none
+      text_noted check within s text (Err (Reads faults)) may none = none_added _ none
+      text_noted check within s text (Err (Text fault)) may none = none
+      text_noted check within s text (Err NoMemory) may none = none
+      text_noted check within s text (Err (Row fault)) (inl is) none = absurd (within.passed s text fault is)
+      text_noted check within s text (Err (Row fault)) (inr memory) none = let bad : ⊥ = cc memory in absurd bad

@@ -2,7 +2,7 @@
 ghost use Rattle.std.specs.Prelude.{◌≡◌, IfSome};
 ghost use Rattle.tcc_print.specs.Notes.{AddsEach, resolved_notes};
 ghost use Rattle.tcc_verdict.specs.private.Stages.{MayBeTextCheck};
-ghost use Rattle.tcc_verdict.specs.Checks.{IsCheckRun, IsShown, PrintsSome};
+ghost use Rattle.tcc_verdict.specs.{Checks.IsCheckRun, Checks.IsShown, Checks.PrintsSome, Checks.small_check, Noting.IsNotedRun};
 
 use crate::{Checker, run_checker};
 use std::alloc::Global;
@@ -55,7 +55,7 @@ impl Checker for Graph {
 
     ghost is_made = { IsHistory };
 
-    ghost fits = { record { limited = refl; tells = record { text = λ why. refl; status = λ why. refl } } };
+    ghost fits = { record { limited = refl; tells = record { text = λ why. refl; status = λ why. refl }; passed = λ s text fault row. row } };
 
     fn graph_of<N: Write>(alloc: Global, snapshot: &Snapshot, notes: &mut N) -> Result<Self, Halt> {
         let resolved = noted(alloc, snapshot, resolve(alloc, snapshot), notes)?;
@@ -91,6 +91,8 @@ pub fn run_check<H: Read + Drop, C: Read + Drop, W: Write, N: Write>(
         (λ records. IfSome (C.remaining certificate) (λ text. IsCheckRun records text (W.contents out.old) (W.contents out.new) result)) }
     ensures printed { PrintsSome (W.contents out.old) (W.contents out.new) result }
     ensures shown { IfSome (H.remaining history) (λ records. IfSome (C.remaining certificate) (λ text. result ≡ 0 → IsShown records text)) }
+    ensures noted { IfSome (H.remaining history) (λ records. IfSome (C.remaining certificate)
+        (λ text. IsNotedRun small_check records text (N.contents notes.old) (N.contents notes.new) (W.contents out.old) (W.contents out.new) result)) }
 {
     certified();
     run_checker::<Graph, H, C, W, N, Unwatched>(alloc, history, certificate, out, notes, &Unwatched)

@@ -2,7 +2,7 @@
 ghost use Rattle.std.specs.Prelude.{◌≡◌, Ok, IfSome, MatchResult};
 ghost use Rattle.tcc_rows.specs.{Lines.Record, Recordings.IsRecorded};
 ghost use Rattle.tcc_verdict.specs.Checking.{IsCheckRunBy, MayBe, PrintsOutcome};
-ghost use Rattle.tcc_verdict.specs.{Stopping.NotesStop, private.Stages.IsMadeOf};
+ghost use Rattle.tcc_verdict.specs.{Noting.IsNotedRun, Noting.NotesOutcome, Stopping.NotesStop, private.Stages.IsMadeOf};
 
 use crate::stopping::note_stop;
 use std::alloc::Global;
@@ -16,9 +16,8 @@ use tcc_txn::{Bounds, SnapshotWithin};
 pub trait Checker: Drop {
     ghost use Rattle.std.specs.Prelude.{◌≡◌, IfSome, false};
     ghost use Rattle.tcc_txn.specs.Snapshots.{Sessions};
-    ghost use Rattle.tcc_print.specs.{Notes.AddsEach, Notes.read_notes, Printed.PrintsOrMemory};
-    ghost use Rattle.tcc_reads.specs.Faults.{read_faults};
-    ghost use Rattle.tcc_verdict.specs.Checking.{Check};
+    ghost use Rattle.tcc_print.specs.{Notes.AddsEach, Printed.PrintsOrMemory};
+    ghost use Rattle.tcc_verdict.specs.{Checking.Check, Noting.snapshot_notes};
     ghost use Rattle.tcc_verdict.specs.private.Stages.{IsCheckWithin, MayBeOfText, MayBeResolution};
 
     /// The limits of the records.
@@ -38,7 +37,7 @@ pub trait Checker: Drop {
         notes: &mut N,
     ) -> Result<Self, Halt>
         ensures made { MayBeResolution is_made snapshot.now result }
-        ensures notes { AddsEach (N.contents notes.old) (N.contents notes.new) (read_notes snapshot.now (read_faults snapshot.now)) };
+        ensures notes { AddsEach (N.contents notes.old) (N.contents notes.new) (snapshot_notes snapshot.now result) };
 
     /// What the certificate claims whose text the reader gives, and the verdict on it. `progress` may be told how far this is.
     fn judged<R: Read + Drop, P: Progress>(
@@ -90,7 +89,8 @@ fn history_of<C: Checker, R: Read + Drop, N: Write>(
     reader: R,
     notes: &mut N,
 ) -> Result<C, Halt>
-    ensures { IfSome (R.remaining reader) (λ records. IsMadeOf C.Limits.limits C.is_made records result) }
+    ensures made { IfSome (R.remaining reader) (λ records. IsMadeOf C.Limits.limits C.is_made records result) }
+    ensures noted { IfSome (R.remaining reader) (λ records. NotesOutcome C.Limits.limits records result (N.contents notes.old) (N.contents notes.new)) }
 {
     let recording = recorded::<R, C::Limits, N>(alloc, reader, notes)?;
     C::graph_of(alloc, recording.snapshot(), notes)
@@ -104,7 +104,9 @@ fn checked<C: Checker, H: Read + Drop, R: Read + Drop, N: Write, P: Progress>(
     notes: &mut N,
     progress: &P,
 ) -> Result<C::Judgement, Halt>
-    ensures { IfSome (H.remaining history) (λ records. IfSome (R.remaining certificate) (λ text. MayBe C.check records text result)) }
+    ensures given { IfSome (H.remaining history) (λ records. IfSome (R.remaining certificate) (λ text. MayBe C.check records text result)) }
+    ensures noted { IfSome (H.remaining history)
+        (λ records. IfSome (R.remaining certificate) (λ text. NotesOutcome C.Limits.limits records result (N.contents notes.old) (N.contents notes.new))) }
 {
     let graph = history_of::<C, H, N>(alloc, history, notes)?;
     graph.judged(alloc, certificate, progress)
@@ -123,6 +125,8 @@ pub fn run_checker<C: Checker, H: Read + Drop, R: Read + Drop, W: Write, N: Writ
     ensures run { IfSome (H.remaining history)
         (λ records. IfSome (R.remaining certificate) (λ text. IsCheckRunBy C.check records text (W.contents out.old) (W.contents out.new) result)) }
     ensures printed { PrintsOutcome C.check (W.contents out.old) (W.contents out.new) result }
+    ensures noted { IfSome (H.remaining history) (λ records. IfSome (R.remaining certificate)
+        (λ text. IsNotedRun C.check records text (N.contents notes.old) (N.contents notes.new) (W.contents out.old) (W.contents out.new) result)) }
 {
     C::print(
         alloc,

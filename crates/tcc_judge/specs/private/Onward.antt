@@ -1,5 +1,5 @@
 -- The rules on that no cycle costs less, past a cost of 4.
-use Rattle.std.specs.Prelude.{ℕ, ◌<◌, ◌≡◌, List, [], ◌∷◌, All, AllPairs, Contains, length}
+use Rattle.std.specs.Prelude.{ℕ, ◌<◌, ◌≤◌, ◌≡◌, List, [], ◌∷◌, All, AllPairs, Contains, length}
 use Rattle.tcc_reads.specs.History.{count}
 use Rattle.tcc_graph.specs.Keys.{key_at, keys}
 use Rattle.tcc_graph.specs.Levels.{Judged}
@@ -15,15 +15,16 @@ use Rattle.tcc_rules.specs.Asked.{Asked, as_whole, at_each}
 use Rattle.tcc_judge.specs.declared.verdict.Rule.{Rule}
 use Rattle.tcc_judge.specs.declared.verdict.Rule.TheVariants.{Onward, Limits, Cheaper}
 
--- these are committed transactions, ascending, and indices of keys: a cycle that costs less than `most` is among the transactions, or else
--- some transaction comes into `init` by one of the keys; and each derived link into `init` does
+-- these are committed transactions, ascending, and indices of keys: a cycle that costs less than a cost up to `most` is among the
+-- transactions, or else some transaction comes into `init` for less by one of the keys; and each derived link into `init` does
 pub record HasAllBelow (j : Judged) (most : ℕ) (members : List ℕ) (key_indices : List ℕ) : Type 0 where
   pub there : 0 < count j.history
   pub inside : All (λ v. v < count j.history) members
   pub aside : All (λ v. 0 < v) members
   pub ascend : AllPairs (λ u v. u < v) members
   pub keys : All (λ k. k < length (keys j.history)) key_indices
-  pub all : (s : ℕ) (links : List Link) → IsCycle j s links → cost links < most → (HasCheaperIntoInit j key_indices most → ⊥) → All (IsAmong members) links
+  pub all : (n : ℕ) → n ≤ most → (s : ℕ) (links : List Link) → IsCycle j s links → cost links < n → (HasCheaperIntoInit j key_indices n → ⊥)
+      → All (IsAmong members) links
   pub named : (b : ℕ) (x : List ℕ) (c : ℕ) (walk : List Step) → IsReason j b 0 x c walk
       → (k : ℕ) × Contains key_indices k × (key_at j.history k ≡ x)
 

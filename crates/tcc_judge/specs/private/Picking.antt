@@ -1,6 +1,6 @@
 -- What is known of the cycles below a cost.
 use Rattle.std.specs.Global.{Vec}
-use Rattle.std.specs.Prelude.{ℕ, ◌<◌, ◌≤◌, ◌≡◌, ◌+◌, ◌⊎◌, All, Option, None, Some}
+use Rattle.std.specs.Prelude.{ℕ, ◌<◌, ◌≤◌, ◌≡◌, ◌+◌, All, Option, None, Some}
 use Rattle.tcc_reads.specs.History.{History, count}
 use Rattle.tcc_graph.specs.Levels.{Judged}
 use Rattle.tcc_least.specs.Shapes.{NoneBelow}
@@ -25,10 +25,13 @@ IsCircleBelow j most (Some circle) =
     (NoneBelow j most → ⊥)
     × ((n : ℕ) → most ≡ n + 1 → NoneBelow j n → All (λ v. v < count j.history) circle.items × IsPickedAround j n circle.items)
 
--- no cycle costs less than `none`; one costs less than `end`, or that is the most that is asked of; and each turn brought the two nearer
-pub record IsBetween (j : Judged) (most : ℕ) (turn : ℕ) (none : ℕ) (end : ℕ) : Type 0 where
+-- what a least cycle costs, if that is less than `most`
+abbrev pub IsLeastBelow : Judged → ℕ → Option ℕ → Type 0
+IsLeastBelow j most None = NoneBelow j most
+IsLeastBelow j most (Some c) = (c < most) × NoneBelow j c × (NoneBelow j (c + 1) → ⊥)
+
+-- no cycle costs less than `none`, which each turn made greater
+pub record IsNoneYet (j : Judged) (turn : ℕ) (none : ℕ) : Type 0 where
   pub below : NoneBelow j none
-  pub some : (end ≡ most) ⊎ (NoneBelow j end → ⊥)
   pub low : 4 ≤ none
-  pub high : end ≤ most
-  pub nearer : end + turn ≤ none + most
+  pub greater : turn ≤ none

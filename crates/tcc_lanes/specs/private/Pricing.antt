@@ -104,6 +104,12 @@ pub record IsSettled (rows : List (List ℕ)) (level : ℕ) (Is : ℕ → Type 0
 abbrev pub HasReturn : Judged → List ℕ → ℕ → ℕ → Type 0
 HasReturn j members most s = (links : List Link) × IsCycle j (slice_index members s) links × All (IsAmong members) links × (cost links < most)
 
+-- what the cheapest of those costs, if that is less than the limit; else the limit
+pub record IsLeastReturn (j : Judged) (members : List ℕ) (most : ℕ) (s : ℕ) (least : ℕ) : Type 0 where
+  pub within : least ≤ most
+  pub none : HasReturn j members least s → ⊥
+  pub some : least < most → HasReturn j members (least + 1) s
+
 -- what it costs to come to each member from one of them, as far as that is settled
 pub record IsReached (j : Judged) (members : List ℕ) (rows : List (List ℕ)) (s : ℕ) (level : ℕ) (costs : List ℕ) : Type 0 where
   pub same : length costs ≡ length members

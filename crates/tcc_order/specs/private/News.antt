@@ -5,10 +5,22 @@ use Rattle.tcc_graph.specs.Relations.{IsReadsPair}
 use Rattle.tcc_graph.specs.Keys.{keys, key_at, writers}
 use Rattle.tcc_graph.specs.Tables.{row_of}
 use Rattle.tcc_graph.specs.Walks.{IsReached}
-use Rattle.tcc_clocks.specs.Clocks.{IsOneOf}
+use Rattle.tcc_clocks.specs.Clocks.{AreLatestOf, IsBefore, IsOneOf, IsOutside}
 use Rattle.tcc_clocks.specs.private.Rows.{with_own}
 use Rattle.tcc_clocks.specs.declared.side.Side.TheVariants.{Past}
 use Rattle.tcc_clocks.specs.declared.latest.TheConstants.{WIDE}
+
+-- the row of c says what reaches it
+abbrev pub HasClock : History → ℕ → List (List ℕ) → ℕ → Type 0
+HasClock h from table c = AreLatestOf h (IsBefore h c) from (row_of table c)
+
+-- c is a transaction of the block
+abbrev pub IsOfBlock : List ℕ → ℕ → ℕ → Type 0
+IsOfBlock owners from c = (0 < c) × (from ≤ slice_index owners c) × (slice_index owners c < from + WIDE)
+
+-- no transaction of the block stands before this position of the order
+abbrev pub NoneBefore : List ℕ → ℕ → List ℕ → ℕ → Type 0
+NoneBefore owners from order n = (j : ℕ) → j < n → IsOutside owners from (slice_index order j)
 
 -- b is a writer of the key at this index, and one of those meant
 abbrev pub IsWriterAmong : History → ℕ → (ℕ → Type 0) → ℕ → Type 0

@@ -54,10 +54,11 @@ pub record TellsHalts {J : Type 0} (check : Check J) : Type 0 where
   pub text : (why : Halt) → check.text (Err why) ≡ halt_text why
   pub status : (why : Halt) → check.status (Err why) ≡ halt_status why
 
--- a check of records within these limits, which tells so
+-- a check of records within these limits, which tells so; once a snapshot is made no fault of a record comes of it
 pub record IsCheckWithin {J : Type 0} (limits : Limits) (check : Check J) : Type 0 where
   pub limited : check.limits ≡ limits
   pub tells : TellsHalts check
+  pub passed : (s : Sessions) (text : List ℕ) (fault : RowFault) → check.of_text s text (Err (Row fault)) → ⊥
 
 -- what comes of the certificate's text for a history within the small limits, or `NoMemory`
 abbrev pub MayBeTextCheck : History → List ℕ → Result Judgement Halt → Type 0

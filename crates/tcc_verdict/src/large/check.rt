@@ -1,7 +1,7 @@
 //! From the bytes of a history of any size and of a certificate of any version to the verdict.
 ghost use Rattle.std.specs.Prelude.{◌≡◌, IfSome};
 ghost use Rattle.tcc_verdict.specs.Checking.{IsCheckRunBy, PrintsOutcome};
-ghost use Rattle.tcc_verdict.specs.LargeChecks.{IsLargeShown, large_check};
+ghost use Rattle.tcc_verdict.specs.{LargeChecks.IsLargeShown, LargeChecks.large_check, Noting.IsNotedRun};
 
 use crate::LargeJudgement;
 use crate::check::noted;
@@ -32,7 +32,7 @@ impl Checker for SizedGraph {
 
     ghost is_made = { IsSizedHistory };
 
-    ghost fits = { record { limited = refl; tells = record { text = λ why. refl; status = λ why. refl } } };
+    ghost fits = { record { limited = refl; tells = record { text = λ why. refl; status = λ why. refl }; passed = λ s text fault row. row } };
 
     fn graph_of<N: Write>(
         alloc: Global,
@@ -79,6 +79,8 @@ pub fn run_check_large<H: Read + Drop, C: Read + Drop, W: Write, N: Write>(
         (λ records. IfSome (C.remaining certificate) (λ text. IsCheckRunBy large_check records text (W.contents out.old) (W.contents out.new) result)) }
     ensures printed { PrintsOutcome large_check (W.contents out.old) (W.contents out.new) result }
     ensures shown { IfSome (H.remaining history) (λ records. IfSome (C.remaining certificate) (λ text. result ≡ 0 → IsLargeShown records text)) }
+    ensures noted { IfSome (H.remaining history) (λ records. IfSome (C.remaining certificate)
+        (λ text. IsNotedRun large_check records text (N.contents notes.old) (N.contents notes.new) (W.contents out.old) (W.contents out.new) result)) }
 {
     run_check_large_watched(alloc, history, certificate, out, notes, &Unwatched)
 }
@@ -97,6 +99,8 @@ pub fn run_check_large_watched<H: Read + Drop, C: Read + Drop, W: Write, N: Writ
         (λ records. IfSome (C.remaining certificate) (λ text. IsCheckRunBy large_check records text (W.contents out.old) (W.contents out.new) result)) }
     ensures printed { PrintsOutcome large_check (W.contents out.old) (W.contents out.new) result }
     ensures shown { IfSome (H.remaining history) (λ records. IfSome (C.remaining certificate) (λ text. result ≡ 0 → IsLargeShown records text)) }
+    ensures noted { IfSome (H.remaining history) (λ records. IfSome (C.remaining certificate)
+        (λ text. IsNotedRun large_check records text (N.contents notes.old) (N.contents notes.new) (W.contents out.old) (W.contents out.new) result)) }
 {
     certified();
     accepted();

@@ -1,11 +1,11 @@
-use Rattle.std.proofs.Common.{None, Some, List, subst}
+use Rattle.std.proofs.Common.{List, subst}
 use Rattle.std.proofs.lemmas.Bool.{iff_false}
 use Rattle.tcc_graph.specs.Levels.{judged}
 use Rattle.tcc_cert.specs.Taken.{with_links}
 use Rattle.tcc_cert.specs.declared.large.Run.{Run}
 use Rattle.tcc_rules.specs.Asked.{IsVerdictOf}
 use Rattle.tcc_judge.specs.Verdicts.{least_rules}
-use Rattle.tcc_judge.proofs.TakenLemmas.{first_wrong_too, least_claimed, links_rejected, not_claimed, sizes_rejected}
+use Rattle.tcc_judge.proofs.TakenLemmas.{least_claimed, links_rejected, not_claimed, sizes_rejected}
 use Rattle.tcc_judge.proofs.taken.judge_taken_cycle.Goals as goal
 
 pub returns-then-not-branch : goal.returns-then-not-branch
@@ -15,11 +15,10 @@ returns-then-not-branch g c links is = rw c.rejected.ensures
 pub returns-in-Some : goal.returns-in-Some
 returns-in-Some g c links is =
     let sizes = c.args.head.now.sizes in
-    let j = judged c.args.graph.now sizes.level in
-    let found = rw c.in-Some.is at (c.in_ok-at.ensures j sizes.cost is.others is.seen) in
+    let fault = rw c.in-Some.is at (c.in_ok-at.ensures (judged c.args.graph.now sizes.level) sizes.cost links is.seen) in
     rw c.rejected_at.ensures
     (links_rejected c.args.graph.now (with_links c.args.head.now links) ((c.in_ok-has_head_sizes.ensures.sizes links is.below).0 c.if-not-branch.false)
-    c.in-Some.at (first_wrong_too j sizes.cost links is.others is.as_good (Some c.in-Some.at) found))
+    c.in-Some.at fault)
 
 pub least_verdict-requires : goal.least_verdict-requires
 least_verdict-requires g c = rw c.as_slice.ensures (rw c.in-Some-least.is at (c.in_ok-has_head_sizes.ensures.needed c.if-not-branch.false))
@@ -27,18 +26,15 @@ least_verdict-requires g c = rw c.as_slice.ensures (rw c.in-Some-least.is at (c.
 pub returns-in_ok-verdict-in-Some-least : goal.returns-in_ok-verdict-in-Some-least
 returns-in_ok-verdict-in-Some-least g c links is =
     let sizes = c.args.head.now.sizes in
-    let j = judged c.args.graph.now sizes.level in
-    let none = rw c.in_default.is at (c.in_ok-at.ensures j sizes.cost is.others is.seen) in
+    let right = rw c.in_default.is at (c.in_ok-at.ensures (judged c.args.graph.now sizes.level) sizes.cost links is.seen) in
     least_claimed c.args.graph.now (with_links c.args.head.now links) c.in-Some-least.runs c.in-Some-least.is
-    ((c.in_ok-has_head_sizes.ensures.sizes links is.below).0 c.if-not-branch.false)
-    (first_wrong_too j sizes.cost links is.others is.as_good None none) c.in_ok-verdict-in-Some-least.verdict
+    ((c.in_ok-has_head_sizes.ensures.sizes links is.below).0 c.if-not-branch.false) right c.in_ok-verdict-in-Some-least.verdict
     (subst (λ (z : List Run). IsVerdictOf (least_rules c.args.graph.now sizes.level sizes.cost z) c.in_ok-verdict-in-Some-least.verdict) c.as_slice.ensures
     c.in_ok-verdict-in-Some-least.ensures)
 
 pub returns-in-None : goal.returns-in-None
 returns-in-None g c links is =
     let sizes = c.args.head.now.sizes in
-    let j = judged c.args.graph.now sizes.level in
-    let none = rw c.in_default.is at (c.in_ok-at.ensures j sizes.cost is.others is.seen) in
+    let right = rw c.in_default.is at (c.in_ok-at.ensures (judged c.args.graph.now sizes.level) sizes.cost links is.seen) in
     not_claimed c.args.graph.now (with_links c.args.head.now links) c.in-None.is
-    ((c.in_ok-has_head_sizes.ensures.sizes links is.below).0 c.if-not-branch.false) (first_wrong_too j sizes.cost links is.others is.as_good None none)
+    ((c.in_ok-has_head_sizes.ensures.sizes links is.below).0 c.if-not-branch.false) right

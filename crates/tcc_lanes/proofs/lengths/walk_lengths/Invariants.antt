@@ -1,5 +1,6 @@
-use Rattle.tcc_lanes.proofs.LengthLemmas.{IsMeasured}
+use Rattle.tcc_graph.specs.Levels.{judged}
+use Rattle.tcc_lanes.proofs.LengthLemmas.{AreMeasured}
 use Rattle.tcc_lanes.proofs.lengths.walk_lengths.Given as goal
 
-abbrev pub invariant-loop-steps : goal.invariant-loop-steps
-invariant-loop-steps l = IsMeasured l.graph l.level l.from l.begun.items l.steps l.reached.items l.underway.items l.lengths.items
+abbrev pub invariant-loop-sweep : goal.invariant-loop-sweep
+invariant-loop-sweep l = AreMeasured (judged l.graph l.level) l.from l.most l._sweep l.lengths.items

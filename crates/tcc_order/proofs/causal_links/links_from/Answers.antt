@@ -62,7 +62,7 @@ loop-block-preserved c =
       take_at last _ c.loop-block.last.len (kept_last ∙ sym long_last),
       take_at heads _ c.loop-block.heads.len (kept_heads ∙ sym long_heads),
     ) (
-      c.in_ok-find_clocks.ensures.long,
+      c.in_ok-find_news.ensures.clocks.long,
       same ∙ inv.1,
       c.in_ok-keep_block.ensures.derived,
       block_kept h old new c.args.first c.loop-block.block (rw c.deref_mut-in-loop-block-3.ensures.value at c.in_ok-keep_block.ensures.still) inv.3
@@ -83,5 +83,5 @@ returns c =
       enough = λ a b over some meant. inv.3 a b over some (omega (arith, meant.0), omega (arith, meant.1, owned b some over.1, c.loop-block-test.false, c.div_ceil-blocks.ensures));
     }
 
-pub find_clocks-requires-clause-long : goal.find_clocks-requires-clause-long
-find_clocks-requires-clause-long c = c.loop-block.invariant.0
+pub find_news-requires-clause-table : goal.find_news-requires-clause-table
+find_news-requires-clause-table c = c.loop-block.invariant.0

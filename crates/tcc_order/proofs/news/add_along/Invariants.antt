@@ -1,6 +1,8 @@
 use Rattle.std.proofs.Common.{◌≡◌, ℕ, length, take}
 use Rattle.std.specs.List.{Contains}
 use Rattle.tcc_graph.specs.Tables.{row_of}
+use Rattle.tcc_clocks.specs.private.Rows.{HasEntries}
+use Rattle.tcc_clocks.specs.declared.side.Side.TheVariants.{Past}
 use Rattle.tcc_order.specs.private.News.{AreNoted, AreReadingsOf, HaveHeads}
 use Rattle.tcc_order.proofs.NewsLemmas.{ArePassed}
 use Rattle.tcc_order.proofs.news.add_along.Given as goal
@@ -14,3 +16,4 @@ invariant-loop-position l =
     × ArePassed l.graph l.from l.table l.order l.rows l.position
     × (length l.heads ≡ length l.initial.heads)
     × HaveHeads l.graph l.from l.floor (Contains (take l.position l.order)) l.heads
+    × HasEntries Past l.graph l.from (Contains (take l.position l.order)) l.table

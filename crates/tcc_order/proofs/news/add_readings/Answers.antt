@@ -4,7 +4,7 @@ use Rattle.tcc_graph.specs.Relations.{IsReadsPair}
 use Rattle.tcc_graph.specs.Keys.{keys, key_at}
 use Rattle.tcc_graph.specs.Tables.{row_of}
 use Rattle.tcc_order.specs.private.News.{AreWider}
-use Rattle.tcc_order.proofs.NewsLemmas.{told_alike, told_more, told_all, read_sound, push_wider, push_there, push_sound}
+use Rattle.tcc_order.proofs.NewsLemmas.{told_alike, told_more, told_all, read_sound, source_clock, push_wider, push_there, push_sound}
 use Rattle.tcc_order.proofs.news.add_readings.Goals as goal
 use Rattle.tcc_order.proofs.news.add_readings.Goals.{then-may_tell+in_ok-push, else-may_tell}
 
@@ -60,11 +60,19 @@ returns-clause-told c =
     (λ j l. c.loop-read.invariant.3 j (omega (arith, l, c.loop-read-test.false)))
 
 pub are_sources_same-requires-clause-inside : goal.are_sources_same-requires-clause-inside
-are_sources_same-requires-clause-inside c = rw c.requires.clocks.long c.requires.inside
+are_sources_same-requires-clause-inside c = rw c.requires.table c.requires.inside
 
 pub returns-then-are_sources_same-clause-told : goal.returns-then-are_sources_same-clause-told
 returns-then-are_sources_same-clause-told c = λ a x pair.
     inr
     (told_alike c.args.graph.now c.requires.numbered c.args.owners.now c.requires.owners c.args.from c.args.floor c.requires.floor c.args.table.now
-    c.requires.clocks c.args.c c.requires.reader c.args.found.now c.requires.found (c.are_sources_same.ensures.some c.if-are_sources_same.true)
+    c.args.c c.requires.clock c.args.found.now c.requires.found c.requires.clocks (c.are_sources_same.ensures.some c.if-are_sources_same.true)
     (c.are_sources_same.ensures.same c.if-are_sources_same.true) a x pair)
+
+pub may_tell-requires-clause-source_clock : goal.may_tell-requires-clause-source_clock
+may_tell-requires-clause-source_clock c =
+    let reads = c.reads_at-read-items.result.now in
+    let n = c.loop-read.read-index in
+    source_clock c.args.graph.now c.args.from c.args.table.now c.args.c c.args.found.now c.requires.found c.requires.clocks (get_or reads n (0, 0)).1
+    (key_at c.args.graph.now (get_or reads n (0, 0)).0)
+    (read_sound c.args.graph.now c.args.c c.requires.reader reads c.reads_at-read-items.ensures.value c.reads_at-read-items.ensures.within n c.loop-read-test.true).1

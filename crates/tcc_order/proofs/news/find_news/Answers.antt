@@ -1,7 +1,13 @@
 use Rattle.tcc_order.proofs.NewsLemmas.{news_sorted}
 use Rattle.tcc_order.proofs.news.find_news.Goals as goal
 
+pub block_start-start-requires : goal.block_start-start-requires
+block_start-start-requires c = rw c.requires.owners.long c.requires.numbering.below
+
+pub zeros_before-requires-clause-below : goal.zeros_before-requires-clause-below
+zeros_before-requires-clause-below c = rw c.requires.table c.requires.numbering.below
+
 pub returns-clause-news : goal.returns-clause-news
 returns-clause-news c =
-    news_sorted c.args.graph.now c.args.from c.args.table.now c.add_along.new.rows c.sort_all.new.rows c.sort_all.ensures.same c.sort_all.ensures.each
+    news_sorted c.args.graph.now c.args.from c.add_along.new.table c.add_along.new.rows c.sort_all.new.rows c.sort_all.ensures.same c.sort_all.ensures.each
     c.in_ok-add_along.ensures.news

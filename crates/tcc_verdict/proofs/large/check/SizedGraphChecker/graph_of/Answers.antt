@@ -3,11 +3,12 @@ use Rattle.std.proofs.KnownBytes.{Appends-nil}
 use Rattle.tcc_reads.specs.History.{History}
 use Rattle.tcc_verdict.specs.private.LargeStages.{IsSizedHistory}
 use Rattle.tcc_verdict.proofs.Checked.{refused, without_memory}
-use Rattle.tcc_verdict.proofs.NotesLemmas.{nothing_noted, refusal_noted}
+use Rattle.tcc_verdict.proofs.NotesLemmas.{memory_noted, refusal_noted}
 use Rattle.tcc_verdict.proofs.large.check.SizedGraphChecker.graph_of.Goals as goal
 
 pub returns-in_err-small-clause-notes : goal.returns-in_err-small-clause-notes
-returns-in_err-small-clause-notes g c = nothing_noted c.args.snapshot.now _ _ (Appends-nil _)
+returns-in_err-small-clause-notes g c =
+    memory_noted _ _ c.args.snapshot.now c.from_residual.result c.from_residual.ensures.1 (Appends-nil _)
 
 pub returns-in_err-resolved-in-None-clause-made : goal.returns-in_err-resolved-in-None-clause-made
 returns-in_err-resolved-in-None-clause-made g c =
@@ -15,7 +16,8 @@ returns-in_err-resolved-in-None-clause-made g c =
 
 pub returns-in_err-resolved-in-None-clause-notes : goal.returns-in_err-resolved-in-None-clause-notes
 returns-in_err-resolved-in-None-clause-notes g c =
-    refusal_noted c.args.snapshot.now _ _ History c.in_err-resolved-in-None.field-0.0 (rw (← c.in_err-resolved-in-None.ensures.resolved) at c.resolve_large.ensures)
+    refusal_noted _ _ c.args.snapshot.now History c.in_err-resolved-in-None.field-0.0 c.from_residual-in_err-resolved-in-None.result
+    c.from_residual-in_err-resolved-in-None.ensures.1
     (rw (← c.in_err-resolved-in-None.ensures.resolved) at c.in_err-resolved-in-None.ensures.notes)
 
 pub returns-in_err-graph-in-None-clause-made : goal.returns-in_err-graph-in-None-clause-made
@@ -23,4 +25,5 @@ returns-in_err-graph-in-None-clause-made g c = without_memory IsSizedHistory c.a
 
 pub returns-in_err-graph-in-None-clause-notes : goal.returns-in_err-graph-in-None-clause-notes
 returns-in_err-graph-in-None-clause-notes g c =
-    nothing_noted c.args.snapshot.now _ _ (rw (← c.in_ok-resolved-in-None.ensures.resolved) at c.in_ok-resolved-in-None.ensures.notes)
+    memory_noted _ _ c.args.snapshot.now c.from_residual-in_err-graph-in-None.result c.from_residual-in_err-graph-in-None.ensures.1
+    (rw (← c.in_ok-resolved-in-None.ensures.resolved) at c.in_ok-resolved-in-None.ensures.notes)

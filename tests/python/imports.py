@@ -1,0 +1,124 @@
+"""What is made of histories by an import, and of records: in which line something is wrong, the parts of a transaction that reads too much,
+unknown outcomes, and the contradicted reads of many sessions."""
+import io
+from typing import Iterator, Optional
+
+from counted import Outcome
+from helpers import differs
+
+
+def failure(text: str) -> Optional[str]:
+    """Why a history can't be imported."""
+    from tcc import jepsen
+    from tcc.imported import Imported
+    from tcc.operations import Untold
+    from tcc.progress import Doing
+    try:
+        jepsen.imported(jepsen.Reading(io.BytesIO(text.encode()), Imported({"null"}), Doing(""), ""), True)
+    except Untold as error:
+        return str(error)
+    return None
+
+
+def far_lines() -> Iterator[Outcome]:
+    """A fault far from the beginning is named by its line, in each form: what follows is read some lines at a time."""
+    usual = "{:type :ok, :process 1, :f :txn, :value [[:w :x %d]]}\n"
+    unusual = "{:type :ok, :process 1, :f :txn, :more #{1}\n :value [[:w :x %d]]}\n"  # in two lines
+    lines = '{"type":"ok","process":1,"f":"txn","value":[["w","x",%d]]}\n'
+    for about, line, wrong, count, wanted in (
+            ("usual EDN", usual, '{:type :bad, :process 1, :f :txn, :value []}', 186, 'line 187: the type is "bad", none of invoke, ok, fail, info'),
+            ("EDN of two lines a map", unusual, "{:type :ok :process}", 400, "line 801: no EDN: a map with a key that has no value"),
+            ("EDN with a comment", "; why\n" + usual, "{:a ##NaN}", 100, "line 201: no EDN: ##NaN is no number of JSON"),
+            ("JSON", lines, '{"type":"bad","process":1,"f":"txn","value":[]}', 186, 'line 187: the type is "bad", none of invoke, ok, fail, info')):
+        text = "".join(line % number for number in range(1, count + 1)) + wrong + "\n" + line % 10**6
+        yield differs("a fault far away in " + about, wanted, failure(text))
+        yield differs("none in " + about, None, failure(text.replace(wrong, "")))
+
+
+def parts() -> Iterator[Outcome]:
+    """A list with elements of so many sessions needs as many reads: what one transaction has no room for is in companions of its session,
+    each read once, and these represent it."""
+    from tcc.lists import APPEND, LIST, OK, Lists, Step, Transaction
+    for count, wanted in ((255, [256]), (256, [256, 1]), (600, [256, 256, 88, 1])):
+        every = [Transaction(number, OK, number + 1, 0, [Step(APPEND, "k", str(number + 1))]) for number in range(count)]
+        text = "".join(" %d" % (number + 1) for number in range(count))
+        every.append(Transaction(count, OK, count + 1, 10**6, [Step(LIST, "k", text)]))
+        lists = Lists(every, ["p%d" % number for number in range(count)] + ["reader"])
+        lines = "".join(lists.records()).splitlines()
+        mine = "\n".join(line.partition(",")[2] for line in lines if line.startswith("reader,"))
+        sizes = [len(part.split("\n")) - 2 for part in mine.replace("commit\nbegin", "commit\n\nbegin").split("\n\n")]
+        reads = [line for line in mine.split("\n") if line.startswith("r,k.")]
+        yield differs("reads of %d sessions" % count, (wanted, count, count), (sizes, len(reads), len(set(reads))))
+        yield differs("what represents the reader of %d" % count, {"reader/1"}, {lists.real("reader/%d" % place) for place in range(1, len(wanted) + 1)})
+
+
+def initial() -> Iterator[Outcome]:
+    """Nobody writes or appends the initial value."""
+    form = "{:type :ok, :process 1, :f :txn, :value [[:%s :x %s]]}"
+    for does in ("w", "append"):
+        yield differs("%s of nil" % does, "line 1: a write of null, which is the initial value", failure(form % (does, "nil")))
+        yield differs("%s of 5" % does, None, failure(form % (does, "5")))
+
+
+def annotated() -> Iterator[Outcome]:
+    """The node, time, index and line of each transaction are its own. Times of a clock count from the least one, others are as they are."""
+    from tcc import jepsen
+    from tcc.imported import Imported
+    from tcc.progress import Doing
+    edn = "{:type :ok, :f :txn, :value [[:w :x %d]], :process 0, :time %d, :index %d%s}\n"
+    json = '{"type":"ok","f":"txn","value":[["w","x",%d]],"process":0,"time":%d,"index":%d%s}\n'
+    invoke = "{:type :invoke, :f :txn, :value [[:w :x 1]], :process 0, :time 1, :index 3, :node \"n9\"}\n"
+    for about, line, node, clock, first in (("EDN", edn, ', :node "%s"', 0, ""), ("EDN with an invoke", edn, ', :node "%s"', 0, invoke),
+                                            ("unusual EDN", edn, ', :more #{1}, :node "%s"', 0, ""), ("JSON", json, ',"node":"%s"', 17 * 10**17, "")):
+        text = first + "".join(line % (number, clock + time * 10**9, 4 + number, node % place if place else "")
+                               for number, (time, place) in enumerate(((2, "n1"), (1, ""), (5, "n3")), 1))
+        reading = jepsen.Reading(io.BytesIO(text.encode()), Imported({"null"}), Doing(""), "")
+        got = [(label, one.node, one.time, one.index, int(one.line)) for label, one in jepsen.imported(reading, True).notes(False)]
+        begun, lines = 1 if clock else 0, 1 if first else 0
+        wanted = [("p0/1", "n1", "%d.000000" % (2 - begun), "5", 1 + lines), ("p0/2", "", "%d.000000" % (1 - begun), "6", 2 + lines),
+                  ("p0/3", "n3", "%d.000000" % (5 - begun), "7", 3 + lines)]
+        yield differs("annotations of " + about, wanted, got)
+
+
+def unknowns() -> Iterator[Outcome]:
+    """Records of unknown outcome: they committed where a committed transaction read of them, not an aborted one; what they read says
+    nothing."""
+    from tcc.rows import read_history
+    told = [("a", ["w,x,1"], "unknown"), ("b", ["r,y,0", "w,x,2"], "unknown"), ("c", ["r,x,1"], "commit"), ("d", ["r,x,2"], "abort"),
+            ("e", ["w,z,3"], "unknown"), ("f", ["r,z,3", "w,u,4", "w,v,5"], "unknown"), ("g", ["r,v,5"], "commit")]
+    text = "".join("{0},begin\n{1}{0},{2}\n".format(name, "".join("%s,%s\n" % (name, each) for each in does), end) for name, does, end in told)
+    history = read_history(io.StringIO(text))
+    yield differs("which committed", ["a/1", "c/1", "f/1", "g/1"], [label for label, one in history.transactions.items() if one.committed])
+    wanted = {"a/1": ["w x 1"], "b/1": ["w x 2"], "e/1": ["w z 3"], "f/1": ["w u 4", "w v 5"]}
+    yield differs("what they did", wanted, {label: ["%s %s %s" % (one.does, one.key, one.value) for one in each.operations]
+                                            for label, each in history.transactions.items() if each.is_unknown})
+
+
+def many_sessions() -> Iterator[Outcome]:
+    """Reads of 130 sessions that as many others wrote over: each is contradicted, by searches and by clocks. A walk is a shortest one: in a
+    session any earlier transaction is one step away."""
+    from tcc import contradicted
+    from tcc.rows import read_history
+    count, kept = 130, contradicted.SEARCHED
+    text = "".join("s{0},begin\ns{0},w,x{0},1\ns{0},commit\nt{0},begin\nt{0},r,x{0},1\nt{0},w,x{0},2\nt{0},commit\n".format(number) for number in range(count))
+    for value in (2, 1):
+        text += "r,begin\n" + "".join("r,x%d,%d\n" % (number, value) for number in range(count)).replace("r,x", "r,r,x") + "r,commit\nr,begin\nr,commit\n"
+    wanted = [("r/3", "x%d" % number, "s%d/1" % number, "t%d/1" % number, "monotonic reads") for number in range(count)]
+    for about, contradicted.SEARCHED in (("searches", 10**9), ("clocks", 0)):
+        found, graph = contradicted.survey(read_history(io.StringIO(text)), "causal", lambda what: None)
+        got = [(one.reader, one.operation.key, one.source, one.writer, one.name) for one in found.contradicted]
+        yield differs("contradicted reads of many sessions, by " + about, (wanted, 3 * count), (got, found.reads))
+    contradicted.SEARCHED = kept
+    steps = contradicted.walk(graph, graph.numbers["s7/1"], graph.numbers["r/4"])
+    yield differs("a walk", [("reads", "s7/1", "r/3"), ("session", "r/3", "r/4")], [(one.kind, one.source, one.target) for one in steps])
+    steps = contradicted.walk(graph, graph.numbers["r/1"], graph.numbers["r/4"])
+    yield differs("a walk in a session", [("session", "r/1", "r/4")], [(one.kind, one.source, one.target) for one in steps])
+
+
+def outcomes() -> Iterator[Outcome]:
+    yield from initial()
+    yield from annotated()
+    yield from unknowns()
+    yield from many_sessions()
+    yield from far_lines()
+    yield from parts()

@@ -1,0 +1,185 @@
+"""What a page says of a run: the first contradicted read, what happened meanwhile, the picture of a slice, charts and tables, and which
+limits a history needs. Beside these, names that two sessions by node could have in common, how much a client does, which program is run
+and how its status is passed on."""
+import argparse
+import io
+import json
+import os
+import pathlib
+import re
+import stat
+import sys
+import time
+from typing import Iterator, List
+
+from counted import Outcome
+from helpers import differs
+
+# Of each session the second transaction doesn't see its first; that of b comes first.
+STALE = ("b,begin\nb,w,x,1\nb,commit\na,begin\na,w,y,2\na,commit\nb,begin\nb,r,x,0\nb,commit\n"
+         "a,begin\na,r,y,0\na,commit\n")
+# In the whole a/2 wrote what a/3 doesn't see, in the slice a/1 and a/2.
+WHOLE = "a,begin\na,w,z,5\na,commit\na,begin\na,w,x,1\na,commit\na,begin\na,r,x,0\na,commit\n"
+SLICE = "a,begin\na,w,x,1\na,commit\na,begin\na,r,x,0\na,commit\n"
+# A program that accepts, and whose answer for a slice this is.
+PROGRAM = """#!/bin/sh
+case "$1" in
+check) echo 'accepted: cycle, 3 steps' ;;
+*) echo '%s'; exit 1 ;;
+esac
+"""
+ANOMALY = ('{"answer":"anomaly","cycle":[{"from":"init","kind":"session","to":"a/%d"},{"from":"a/%d","key":"x","kind":"derived","reader":"a/%d",'
+           '"to":"init","walk":[{"from":"a/%d","kind":"session","to":"a/%d"}]}],"shape":"stale-initial-read","steps":3}')
+
+
+def findings(records: str, **more):
+    """What a page of some records tells, before anything was asked."""
+    from tcc.program import Program
+    from tcc.report import Findings
+    from tcc.rows import read_history
+    return Findings("records.csv", Program("tcc", is_large=True), read_history(io.StringIO(records)), {}, {"answer": "anomaly"}, [], **more)
+
+
+def first() -> Iterator[Outcome]:
+    """The first contradicted read is that of the first row, whatever its label."""
+    from tcc.contradicted import survey
+    from tcc.report import first_of
+    told = findings(STALE)
+    told.found, told.graph = survey(told.history, "causal", lambda what: None)
+    yield differs("contradicted reads by label", ["a/2", "b/2"], [one.reader for one in told.contradicted])
+    yield differs("the first one by rows", "row 8, in b/2", first_of(told))
+
+
+def meanwhile() -> Iterator[Outcome]:
+    """What began and ended, each by its name, and its node where it has one; of two lines of the nemesis the first."""
+    from tcc.imported import Imported, Nemesis
+    from tcc.notes import Event
+    from tcc.report import spans
+    events = [("start-partition", 1), ("kill n1", 2), ("kill n2", 2.25), ("pause n1", 2.5), ("start n1", 3), ("resume n1", 3.5), ("stop-partition", 4),
+              ("partition", 5), ("heal", 6), ("start", 7), ("bump", 7.5), ("stop", 8), ("bump", 9), ("start n2", 10)]
+    told = findings("", events=[Event(what, float(time)) for what, time in events])
+    wanted = [("start-partition", 1, 4), ("kill n1", 2, 3), ("kill n2", 2.25, 10), ("pause n1", 2.5, 3.5), ("partition", 5, 6), ("start", 7, 8),
+              ("bump", 7.5, None), ("bump", 9, None)]
+    yield differs("events from their beginning to their end", wanted, [(one.what, one.begin, one.end) for one in spans(told, 0)])
+    lines = [("start-partition", 1), ("start-partition", 2), ("bump", 3), ("bump", 4), ("bump", 5), ("bump", 6), ("stop-partition", 7), ("stop-partition", 8),
+             ("start-partition", 9), ("start-partition", 10), ("heal", None), ("heal", 12), ("heal", 13)]
+    imported = Imported({"null"}, nemesis=[Nemesis(line, None, None if time is None else (100 + time) * 10**9, "info", what, "null")
+                                           for line, (what, time) in enumerate(lines, 1)])
+    wanted = [("start-partition", 1, 7), ("bump", 3, None), ("bump", 5, None), ("start-partition", 9, 12)]
+    found = [(one.what, one.begin, one.end) for one in spans(findings("", imported=imported), 100 * 10**9)]
+    yield differs("lines of the nemesis", wanted, found)
+
+
+def sliced(folder: pathlib.Path) -> Iterator[Outcome]:
+    """The picture of a slice has the labels of the whole, those of walks too."""
+    from tcc.answers import cycle_of
+    from tcc.program import Program
+    from tcc.progress import Doing
+    from tcc.report import Work, certify
+    place = folder / "sliced"
+    place.mkdir()
+    program = place / "program"
+    program.write_text(PROGRAM % (ANOMALY % (1, 1, 2, 1, 2)))
+    program.chmod(program.stat().st_mode | stat.S_IXUSR)
+    for name, text in (("records.csv", WHOLE), ("slice.csv", SLICE), ("certificate.txt", "")):
+        (place / name).write_text(text)
+    told = findings(WHOLE)
+    told.tcc, told.answer = Program(str(program), is_large=True), json.loads(ANOMALY % (2, 2, 3, 2, 3))
+    wanted = cycle_of(told.answer)
+    certify(told, Work(place, Doing("")))
+    yield differs("the cycle of a slice", (wanted, True, "accepted: cycle, 3 steps"), (told.cycle, told.is_of_slice, told.check))
+
+
+def limits() -> Iterator[Outcome]:
+    """A history past any of the default limits needs --large, and none at them."""
+    from tcc.report import is_large
+    from tcc.rows import read_history
+
+    def needs(sessions: int, transactions: int, keys: int) -> bool:
+        lines = ["s%d,begin\ns%d,commit\n" % (number, number) for number in range(sessions - 1)]
+        lines += ["z,begin\n%sz,commit\n" % "".join("z,r,k%d,0\n" % key for key in range(first, min(first + 256, keys))) for first in range(0, keys, 256)]
+        lines += ["z,begin\nz,commit\n"] * (transactions - len(lines))
+        return is_large(read_history(io.StringIO("".join(lines))))
+
+    for counts, wanted in (((64, 4095, 1024), False), ((65, 200, 1), True), ((64, 4096, 1), True), ((2, 200, 1025), True)):
+        yield differs("--large for %d sessions, %d transactions and %d keys" % counts, wanted, needs(*counts))
+
+
+def drawn() -> Iterator[Outcome]:
+    """A chart's bars have each place once, that at the end too, and its mark is at the first; a table says how many it leaves out."""
+    from tcc.chart import Course, chart
+    from tcc.page import counts
+    text = chart(Course(10.0, "s", [8.0, 2.0, 10.0], [5.0, 8.5]), 920, 10)
+    wanted = ["2 s to 3 s: 1 contradicted", "5 s to 6 s: 0 contradicted, 1 not judged", "8 s to 9 s: 1 contradicted, 1 not judged",
+              "9 s to 10 s: 1 contradicted"]
+    yield differs("bars of a chart", wanted, re.findall("<title>(.*?)</title>", text))
+    yield differs("the first place of a chart", ["213.6"], re.findall('class="first" d="M([0-9.]+) ', text))  # of 868 from 40 on the fifth part
+    table = counts("By name", [("a", "", 5), ("b", "about b", 3), ("c", "", 2), ("d", "", 1)], 2, "names")
+    yield differs("a table of two of four", ["5", "3", "3"], re.findall(r'<td class="count">([0-9]+)</td>', table))
+    yield "what it leaves out", None if "and 2 names more" in table else table
+
+
+def programs() -> Iterator[Outcome]:
+    """The program that is named comes before that of the variable TCC, and this before that on the path."""
+    from tcc.program import program_at
+    from tcc.runner import program
+    kept = os.environ.get("TCC")
+    os.environ["TCC"] = "/bin/false"
+    try:
+        found = [find(path) for find in (program_at, program) for path in ("/bin/true", None)]
+    finally:
+        os.environ.pop("TCC")
+        if kept is not None:
+            os.environ["TCC"] = kept
+    yield differs("which program is run", ["/bin/true", "/bin/false"] * 2, found)
+
+
+def in_full(folder: pathlib.Path) -> Iterator[Outcome]:
+    """Which words `tcc-full` passes on, and that its status is the program's; 128 and the signal where that was killed."""
+    from tcc import full
+    one, kept = folder / "full-program", sys.argv
+    one.write_text('#!/bin/sh\necho "$@" > "$0.words"\nread -r status < "$0.status"\ntest "$status" = killed && kill -9 $$\nexit "$status"\n')
+    one.chmod(0o755)
+    try:
+        for status, wanted in (*((str(number), number) for number in range(7)), ("killed", 137)):
+            (folder / "full-program.status").write_text(status + "\n")
+            sys.argv = ["tcc-full", "--tcc", str(one), "records.csv"]
+            yield differs("tcc-full of a program that ends with %s" % status, wanted, full.main())
+        yield differs("its words", "explain --full --level causal -- records.csv\n", (folder / "full-program.words").read_text())
+        (folder / "full-program.status").write_text("0\n")
+        sys.argv = ["tcc-full", "--tcc", str(one), "--level", "atomic", "--large", "--workers", "3", "--require", "7", "records.csv"]
+        full.main()
+        yield differs("all its words", "explain --full --level atomic --large --workers 3 --require 7 -- records.csv\n",
+                      (folder / "full-program.words").read_text())
+    finally:
+        sys.argv = kept
+
+
+def long_names(folder: pathlib.Path) -> Iterator[Outcome]:
+    """Two nodes whose names are cut to one: their sessions have names that differ, and are no longer than a name may be."""
+    from tcc.sessions import write_by_node
+    records, notes, out = (folder / ("long-names." + end) for end in ("csv", "notes", "out"))
+    client, nodes = "a" * 30, ("east", "east2", "west")
+    records.write_text("".join("%s,begin\n%s,commit\n" % (client, client) for _ in nodes))
+    notes.write_text("transaction,node\n" + "".join("%s/%d,%s\n" % (client, place, node) for place, node in enumerate(nodes, 1)))
+    write_by_node(records, notes, out)
+    wanted = [client + ".e", client + "-2", client + ".w"]
+    yield differs("names that are cut", wanted, [line.split(",")[0] for line in out.read_text().splitlines() if line.endswith("begin")])
+
+
+def enough() -> Iterator[Outcome]:
+    """A client has done enough at its most, or where its time is over and it did the least, or where the longest time is."""
+    from tcc.clients import LONGER, Much
+    asked = argparse.Namespace(transactions=10, at_least=4, seconds=100)
+    much = Much.of(asked, 0.0)
+    yield differs("how much a client does", (10, 4, 100.0, 100.0 * LONGER), (much.most, much.least, much.until, much.longest))
+    now = time.monotonic()
+    cases: List[tuple] = [((10, 4, now + 900, now + 9000), 9, False), ((10, 4, now + 900, now + 9000), 10, True), ((10, 4, now - 1, now + 9000), 3, False),
+                          ((10, 4, now - 1, now + 9000), 4, True), ((10, 4, now - 9, now - 1), 3, True)]
+    for number, (told, done, wanted) in enumerate(cases, 1):
+        yield differs("enough, case %d, after %d" % (number, done), wanted, Much(*told).is_enough(done))
+
+
+def outcomes(folder: pathlib.Path) -> Iterator[Outcome]:
+    for part in (first(), meanwhile(), sliced(folder), limits(), drawn(), programs(), in_full(folder), long_names(folder), enough()):
+        yield from part
