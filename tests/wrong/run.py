@@ -15,8 +15,8 @@ counts for nothing. Its mutants are tried alone, each with the whole crate. So i
 that isn't in the body of one function.
 
 Each crate has to be proved. With --after-gate `rt ci` has just passed on these sources: its libraries serve as they are. Else
-`rt lib` proves what changed. What was refused is kept in a folder, by sums of all that the answer rests on; --anew tries all
-again. The last line is `N passed, M failed`.
+`rt lib` proves what changed. What was refused is kept on this machine, as `rt ci` keeps what it passed: by sums of all that the
+answer rests on, so that any checkout here finds it; --anew tries all again. The last line is `N passed, M failed`.
 """
 import argparse
 import concurrent.futures
@@ -47,6 +47,8 @@ from mutants import PARTS, Mutant, Unusable, rounds_of  # noqa: E402
 
 # What a check takes at most, in bytes.
 MEMORY = 2_200_000_000
+# So many sums of a crate's refused mutants are kept at most, the newest.
+SUMS = 2_000
 UNKNOWN = "has no function `"
 SAYING = threading.Lock()
 
@@ -272,21 +274,43 @@ class Memory:
 
     def read(self, trial: Trial) -> None:
         """Takes what is kept of the same sums."""
-        path = self.folder / (trial.crate + ".json")
-        kept = json.loads(path.read_text()) if path.is_file() and not self.anew else []
+        kept = set([] if self.anew else self.refused(trial))
         for name, key in self.sums(trial).items():
             if key in kept:
                 trial.found[name] = None
                 trial.kept += 1
 
+    def refused(self, trial: Trial) -> List[str]:
+        """The sums that are kept of a crate, the newest first; none where the file can't be read."""
+        try:
+            kept = json.loads((self.folder / (trial.crate + ".json")).read_text())
+        except (OSError, ValueError):
+            return []
+        return [one for one in kept if isinstance(one, str)] if isinstance(kept, list) else []
+
     def write(self, trial: Trial, before: Dict[str, str]) -> None:
         """Keeps the sums of what was refused, if they are what they were before."""
         if self.sums(trial) != before:
             return
-        self.folder.mkdir(parents=True, exist_ok=True)
-        half = self.folder / ("%s.%d" % (trial.crate, os.getpid()))
-        half.write_text(json.dumps([key for name, key in before.items() if trial.found.get(name, "") is None]))
-        half.replace(self.folder / (trial.crate + ".json"))
+        new = [key for name, key in before.items() if trial.found.get(name, "") is None]
+        try:
+            self.folder.mkdir(parents=True, exist_ok=True)
+            half = self.folder / ("%s.%d" % (trial.crate, os.getpid()))
+            half.write_text(json.dumps(list(dict.fromkeys([*new, *self.refused(trial)]))[:SUMS]))
+            half.replace(self.folder / (trial.crate + ".json"))
+        except OSError as error:
+            say("%s: what was refused can't be kept: %s" % (trial.crate, error))
+
+
+def folder_of(top: pathlib.Path) -> pathlib.Path:
+    """Where sums of what was refused are kept: for this repository the user's cache, and for another one a folder of its own."""
+    if top != TOP:
+        return top / "out/wrong"
+    try:
+        cache = os.environ.get("XDG_CACHE_HOME") or pathlib.Path.home() / ".cache"
+    except RuntimeError:
+        return top / "out/wrong"
+    return pathlib.Path(cache, "tcc/wrong")
 
 
 def tried(trial: Trial, memory: Memory, after_gate: bool) -> Trial:
@@ -321,7 +345,7 @@ def ended(trials: List[Trial], memory: Memory, after_gate: bool, lanes: int) -> 
 def outcomes(asked: argparse.Namespace) -> Iterator[Outcome]:
     """What each mutant came to."""
     began, repository = time.time(), Repository(asked.top.resolve())
-    memory = Memory(asked.kept or repository.top / "out/wrong", asked.anew)
+    memory = Memory(asked.kept or folder_of(repository.top), asked.anew)
     trials = [Trial(repository, one) for one in repository.libraries
               if (repository.folder(one) / "wrong").is_dir() and (not asked.crates or one in asked.crates)]
     for one in sorted(set(asked.crates) - {it.crate for it in trials}):
@@ -343,7 +367,7 @@ def main() -> int:
     reader.add_argument("--after-gate", action="store_true", help="`rt ci` has just passed on these sources")
     reader.add_argument("--lanes", type=int, help="so many crates at a time, by default by processors and memory")
     reader.add_argument("--anew", action="store_true", help="also those that an earlier run refused")
-    reader.add_argument("--kept", type=pathlib.Path, metavar="FOLDER", help="where sums of what was refused are kept, by default out/wrong")
+    reader.add_argument("--kept", type=pathlib.Path, metavar="FOLDER", help="where sums of what was refused are kept, by default the user's cache")
     reader.add_argument("--top", type=pathlib.Path, default=TOP, metavar="FOLDER", help="another repository than this one")
     reader.add_argument("crates", nargs="*", metavar="CRATE", help="these crates alone")
     asked = reader.parse_args()
