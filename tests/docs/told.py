@@ -70,7 +70,7 @@ HELD = {
     "docs/HEADLINE.md": ("`Workers`, a type of 1 to {MAX_WORKERS}",),
     "docs/GLOSSARY.md": ("without `--large`: {MAX_SESSIONS} sessions, {MAX_TRANSACTIONS} transactions,",),
     "docs/MODEL.md": ("more than {MAX_TRANSACTIONS} transactions, or those of more than {MAX_SESSIONS} sessions",),
-    "crates/tcc_cli/src/command_line.rt": ("so many workers, 1 to {!MAX_WORKERS};",),
+    "crates/tcc_cli/src/command_line.rt": ("so many threads, 1 to {!MAX_WORKERS};",),
     "crates/tcc_cli/src/help.rt": (
         "1 to {!MAX_NAME_BYTES} of A-Z",
         "up to {!LARGE_TRANSACTIONS} transactions, {!LARGE_SESSIONS} sessions and {!LARGE_KEYS} keys, in place of\n"

@@ -113,9 +113,7 @@ fn workers_option<'a>(alloc: Global) -> Arg<'a>
         ValueParser::Unsigned(1, MAX_WORKERS as u64),
         "1",
     )
-    .help(
-        "Searches for a least anomaly with so many workers, 1 to 32; past the limits without --large there is no search",
-    )
+    .help("Works with so many threads, 1 to 32; the answer is the same for every number")
 }
 
 /// An option by its own name for the path of a file.

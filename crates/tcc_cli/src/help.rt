@@ -31,8 +31,8 @@ A write is known by any chain of sessions and reads at the level causal, by one 
 What to mend, and why a file failed, is said on standard error.
 
 With '--large' a history has up to 16777215 transactions, 65535 sessions and 16777216 keys, in place of
-4095, 64 and 1024. Past those a certificate is one of version 3, for 'tcc check --large'. '--slice PATH'
-writes a small history that has an anomaly of this one.
+4095, 64 and 1024. Past those of transactions and sessions a certificate is one of version 3, for
+'tcc check --large'. '--slice PATH' writes a small history that has an anomaly of this one.
 
 Example: a session writes x, and its next transaction reads the initial x.
   $ printf 'a,begin\\na,w,x,1\\na,commit\\na,begin\\na,r,x,0\\na,commit\\n' | tcc explain
@@ -44,7 +44,7 @@ Example: a session writes x, and its next transaction reads the initial x.
 
 Statuses, of the last answer or of the fault that ended the run:
   0   consistent: the order is one in which every read is explained
-  1   an anomaly: no order explains the reads; unless it says so, no shorter cycle shows it
+  1   an anomaly: no order explains the reads, and no cycle has fewer steps
   2   unresolved: reads that can't be traced to a write, or values written twice
   3   a record breaks a rule, the input ends inside a transaction, or consistent with too few
       transactions for '--require'
@@ -59,7 +59,7 @@ Statuses, of the last answer or of the fault that ended the run:
 /// The records, an example, and the statuses of a survey.
 pub const SURVEY: &str =
     "The records are those that 'tcc explain' reads, all of them one history; a 'seal' is passed over. Listed is
-each read whose reader knew of another writer of the key that stands behind the one it read from, by sessions
+each read whose reader knew of another writer of the key that comes after the one it read from, by sessions
 and reads alone. A history without such a read may still have an anomaly: 'tcc explain' finds it.
 
 Example: a session writes x, and its next transaction reads the initial x.
@@ -98,7 +98,7 @@ Example: a session writes x; after an answer, its next transaction reads the ini
 
 Statuses, of the last answer or of the fault that ended the run:
   0   consistent: some order explains every read
-  1   an anomaly: no order explains the reads; unless it says so, no shorter cycle shows it
+  1   an anomaly: no order explains the reads, and no cycle has fewer steps
   2   unresolved: reads that can't be traced to a write, or values written twice
   3   a record breaks a rule, or the input ends inside a transaction
   4   the records are past a limit
@@ -124,14 +124,14 @@ level of its first line; 'tcc explain --certificate PATH' writes one of version 
 At 'tcc-certificate 2 atomic' an order has no clocks. Version 1 is read as well.
 
 With '--large' HISTORY has up to 16777215 transactions, 65535 sessions and 16777216 keys, and CERTIFICATE
-may be of version 3, which has no tables; one of version 1 or 2 is rejected past the limits without it:
+may be of version 3, which has no tables; one of version 1 or 2 is rejected above the default limits:
   tcc-certificate 3 causal  tcc-certificate 3 causal
   order N S R               cycle N M L
   (R lines: session, count) (the M links)
   end                       least R  (where that is claimed, and R lines)
                             end
 
-Example: one transaction of one session, which stands after the initial one.
+Example: one transaction of one session, which comes after the initial one.
   $ printf 'a,begin\\na,w,x,1\\na,commit\\n' > history.csv
   $ printf 'tcc-certificate 2 causal\\norder 2 1\\n0 1\\nclocks\\n0\\n0\\nend\\n' > certificate.txt
   $ tcc check history.csv certificate.txt
