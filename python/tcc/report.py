@@ -112,6 +112,7 @@ class Findings:
     graph: Optional[Graph] = None
     is_proved: bool = False
     check: Optional[str] = None
+    is_searched: bool = False
     required: int = 1
     chances: "Chances" = field(default_factory=lambda: Chances())
     shown: List[Shown] = field(default_factory=list)
@@ -405,12 +406,20 @@ def list_plainly(told: Findings, work: Work) -> None:
     work.commands.append(Command("all.py --level %s records.csv   # every contradicted read" % told.tcc.level, 1, time.monotonic() - begun))
 
 
+def searches(certificate: pathlib.Path, check: str) -> bool:
+    """Whether the check of a certificate had to search: past four steps version 3 has no tables by which no cycle has fewer."""
+    cycle = re.fullmatch(r"accepted: cycle, (\d+) steps", check)
+    with certificate.open(encoding="ascii", errors="replace") as file:
+        return cycle is not None and int(cycle[1]) > 4 and file.readline().startswith("tcc-certificate 3 ")
+
+
 def certify(told: Findings, work: Work) -> None:
     """Has the certificate checked, where there is one; of a large anomaly the least one of its slice is shown, where it has one."""
     if told.verdict != "unresolved":
         large = ["--large"] if told.tcc.is_large else []
         ended = work.run([told.tcc.path, "check", *large, told.judged, "certificate.txt"])
         told.check = ended.stdout.decode(errors="replace").strip()
+        told.is_searched = searches(work.folder / "certificate.txt", told.check)
     sliced = work.folder / "slice.csv"
     if told.tcc.is_large and told.verdict == "anomaly" and sliced.exists() and sliced.stat().st_size:
         with open_records(str(sliced)) as file:
@@ -853,7 +862,8 @@ def certificate(told: Findings) -> Iterator[str]:
              "that each link of %s holds" % cycle if told.check.endswith("least not claimed") else
              "that %s is one of these records, and that none has fewer steps" % cycle)
     if is_accepted:
-        yield "<p>\u2713 <code>%s</code>: <code>tcc check</code> found by rules alone, without any search, %s.</p>" % (text(told.check), text(claim))
+        by = "by rules, and by a search for shorter cycles," if told.is_searched else "by rules alone, without any search,"
+        yield "<p>\u2713 <code>%s</code>: <code>tcc check</code> found %s %s.</p>" % (text(told.check), by, text(claim))
     else:
         yield "<p>\u2717 <code>%s</code>: <code>tcc check</code> did <strong>not</strong> accept the certificate.</p>" % text(told.check)
 

@@ -156,7 +156,9 @@ ODD = r"""
 HISTORIES: Dict[str, Tuple[str, int, Tuple[str, ...], int]] = {
     "3 steps": ("examples/stale-read.csv", 1, ("Not causally consistent", "a wrote x = 1 in a/1 and read x = nil in a/2 (row 5).",
                                                "accepted: cycle, 3 steps", "read your writes"), 3),
-    "5 steps": ("examples/causal-chain-missed.csv", 1, ("writes follow reads", "accepted: cycle, 5 steps"), 5),
+    "5 steps": ("examples/causal-chain-missed.csv", 1, ("writes follow reads", "accepted: cycle, 5 steps", "by rules alone, without any search"), 5),
+    "5 steps, large": (chain(3) + "".join("z%d,begin\nz%d,abort\n" % (one, one) for one in range(65)), 1, (
+        "accepted: cycle, 5 steps", "by rules, and by a search for shorter cycles, that the cycle"), 5),
     "12 steps": (ring(6), 1, ("All 12 steps", "conflict-cycle", "accepted: cycle, 12 steps"), 5),
     "40 steps": (ring(20), 1, ("All 40 steps", "18 derived links more close the circle"), 5),
     "794 steps": (chain(792), 1, ("All 794 steps", "causal chain",
