@@ -409,8 +409,10 @@ def list_plainly(told: Findings, work: Work) -> None:
 def searches(certificate: pathlib.Path, check: str) -> bool:
     """Whether the check of a certificate had to search: past four steps version 3 has no tables by which no cycle has fewer."""
     cycle = re.fullmatch(r"accepted: cycle, (\d+) steps", check)
+    if cycle is None or int(cycle[1]) <= 4:
+        return False
     with certificate.open(encoding="ascii", errors="replace") as file:
-        return cycle is not None and int(cycle[1]) > 4 and file.readline().startswith("tcc-certificate 3 ")
+        return file.readline().startswith("tcc-certificate 3 ")
 
 
 def certify(told: Findings, work: Work) -> None:

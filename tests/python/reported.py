@@ -92,6 +92,7 @@ def sliced(folder: pathlib.Path) -> Iterator[Outcome]:
 
 def limits() -> Iterator[Outcome]:
     """A history past any of the default limits needs --large, and none at them."""
+    from tcc.limits import MAX_KEYS, MAX_SESSIONS, MAX_TRANSACTIONS
     from tcc.report import is_large
     from tcc.rows import read_history
 
@@ -101,7 +102,8 @@ def limits() -> Iterator[Outcome]:
         lines += ["z,begin\nz,commit\n"] * (transactions - len(lines))
         return is_large(read_history(io.StringIO("".join(lines))))
 
-    for counts, wanted in (((64, 4095, 1024), False), ((65, 200, 1), True), ((64, 4096, 1), True), ((2, 200, 1025), True)):
+    for counts, wanted in (((MAX_SESSIONS, MAX_TRANSACTIONS, MAX_KEYS), False), ((MAX_SESSIONS + 1, 200, 1), True),
+                           ((MAX_SESSIONS, MAX_TRANSACTIONS + 1, 1), True), ((2, 200, MAX_KEYS + 1), True)):
         yield differs("--large for %d sessions, %d transactions and %d keys" % counts, wanted, needs(*counts))
 
 

@@ -123,13 +123,16 @@ def written(folder: pathlib.Path, library: str) -> Iterator[Outcome]:
 
 def warned() -> Iterator[Outcome]:
     """What is said of a limit that is passed, and nothing at it."""
+    from tcc.limits import LARGE_SESSIONS, MAX_KEYS, MAX_SESSIONS, MAX_TRANSACTIONS
     from tcc.noted import Transaction, warnings
+    beyond, most = LARGE_SESSIONS + 1, "tcc explain takes at most %d, so say --large"
     for sessions, keys, transactions, wanted in (
-            (64, 1024, 4095, []), (65, 1, 65, ["65 sessions: tcc explain takes at most 64, so say --large"]),
-            (1, 1025, 1025, ["1025 keys: tcc explain takes at most 1024, so say --large"]),
-            (64, 1, 4096, ["4096 transactions: tcc explain takes at most 4095, so say --large"]),
-            (65536, 1, 65536, ["65536 sessions: tcc takes at most 65535, so make the run shorter",
-                               "65536 transactions: tcc explain takes at most 4095, so say --large"])):
+            (MAX_SESSIONS, MAX_KEYS, MAX_TRANSACTIONS, []),
+            (MAX_SESSIONS + 1, 1, MAX_SESSIONS + 1, ["%d sessions: " % (MAX_SESSIONS + 1) + most % MAX_SESSIONS]),
+            (1, MAX_KEYS + 1, MAX_KEYS + 1, ["%d keys: " % (MAX_KEYS + 1) + most % MAX_KEYS]),
+            (MAX_SESSIONS, 1, MAX_TRANSACTIONS + 1, ["%d transactions: " % (MAX_TRANSACTIONS + 1) + most % MAX_TRANSACTIONS]),
+            (beyond, 1, beyond, ["%d sessions: tcc takes at most %d, so make the run shorter" % (beyond, LARGE_SESSIONS),
+                                 "%d transactions: " % beyond + most % MAX_TRANSACTIONS])):
         done = [Transaction("s%d" % (number % sessions), [("w", "k%d" % (number % keys), number + 1)], True) for number in range(transactions)]
         yield differs("what is said of %d sessions, %d keys and %d transactions" % (sessions, keys, transactions), wanted, list(warnings(done)))
 
