@@ -39,7 +39,7 @@ def with_limits(json: Any) -> Any:
 
 def ruled(line: str) -> str:
     """A line of a row case, with the values of rules over the limits alone."""
-    return RULED.sub(lambda found: str(eval(found[1], {"__builtins__": {}}, limits())) if found[1] else found[0][0], line)
+    return RULED.sub(lambda found: str(eval(found[1], {"__builtins__": {}, "min": min, "max": max}, limits())) if found[1] else found[0][0], line)
 
 
 def filled(template: str) -> str:

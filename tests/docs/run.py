@@ -63,6 +63,8 @@ CODE = re.compile(r"```.*?```", re.DOTALL)
 LINK = re.compile(r"\]\(([^)#\s]+)(?:#[^)]*)?\)")
 ANCHOR = re.compile(r"\]\(([^)#\s]*)#([^)\s]+)\)")
 HEADING = re.compile(r"^#+ +(.*)$", re.MULTILINE)
+# A definition by which a mutant is refused.
+DEFINITION = re.compile(r"\b(?:Is|Are|Has|Have|Keeps)[A-Z]\w*")
 ENDINGS = ("antt", "bash", "csv", "edit", "json", "md", "py", "rt", "toml", "txt", "c", "certificate", "svg")
 PATH = re.compile(r"[A-Za-z0-9_.-]+(?:/[A-Za-z0-9_.-]+)*(?:/|\.(?:%s))" % "|".join(ENDINGS))
 FOLDERS = re.compile(r"(?:crates|docs|tests|bench|recipes|examples|tcc_[a-z_]+)(?:/[A-Za-z0-9_.-]+)+")
@@ -205,11 +207,14 @@ def defined(level: ast.AST) -> Iterator[str]:
 
 
 def faults_of_mutants() -> Iterator[Outcome]:
-    """Whether what each mutant replaces is once in the file that it names: else it shows nothing, and the gate fails late."""
+    """Whether what each mutant replaces is once in the file that it names: else it shows nothing, and the gate fails late. And whether the
+    definitions that refuse it are there."""
     for path in (path[1:] for path in files() if path.endswith(".edit")):
+        lines = [line for line in (TOP / path).read_text().splitlines() if line.startswith("why:")]
+        gone = [name for line in lines for name in DEFINITION.findall(line) if name not in words("", "")]
         try:
             Mutant(TOP / path)
-            yield path, None
+            yield path, "%s is in no crate" % gone[0] if gone else None
         except Unusable as error:
             yield path, str(error)
 
