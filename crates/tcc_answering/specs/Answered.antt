@@ -1,5 +1,5 @@
 -- What is answered for a snapshot of any size at a level.
-use Rattle.std.specs.Prelude.{◌≡◌, ◌≢◌, []}
+use Rattle.std.specs.Prelude.{Bool, true, ◌≡◌, ◌≢◌, []}
 use Rattle.tcc_txn.specs.Finished.{KeepsLimits}
 use Rattle.tcc_txn.specs.Snapshots.{Sessions}
 use Rattle.tcc_reads.specs.Faults.{read_faults}
@@ -10,10 +10,20 @@ use Rattle.tcc_explain.specs.Explained.{IsAnswerOfHistory}
 use Rattle.tcc_answering.specs.Firsts.{IsFirst}
 use Rattle.tcc_answering.specs.declared.answering.Answered.{Answered}
 use Rattle.tcc_answering.specs.declared.answering.Answered.TheVariants as answered
+use Rattle.tcc_answering.specs.declared.answering.AsSmall.{AsSmall}
+use Rattle.tcc_answering.specs.declared.answering.AsSmall.TheVariants as small
 
--- all its read faults, where it has some; within the small limits the first answer of its history, with what its certificate needs; past
--- them its history, and its first commit order or the first of its least cycles
-abbrev pub IsAnswered : Level → Sessions → Answered → Type 0
-IsAnswered level s (answered.Unresolved faults) = (read_faults s ≢ []) × (faults.items ≡ read_faults s)
-IsAnswered level s (answered.Small a) = (read_faults s ≡ []) × KeepsLimits s × IsAnswerOfHistory (judged (history s) level) a
-IsAnswered level s (answered.Large h f order) = (read_faults s ≡ []) × (KeepsLimits s → ⊥) × (h ≡ history s) × IsFirst (judged h level) f
+-- all its read faults, where it has some; within the small limits, where its certificate is wanted, the first answer of its history, with
+-- what that needs; else its history, and its first commit order or the first of its least cycles
+abbrev pub IsAnswered : Bool → Level → Sessions → Answered → Type 0
+IsAnswered is_certified level s (answered.Unresolved faults) = (read_faults s ≢ []) × (faults.items ≡ read_faults s)
+IsAnswered is_certified level s (answered.Tabled a) =
+    (read_faults s ≡ []) × KeepsLimits s × (is_certified ≡ true) × IsAnswerOfHistory (judged (history s) level) a
+IsAnswered is_certified level s (answered.Bare h f order) =
+    (read_faults s ≡ []) × (KeepsLimits s → is_certified ≡ true → ⊥) × (h ≡ history s) × IsFirst (judged h level) f
+
+-- the same snapshot, within the small limits; or that it doesn't keep them
+abbrev pub IsAsSmall : Sessions → AsSmall → Type 0
+IsAsSmall s (small.Lent snapshot) = snapshot.now ≡ s
+IsAsSmall s (small.Copied copy) = copy ≡ s
+IsAsSmall s small.Past = KeepsLimits s → ⊥

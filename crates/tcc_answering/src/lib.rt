@@ -1,6 +1,6 @@
-//! The one answer of a snapshot: all its read faults; within the small limits its first answer; past them its graph, with its
-//! first commit order or the first of its least cycles. And the claim that a cycle is a least one, where the judge of certificates
-//! accepts it.
+//! The one answer of a snapshot: all its read faults; or its first commit order or the first of its least cycles. It comes with the
+//! tables of its certificate where that is wanted and the snapshot is within the small limits, else with its graph. And the claim
+//! that a cycle is a least one, where the judge of certificates accepts it.
 #![tactic(auto)]
 
 mod answering;
@@ -9,7 +9,7 @@ mod firsts;
 mod proving;
 mod room;
 
-pub use answering::{Answered, answer_of, small_answer};
+pub use answering::{Answered, AnsweredBounds, AsSmall, answer};
 pub use claims::{copied, steps_of};
 pub use firsts::{First, first_of};
 pub use proving::proved_claim;

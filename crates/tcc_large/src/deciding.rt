@@ -99,8 +99,8 @@ pub fn decide(
     decided(alloc, graph, level, place(alloc, graph, level)?)
 }
 
-/// What `decide` answers, an order by so many workers at most, as `place_by` finds it.
-pub(crate) fn decide_by(
+/// What `decide` answers, an order by so many workers at most. Whatever their number, the order is the first one.
+pub fn decide_by(
     rt: &(impl Threads + Sync),
     alloc: Global,
     graph: &LargeGraph,

@@ -16,6 +16,6 @@ mod reasons;
 mod simple_cycle;
 
 pub use answer::LargeAnswer;
-pub use deciding::decide;
+pub use deciding::{decide, decide_by};
 pub use decision::Decision;
 pub use explaining::{explain_large, explain_large_by};

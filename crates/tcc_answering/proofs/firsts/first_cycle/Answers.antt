@@ -1,4 +1,4 @@
-use Rattle.std.proofs.Common.{◌≡◌, ◌+◌, arith}
+use Rattle.std.proofs.Common.{◌≡◌, arith}
 use Rattle.tcc_graph.specs.Links.{cost}
 use Rattle.tcc_answering.proofs.firsts.first_cycle.Goals.{In_ok-steps}
 use Rattle.tcc_answering.proofs.firsts.first_cycle.Goals as goal
