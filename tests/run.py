@@ -25,7 +25,7 @@ GATE = ["rt", "ci"]
 ON_THE_PROGRAM = ("wrong/run.py --after-gate", "rows/run.py --workers 32", "certificates/run.py", "memory/run.py",
                   "rows/run.py --workers 2 --searched", "rows/run.py --checker", "recipes/run.py", "large/run.py", "survey/run.py",
                   "python/run.py", "docs/run.py", "seals/run.py", "watch/run.py", "rows/numbers.py", "rows/filled.py", "rows/options.py",
-                  "wrong/trial.py")
+                  "rows/commands.py", "wrong/trial.py")
 # (these go by time, and by a terminal)
 ALONE = ("large/watched.py", "hostile/run.py")
 CLOSING = re.compile(r"(\d+) passed, (\d+) failed$")

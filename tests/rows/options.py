@@ -12,7 +12,6 @@ import concurrent.futures
 import itertools
 import json
 import pathlib
-import re
 import subprocess
 import sys
 import tempfile
@@ -163,18 +162,6 @@ def wanted(asked: Dict[str, Optional[str]], history: History) -> Wanted:
     return of_order(asked, history, history.order) if history.order is not None else of_anomaly(asked, history)
 
 
-def turned(text: str) -> str:
-    """The text, with the links of a cycle from `init` on: above the default limits no rule says with which it begins."""
-    if text.startswith("{"):
-        found = json.loads(text)
-        if text == line(found) and "cycle" in found:
-            found["cycle"].sort(key=lambda link: link["from"] != "init")
-            return line(found)
-        return text
-    head, *links = re.split(r"(?m)^(?=session |derived )", text)
-    return head + "".join(sorted(links, key=lambda link: " init -> " not in link.split("\n")[0]))
-
-
 def left(folder: pathlib.Path, name: str) -> Optional[bytes]:
     """What a file has, or None where it isn't there."""
     return (folder / name).read_bytes() if (folder / name).exists() else None
@@ -216,7 +203,7 @@ def wrong_with(tcc: List[str], words: Sequence[str], history: History) -> Option
         ends = wanted(asked, history)
         if done.returncode != ends.status:
             return "status %d, output %s, standard error %s" % (done.returncode, shown(done.stdout), shown(done.stderr))
-        return first_difference("output", ends.output.encode(), turned(done.stdout.decode()).encode()) \
+        return first_difference("output", ends.output.encode(), done.stdout) \
             or first_difference("standard error", ends.notes.encode(), done.stderr) \
             or (unaccepted(tcc, asked, folder, history) if ends.certificate else unlike(asked, folder, "certificate", b"")) \
             or unlike(asked, folder, "slice", ends.slice.encode())
