@@ -10,8 +10,6 @@ use Rattle.tcc_explain.specs.Explained.{IsAnswerOfHistory}
 use Rattle.tcc_answering.specs.Firsts.{IsFirst}
 use Rattle.tcc_answering.specs.declared.answering.Answered.{Answered}
 use Rattle.tcc_answering.specs.declared.answering.Answered.TheVariants as answered
-use Rattle.tcc_answering.specs.declared.answering.AsSmall.{AsSmall}
-use Rattle.tcc_answering.specs.declared.answering.AsSmall.TheVariants as small
 
 -- all its read faults, where it has some; within the small limits, where its certificate is wanted, the first answer of its history, with
 -- what that needs; else its history, and its first commit order or the first of its least cycles
@@ -21,9 +19,3 @@ IsAnswered is_certified level s (answered.Tabled a) =
     (read_faults s ≡ []) × KeepsLimits s × (is_certified ≡ true) × IsAnswerOfHistory (judged (history s) level) a
 IsAnswered is_certified level s (answered.Bare h f order) =
     (read_faults s ≡ []) × (KeepsLimits s → is_certified ≡ true → ⊥) × (h ≡ history s) × IsFirst (judged h level) f
-
--- the same snapshot, within the small limits; or that it doesn't keep them
-abbrev pub IsAsSmall : Sessions → AsSmall → Type 0
-IsAsSmall s (small.Lent snapshot) = snapshot.now ≡ s
-IsAsSmall s (small.Copied copy) = copy ≡ s
-IsAsSmall s small.Past = KeepsLimits s → ⊥

@@ -1,2 +1,3 @@
 pub mod Firsts
 pub mod Answered
+pub mod private
