@@ -2,6 +2,7 @@ pub mod AlongLemmas
 pub mod Around
 pub mod CheapestLemmas
 pub mod LastLemmas
+pub mod LastSteps
 pub mod LongLemmas
 pub mod Picking
 pub mod ReturnLemmas

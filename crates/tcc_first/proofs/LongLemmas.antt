@@ -3,7 +3,7 @@ use Rattle.std.proofs.Common.{ℕ, ◌+◌, ◌-◌, ◌<◌, ◌≤◌, ◌≡�
 use Rattle.std.specs.Ordering.{nat_cmp}
 use Rattle.std.specs.Cmp.{nat_cmp_is}
 use Rattle.std.specs.declared.cmp.Ordering.TheVariants.{Less, Equal, Greater}
-use Rattle.std.proofs.lemmas.Bool.{cases_lt, cases_order}
+use Rattle.std.proofs.lemmas.Bool.{cases_eq, cases_lt, cases_order}
 use Rattle.std.proofs.lemmas.Cmp.{nat_cmp_total, nat_list_cmp_total, tied_itself}
 use Rattle.tcc_reads.specs.History.{History, count}
 use Rattle.tcc_reads.specs.Sources.{name_cmp}
@@ -185,6 +185,67 @@ cheapest_pair j u v l is = record {
   least = λ other w. omega (arith, is.steps, some_cost other);
   first = λ other w same. is.first other w.from w.to w.link (omega (arith, same, is.steps));
 }
+
+-- ---- the fewest steps
+-- of the first k readings
+pub record AreFewest (h : History) (lengths : List ℕ) (b : ℕ) (a : ℕ) (readers : List ℕ) (key_indices : List ℕ) (k : ℕ) (fewest : ℕ) : Type 0 where
+  pub none : (i : ℕ) → i < k → 0 < get_or lengths (get_or readers i 0) 0 → MayContradict h b a (key_at h (get_or key_indices i 0)) (get_or readers i 0)
+      → fewest ≤ get_or lengths (get_or readers i 0) 0
+  pub some : (fewest ≡ NO_WALK) ⊎ ((0 < fewest) × ((x : List ℕ) × (c : ℕ) × IsContradictedAt h lengths fewest b a x c))
+
+module _ (h : History) (lengths : List ℕ) (b a : ℕ) (readers key_indices : List ℕ) where
+  pub fewest_none : AreFewest h lengths b a readers key_indices 0 NO_WALK
+  fewest_none = record { none = λ i less. absurd (omega (arith, less)); some = inl refl }
+
+  module _ (k fewest steps : ℕ) (w : AreFewest h lengths b a readers key_indices k fewest) (is : steps ≡ get_or lengths (get_or readers k 0) 0) where
+    pub fewest_more : 0 < steps → steps < fewest → MayContradict h b a (key_at h (get_or key_indices k 0)) (get_or readers k 0)
+        → AreFewest h lengths b a readers key_indices (k + 1) steps
+    fewest_more some less may = record {
+      none = λ i low walked one. none i low walked one (cases_eq i k);
+      some = inr (some, (key_at h (get_or key_indices k 0), get_or readers k 0, (may, sym is)));
+    }
+      where
+        none : (i : ℕ) → i < k + 1 → 0 < get_or lengths (get_or readers i 0) 0 → MayContradict h b a (key_at h (get_or key_indices i 0)) (get_or readers i 0)
+            → (i ≡ k) ⊎ (i ≢ k) → steps ≤ get_or lengths (get_or readers i 0) 0
+        none i low walked one (inl same) = subst (λ (z : ℕ). steps ≤ get_or lengths (get_or readers z 0) 0) (sym same) (omega (arith, is))
+        none i low walked one (inr other) = omega (arith, less, w.none i (omega (arith, low, other)) walked one)
+
+    pub fewest_same : ((0 < steps) × (steps < fewest) × MayContradict h b a (key_at h (get_or key_indices k 0)) (get_or readers k 0) → ⊥)
+        → AreFewest h lengths b a readers key_indices (k + 1) fewest
+    fewest_same never = record { none = λ i low walked one. none i low walked one (cases_eq i k); some = w.some }
+      where
+        here : 0 < get_or lengths (get_or readers k 0) 0 → MayContradict h b a (key_at h (get_or key_indices k 0)) (get_or readers k 0)
+            → (steps < fewest) ⊎ (fewest ≤ steps) → fewest ≤ get_or lengths (get_or readers k 0) 0
+        here walked one (inl less) = absurd (never (omega (arith, walked, is), less, one))
+        here walked one (inr more) = omega (arith, more, is)
+
+        none : (i : ℕ) → i < k + 1 → 0 < get_or lengths (get_or readers i 0) 0 → MayContradict h b a (key_at h (get_or key_indices i 0)) (get_or readers i 0)
+            → (i ≡ k) ⊎ (i ≢ k) → fewest ≤ get_or lengths (get_or readers i 0) 0
+        none i low walked one (inl same) =
+            subst (λ (z : ℕ). fewest ≤ get_or lengths (get_or readers z 0) 0) (sym same)
+            (here (subst (λ (z : ℕ). 0 < get_or lengths (get_or readers z 0) 0) same walked)
+            (subst (λ (z : ℕ). MayContradict h b a (key_at h (get_or key_indices z 0)) (get_or readers z 0)) same one) (cases_lt steps fewest))
+        none i low walked one (inr other) = w.none i (omega (arith, low, other)) walked one
+
+  pub fewest_all : AreReadingsByIndex h a readers key_indices → (k fewest : ℕ) → length readers ≤ k → AreFewest h lengths b a readers key_indices k fewest
+      → NoneContradictedUpTo h lengths (fewest - 1) b a
+  fewest_all are k fewest all w m some low x c is =
+      let (i, inside, reader, key) = place_of_reading h a readers key_indices are c x is.0.1 in
+      let at : get_or lengths (get_or readers i 0) 0 ≡ m = ap (λ (z : ℕ). get_or lengths z 0) reader ∙ is.1 in
+      let one : MayContradict h b a (key_at h (get_or key_indices i 0)) (get_or readers i 0) = rw (reader, key) is.0 in
+      omega (arith, some, low, at, w.none i (omega (arith, inside, all)) (omega (arith, at, some)) one)
+
+-- the first of those by so many steps
+pub nearest_of : (h : History) (lengths : List ℕ) (b a most n : ℕ) → n ≤ most → most < NO_WALK → NoneContradictedUpTo h lengths (n - 1) b a
+    → (n ≡ NO_WALK) ⊎ ((0 < n) × ((x : List ℕ) × (c : ℕ) × IsContradictedAt h lengths n b a x c)) → (found : Option (List ℕ × ℕ))
+    → MatchOption found ((x : List ℕ) (c : ℕ) → IsContradictedAt h lengths n b a x c → ⊥)
+    (λ first. (first.1 < count h) × IsFirstContradictedAt h lengths n b a first.0 first.1)
+    → MatchOption found (NoneContradictedUpTo h lengths most b a)
+    (λ first. (first.1 < count h) × ((m : ℕ) × (0 < m) × (m ≤ most) × IsFirstContradictedAt h lengths m b a first.0 first.1
+    × NoneContradictedUpTo h lengths (m - 1) b a))
+nearest_of h lengths b a most n within few none (inl never) found is = absurd (omega (arith, never, within, few))
+nearest_of h lengths b a most n within few none (inr (some, (x, c, one))) None is = absurd (is x c one)
+nearest_of h lengths b a most n within few none (inr (some, (x, c, one))) (Some first) is = (is.0, (n, some, within, is.1, none))
 
 -- ---- readings that are contradicted
 -- the first of those below m, by the index of the key and by the reader

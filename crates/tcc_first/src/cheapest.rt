@@ -1,7 +1,7 @@
 //! The cheapest link from one transaction to another, and of those the first by the rule of ties: one of a pair, or else the derived one
-//! by the shortest walk, found from the lengths of all walks (`first_walks`). For N transactions, R reads and walks of L steps at most
-//! that takes L (N + R) steps.
-ghost use Rattle.std.specs.Prelude.{◌≡◌, ◌<◌, ◌≤◌, ◌+◌, ◌-◌, ◌↔◌, ℕ, List, length, IsTrue, IfOk, MatchOption};
+//! by the shortest walk, found from the lengths of all walks (`first_walks`). For N transactions and R reads that takes as many sweeps of
+//! N + R as these lengths do, and some N + R steps more.
+ghost use Rattle.std.specs.Prelude.{◌≡◌, ◌<◌, ◌≤◌, ◌+◌, ◌-◌, ◌⊎◌, ◌↔◌, ℕ, List, length, IsTrue, IfOk, MatchOption};
 ghost use Rattle.tcc_reads.specs.History.{count};
 ghost use Rattle.tcc_graph.specs.{Relations.IsReadsPair, Keys.keys, Keys.key_at, Levels.judged, Links.MayContradict, Links.link_cost, declared.link.Link.Link};
 ghost use Rattle.tcc_lanes.specs.declared.lengths.TheConstants.{NO_WALK};
@@ -13,7 +13,7 @@ use crate::first_walks::first_walk;
 use crate::ranges::has_number;
 use std::alloc::Global;
 use tcc_graph::{LargeGraph, Level, Link};
-use tcc_lanes::walk_lengths;
+use tcc_lanes::{NO_WALK, walk_lengths};
 use tcc_txn::{Name, NoMemory};
 
 /// Whether another transaction than the source writes the key at an index, which the reader reads from the source.
@@ -80,6 +80,51 @@ fn first_contradicted(
     Some((graph.keys()[key_index as usize], reader))
 }
 
+/// Whether one transaction contradicts a reading from another by a walk of so many steps, which are fewer than the fewest so far.
+fn is_nearer(
+    graph: &LargeGraph,
+    from: u32,
+    source: u32,
+    reader: u32,
+    key_index: u32,
+    steps: u32,
+    fewest: u32,
+) -> bool
+    requires reader { reader < count graph.now }
+    requires key { key_index < length (keys graph.now) }
+    requires read { IsReadsPair graph.now source reader (key_at graph.now key_index) }
+    ensures { IsTrue result ↔ ((0 < steps) × (steps < fewest) × MayContradict graph.now from source (key_at graph.now key_index) reader) }
+{
+    0 < steps && steps < fewest && may_contradict(graph, from, source, reader, key_index)
+}
+
+/// How many steps the shortest walk has by which one transaction contradicts a reading from another; `NO_WALK` where none does.
+fn fewest_steps(graph: &LargeGraph, lengths: &[u32], from: u32, source: u32) -> u32
+    requires long { length lengths.now ≡ count graph.now }
+    requires source { source < count graph.now }
+    ensures none { NoneContradictedUpTo graph.now lengths.now (result - 1) from source }
+    ensures some { (result ≡ NO_WALK) ⊎ ((0 < result) × ((x : List ℕ) × (c : ℕ) × IsContradictedAt graph.now lengths.now result from source x c)) }
+{
+    let (readers, key_indices) = graph.readings_at(source);
+    let mut fewest = NO_WALK;
+    for index in 0..readers.len() {
+        let reader = readers[index];
+        let steps = lengths[reader as usize];
+        if is_nearer(
+            graph,
+            from,
+            source,
+            reader,
+            key_indices[index],
+            steps,
+            fewest,
+        ) {
+            fewest = steps;
+        }
+    }
+    fewest
+}
+
 /// Of the readings from one transaction that the other contradicts by the shortest walk the first, by key and by reader; none where no
 /// walk of so many steps at most contradicts one.
 fn nearest_contradicted(
@@ -96,12 +141,11 @@ fn nearest_contradicted(
         (λ first. (first.1 < count graph.now) × ((n : ℕ) × (0 < n) × (n ≤ most) × IsFirstContradictedAt graph.now lengths.now n from source first.0 first.1
         × NoneContradictedUpTo graph.now lengths.now (n - 1) from source)) }
 {
-    for steps in 1..most + 1 {
-        if let Some(first) = first_contradicted(graph, lengths, from, source, steps) {
-            return Some(first);
-        }
+    let steps = fewest_steps(graph, lengths, from, source);
+    if most < steps {
+        return None;
     }
-    None
+    first_contradicted(graph, lengths, from, source, steps)
 }
 
 /// The cheapest link from one transaction to another, and of those the first by the rule of ties; none where each has more than

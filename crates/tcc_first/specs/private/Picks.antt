@@ -1,5 +1,5 @@
 -- Links that are picked from the last backwards.
-use Rattle.std.specs.Prelude.{ℕ, ◌<◌, ◌≤◌, ◌≡◌, ◌≢◌, ◌+◌, ◌⊎◌, List, slice_index}
+use Rattle.std.specs.Prelude.{ℕ, ◌<◌, ◌≤◌, ◌≡◌, ◌≢◌, ◌+◌, ◌⊎◌, List, Option, MatchOption, slice_index}
 use Rattle.std.specs.declared.cmp.Ordering.TheVariants.{Less, Greater}
 use Rattle.tcc_reads.specs.History.{History}
 use Rattle.tcc_reads.specs.Sources.{name_cmp}
@@ -50,3 +50,7 @@ pub record IsFirstContradictedAt (h : History) (lengths : List ℕ) (n : ℕ) (b
 -- there is none of 1 to n
 abbrev pub NoneContradictedUpTo : History → List ℕ → ℕ → ℕ → ℕ → Type 0
 NoneContradictedUpTo h lengths n b a = (m : ℕ) → 0 < m → m ≤ n → (x : List ℕ) (c : ℕ) → IsContradictedAt h lengths m b a x c → ⊥
+
+-- the lowest number of those that are so, or none where none is
+abbrev pub IsLowestOf : (ℕ → Type 0) → Option ℕ → Type 0
+IsLowestOf Is found = MatchOption found ((u : ℕ) → Is u → ⊥) (λ u. Is u × ((v : ℕ) → Is v → u ≤ v))
