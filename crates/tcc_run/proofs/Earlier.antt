@@ -21,7 +21,7 @@ use Rattle.tcc_run.specs.declared.outcome.Outcome.{Outcome}
 use Rattle.tcc_run.specs.declared.outcome.Outcome.TheVariants as outcome
 
 -- an answer's own anomaly is one of its snapshot
-pub own_earlier : (level : Level) (s : Sessions) (a : Answer) → read_faults s ≡ [] → IsAnswerOfHistory (judged (history s) level) a → HasEarlier level s (outcome.Answered a)
+pub own_earlier : (level : Level) (s : Sessions) (a : Answer) → read_faults s ≡ [] → IsAnswerOfHistory (judged (history s) level) a → HasEarlier level s (outcome.Tabled a)
 own_earlier level s (answer.Commit c) resolved is = tt
 own_earlier level s (answer.Anomaly a) resolved is = (s, nested_itself s, resolved, (is.0, is.1, is.2))
 

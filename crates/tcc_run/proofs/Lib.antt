@@ -3,6 +3,7 @@ pub mod Interleaving
 pub mod Closes
 pub mod HeadlineRuns
 pub mod OneRun
+pub mod BareAnswers
 pub mod Runs
 pub mod Explains
 pub mod Earlier

@@ -6,9 +6,12 @@ use Rattle.tcc_txn.specs.Snapshots.{Sessions}
 use Rattle.tcc_reads.specs.Faults.{read_faults}
 use Rattle.tcc_reads.specs.History.{History}
 use Rattle.tcc_reads.specs.Sources.{history}
-use Rattle.tcc_explain.specs.Explained.{IsAnswerOfHistory}
+use Rattle.tcc_explain.specs.Explained.{IsBareAnswer}
+use Rattle.tcc_explain.specs.Tabled.{far_table, near_table, with_tables}
+use Rattle.tcc_explain.proofs.TabledAnswer as tables
 use Rattle.tcc_graph.specs.Answers as first
 use Rattle.tcc_graph.specs.Levels.{Judged, judged}
+use Rattle.tcc_graph.specs.Links.{cost}
 use Rattle.tcc_graph.specs.Orders.{IsCommitOrder, IsFirstOrder}
 use Rattle.tcc_graph.specs.Routes.{AreCycle, HasCycle}
 use Rattle.tcc_graph.specs.Ties.{IsFirstCycle}
@@ -19,14 +22,15 @@ use Rattle.tcc_cert.specs.RunsTold.{order_claim_of}
 use Rattle.tcc_cert.specs.declared.large.LargeCertificate.{LargeCertificate}
 use Rattle.tcc_cert.specs.declared.large.LargeCertificate.TheVariants as claims
 use Rattle.tcc_cert.specs.declared.large.LinksClaim.{LinksClaim}
+use Rattle.tcc_answer.specs.Answers.{LabelledCycle}
 use Rattle.tcc_answer.specs.declared.answer.Answer.{Answer}
 use Rattle.tcc_answer.specs.declared.answer.Answer.TheVariants as answer
-use Rattle.tcc_print.specs.Courses.{Said, faults_said}
+use Rattle.tcc_print.specs.Courses.{Said, answer_said, faults_said}
 use Rattle.tcc_print.specs.declared.options.Options.{Options}
 use Rattle.tcc_print.specs.Statuses.{answer_status}
 use Rattle.tcc_print.specs.declared.status.Status.TheVariants.{Anomaly, Success, TooFew}
 use Rattle.tcc_run.specs.LargeRuns.{HasSaid, IsClaimOf, IsSaidWithLarge, bare, bare_cycle, bare_order, claimed, cycle_claim}
-use Rattle.tcc_run.specs.private.LargeStages.{IsCycleClaim, IsFound, IsFoundOf, IsOutcome, answer_links, outcome_links, outcome_said}
+use Rattle.tcc_run.specs.private.LargeStages.{IsBareOf, IsCycleClaim, IsFound, IsFoundOf, IsOutcome, answer_links, outcome_links, outcome_said}
 use Rattle.tcc_run.specs.declared.large.outcome.Outcome.{Outcome}
 use Rattle.tcc_run.specs.declared.large.outcome.Outcome.TheVariants as outcome
 
@@ -66,6 +70,17 @@ pub large_outcome : (level : Level) (s : Sessions) (h : History) (o : Outcome) �
 large_outcome level s h o none past own (a, claim, same, found) =
     subst (λ (o : Outcome). IsOutcome level s o) (sym same) (none, past, own, found)
 
+-- ---- what is found within them, without tables
+
+pub bare_outcome : (level : Level) (s : Sessions) (h : History) (o : Outcome) → read_faults s ≡ [] → KeepsLimits s → h ≡ history s
+    → IsBareOf level h o → IsOutcome level s o
+bare_outcome level s h o none keeps own (a, same, is) = subst (λ (o : Outcome). IsOutcome level s o) (sym same) (none, keeps, own, is)
+
+-- an answer without tables says what it says with those that its history gives
+bare_said : (options : Options) (h : History) (a : Answer) → outcome_said options (outcome.Bare h a) ≡ answer_said options (with_tables h a)
+bare_said options h (answer.Commit c) = refl
+bare_said options h (answer.Anomaly a) = refl
+
 -- ---- what is said
 
 found_said : (options : Options) (s : Sessions) (a : Answer) (claim : LargeCertificate) → read_faults s ≡ [] → (KeepsLimits s → ⊥)
@@ -78,7 +93,18 @@ found_said options s a claim none past found =
 
 pub said_of : (options : Options) (s : Sessions) (o : Outcome) → IsOutcome options.level s o → IsSaidWithLarge options s (outcome_said options o)
 said_of options s (outcome.Unresolved faults) (faulty, same) = inr (faulty, ap (faults_said options) same)
-said_of options s (outcome.Small a) (resolved, keeps, is) = inl (resolved, inl (keeps, a, is, refl))
+said_of options s (outcome.Tabled a) (resolved, keeps, is) = inl (resolved, inl (keeps, a, is, refl))
+said_of options s (outcome.Bare h a) (resolved, keeps, own, is) =
+    let j = judged (history s) options.level in
+    inl (
+      resolved,
+      inl (
+        keeps,
+        with_tables (history s) a,
+        tables.tabled j a (subst (λ (g : History). IsBareAnswer (judged g options.level) a) own is),
+        bare_said options h a ∙ ap (λ (g : History). answer_said options (with_tables g a)) own,
+      ),
+    )
 said_of options s (outcome.Large h a claim) (resolved, past, own, found) =
     found_said options s a claim resolved past (subst (λ (h : History). IsFound options.level h a claim) own found)
 
@@ -108,14 +134,29 @@ found_links options h a claim links found e =
     (bare_links options h found.answered claim links found.claimed (sym (ap answer_links found.answer) ∙ e))
 
 small_links : (options : Options) (h : History) (a : Answer) (links : List Link) → answer_links a ≡ Some links
-    → HasSaid options h (outcome_said options (outcome.Small a)) links
+    → HasSaid options h (outcome_said options (outcome.Tabled a)) links
 small_links options h (answer.Commit c) links e = absurd (nothing links e)
 small_links options h (answer.Anomaly a) links e = inl (a, refl, inside a.links links e)
+
+abbrev with_distances : History → LabelledCycle → LabelledCycle
+with_distances h a = record {
+  level = a.level;
+  links = a.links;
+  near = near_table (judged h a.level) (cost a.links);
+  far = far_table (judged h a.level) (cost a.links);
+  labels = a.labels;
+}
+
+untabled_links : (options : Options) (h g : History) (a : Answer) (links : List Link) → answer_links a ≡ Some links
+    → HasSaid options g (outcome_said options (outcome.Bare h a)) links
+untabled_links options h g (answer.Commit c) links e = absurd (nothing links e)
+untabled_links options h g (answer.Anomaly a) links e = inl (with_distances h a, refl, inside a.links links e)
 
 pub has_said : (options : Options) (s : Sessions) (o : Outcome) (links : List Link) → IsOutcome options.level s o → outcome_links o ≡ Some links
     → HasSaid options (history s) (outcome_said options o) links
 has_said options s (outcome.Unresolved faults) links is e = absurd (nothing links e)
-has_said options s (outcome.Small a) links is e = small_links options (history s) a links e
+has_said options s (outcome.Tabled a) links is e = small_links options (history s) a links e
+has_said options s (outcome.Bare h a) links is e = untabled_links options h (history s) a links e
 has_said options s (outcome.Large h a claim) links (resolved, past, own, found) e =
     found_links options (history s) a claim links (subst (λ (h : History). IsFound options.level h a claim) own found) e
 
@@ -130,7 +171,8 @@ none_anomalous required (answer.Anomaly a) none = absurd (nothing a.links (sym n
 
 pub unsaid : (options : Options) (o : Outcome) → outcome_links o ≡ None → (outcome_said options o).status ≢ Anomaly
 unsaid options (outcome.Unresolved faults) none e = cc
-unsaid options (outcome.Small a) none e = none_anomalous options.required a none e
+unsaid options (outcome.Tabled a) none e = none_anomalous options.required a none e
+unsaid options (outcome.Bare h a) none e = none_anomalous options.required a none e
 unsaid options (outcome.Large h a claim) none e = none_anomalous options.required a none e
 
 -- the links of what was said are a cycle
@@ -144,7 +186,7 @@ found_is_cycle : (level : Level) (h : History) (a : Answer) (claim : LargeCertif
 found_is_cycle level h a claim links found e =
     bare_is_cycle level h found.answered links found.is (sym (ap answer_links found.answer) ∙ e)
 
-small_cycle : (level : Level) (s : Sessions) (a : Answer) (links : List Link) → read_faults s ≡ [] → IsAnswerOfHistory (judged (history s) level) a
+small_cycle : (level : Level) (s : Sessions) (a : Answer) (links : List Link) → read_faults s ≡ [] → IsBareAnswer (judged (history s) level) a
     → answer_links a ≡ Some links → (read_faults s ≡ []) × AreCycle (judged (history s) level) links
 small_cycle level s (answer.Commit c) links none is e = absurd (nothing links e)
 small_cycle level s (answer.Anomaly a) links none is e =
@@ -153,7 +195,10 @@ small_cycle level s (answer.Anomaly a) links none is e =
 pub links_cycle : (level : Level) (s : Sessions) (o : Outcome) (links : List Link) → IsOutcome level s o → outcome_links o ≡ Some links
     → (read_faults s ≡ []) × AreCycle (judged (history s) level) links
 links_cycle level s (outcome.Unresolved faults) links is e = absurd (nothing links e)
-links_cycle level s (outcome.Small a) links (none, keeps, is) e = small_cycle level s a links none is e
+links_cycle level s (outcome.Tabled a) links (none, keeps, is) e =
+    small_cycle level s a links none (tables.bare (judged (history s) level) a is) e
+links_cycle level s (outcome.Bare h a) links (none, keeps, own, is) e =
+    small_cycle level s a links none (subst (λ (g : History). IsBareAnswer (judged g level) a) own is) e
 links_cycle level s (outcome.Large h a claim) links (none, past, own, found) e =
     (none, found_is_cycle level (history s) a claim links (subst (λ (h : History). IsFound level h a claim) own found) e)
 

@@ -5,6 +5,7 @@
 
 mod audit_fault;
 mod auditing;
+mod bare;
 mod explain;
 mod headline;
 pub mod large;

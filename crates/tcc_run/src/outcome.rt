@@ -1,19 +1,21 @@
 //! What is said of a snapshot: its answer, or all its read faults.
-ghost use Rattle.std.specs.Prelude.{◌≡◌, IfOk, IfSome, MatchResult};
+ghost use Rattle.std.specs.Prelude.{◌≡◌, ℕ, IfOk, IfSome, MatchResult, false, true};
 ghost use Rattle.tcc_txn.specs.{Finished.KeepsLimits, Snapshots.Sessions};
 ghost use Rattle.tcc_graph.specs.declared.level.Level.{Level};
 ghost use Rattle.tcc_reads.specs.Refusals.{IsRefusal};
 ghost use Rattle.tcc_explain.specs.Explained.{IsAnswerOfSnapshot};
-ghost use Rattle.tcc_print.specs.Saying.{IsTold};
-ghost use Rattle.tcc_run.specs.private.Stages.{Follows, HasEarlier, IsEarlier, answer_in, course};
+ghost use Rattle.tcc_print.specs.{Saying.IsTold, Statuses.last_status};
+ghost use Rattle.tcc_run.specs.private.Stages.{Follows, HasEarlier, IsCertifiable, IsEarlier, answer_in, course};
 
+use crate::bare::bare_answer;
 use crate::headline::{explain_snapshot, explain_snapshot_next};
 use std::alloc::Global;
 use std::io::Write;
 use std::thread::Threads;
+use tcc_answering::{Answered, answer};
 use tcc_explain::laws::grown;
 use tcc_explain::{Anomaly, Answer, ExplainFault, Gate, NextFault};
-use tcc_graph::Level;
+use tcc_graph::{LargeGraph, Level};
 use tcc_print::printing::{send_answer, send_unresolved};
 use tcc_print::{Last, Options, RunContext, Statement};
 use tcc_reads::ReadFault;
@@ -22,7 +24,13 @@ use tcc_txn::{NoMemory, Snapshot};
 /// What is said of a snapshot: its answer, or all its read faults in the place of one.
 #[derive(Drop)]
 pub(crate) enum Outcome {
-    Answered(Answer),
+    /// With the tables of its certificate.
+    Tabled(Answer),
+    /// Without them, where no certificate is wanted; and the graph, whose history has them.
+    Bare {
+        graph: LargeGraph,
+        answer: Answer,
+    },
     Unresolved {
         faults: Vec<ReadFault>,
         /// The anomaly that was answered last, if there was one; it is still one once these reads are resolved.
@@ -67,41 +75,91 @@ fn work_out<T: Threads + Sync, G: Gate>(
     }
 }
 
+/// What is to be said of a snapshot, with the tables of its certificate; it continues that of the earlier anomaly, if there was
+/// one.
+fn tabled<T: Threads + Sync, G: Gate>(
+    run: &RunContext<T, G>,
+    snapshot: &Snapshot,
+    earlier: Option<Anomaly>,
+) -> Result<Outcome, NoMemory>
+    requires earlier { IfSome earlier (IsEarlier run.now.options.now.level snapshot.now) }
+    ensures told { IfOk result (IsTold (course run.now.options.now) snapshot.now) }
+    ensures earlier { IfOk result (HasEarlier run.now.options.now.level snapshot.now) }
+    ensures certifiable { IfOk result (IsCertifiable true) }
+{
+    match work_out(run, snapshot, &earlier) {
+        Ok(answer) => Ok(Outcome::Tabled(answer)),
+        Err(ExplainFault::Reads(faults)) => Ok(Outcome::Unresolved { faults, earlier }),
+        Err(ExplainFault::NoMemory) => Err(NoMemory),
+    }
+}
+
+/// What is to be said of a snapshot, without tables. An earlier anomaly doesn't help there.
+fn bare<T: Threads + Sync, G: Gate>(
+    run: &RunContext<T, G>,
+    snapshot: &Snapshot,
+) -> Result<Outcome, NoMemory>
+    ensures told { IfOk result (IsTold (course run.now.options.now) snapshot.now) }
+    ensures earlier { IfOk result (HasEarlier run.now.options.now.level snapshot.now) }
+    ensures certifiable { IfOk result (IsCertifiable false) }
+{
+    let (alloc, level) = (run.alloc, run.options.level);
+    let answered = answer(run, snapshot, level, false)?;
+    match answered {
+        Answered::Unresolved(faults) => Ok(Outcome::Unresolved {
+            faults,
+            earlier: None,
+        }),
+        Answered::Tabled(_) => unreachable!(),
+        Answered::Bare { graph, first, .. } => {
+            let answer = bare_answer(alloc, &graph, level, first)?;
+            Ok(Outcome::Bare { graph, answer })
+        }
+    }
+}
+
 impl Outcome {
-    /// What is to be said of the snapshot; it continues that of the earlier anomaly, if there was one.
+    /// What is to be said of the snapshot, with tables where a certificate is wanted. It continues that of the earlier anomaly, if
+    /// there was one.
     pub(crate) fn of<T: Threads + Sync, G: Gate>(
         run: &RunContext<T, G>,
         snapshot: &Snapshot,
         earlier: Option<Anomaly>,
+        is_certified: bool,
     ) -> Result<Outcome, NoMemory>
         requires earlier { IfSome earlier (IsEarlier run.now.options.now.level snapshot.now) }
         ensures told { IfOk result (IsTold (course run.now.options.now) snapshot.now) }
         ensures earlier { IfOk result (HasEarlier run.now.options.now.level snapshot.now) }
+        ensures certifiable { IfOk result (IsCertifiable is_certified) }
     {
-        match work_out(run, snapshot, &earlier) {
-            Ok(answer) => Ok(Outcome::Answered(answer)),
-            Err(ExplainFault::Reads(faults)) => Ok(Outcome::Unresolved { faults, earlier }),
-            Err(ExplainFault::NoMemory) => Err(NoMemory),
+        if is_certified {
+            tabled(run, snapshot, earlier)
+        } else {
+            bare(run, snapshot)
         }
     }
 
-    /// The answer; none where there are read faults in its place.
+    /// The answer, of which the tables may be left out; none where there are read faults in its place.
     pub(crate) fn into_answer(self) -> Option<Answer>
-        ensures { result ≡ answer_in self }
+        ensures { (required : ℕ) → last_status required result ≡ last_status required (answer_in self) }
     {
         match self {
-            Outcome::Answered(answer) => Some(answer),
+            Outcome::Tabled(answer) => Some(answer),
+            Outcome::Bare { graph, answer } => {
+                drop(graph);
+                Some(answer)
+            }
             Outcome::Unresolved { .. } => None,
         }
     }
 
-    /// The last anomaly, without its tables; none where there was none.
+    /// The last anomaly by which the next tables are searched, without its own; none where there was none.
     pub(crate) fn into_anomaly(self, alloc: Global) -> Option<Anomaly>
         ensures { (level : Level) (s : Sessions) → HasEarlier level s self → IfSome result (IsEarlier level s) }
     {
         match self {
-            Outcome::Answered(Answer::Commit(_)) => None,
-            Outcome::Answered(Answer::Anomaly(anomaly)) => Some(anomaly.without_tables(alloc)),
+            Outcome::Tabled(Answer::Anomaly(anomaly)) => Some(anomaly.without_tables(alloc)),
+            Outcome::Tabled(Answer::Commit(_)) | Outcome::Bare { .. } => None,
             Outcome::Unresolved { earlier, .. } => earlier,
         }
     }
@@ -115,14 +173,16 @@ impl Statement for Outcome {
 
     fn send<W: Write>(&self, alloc: Global, options: &Options, out: &mut W) -> Result<(), u8> {
         match self {
-            Outcome::Answered(answer) => send_answer(alloc, answer, options.json, out),
+            Outcome::Tabled(answer) | Outcome::Bare { answer, .. } => {
+                send_answer(alloc, answer, options.json, out)
+            }
             Outcome::Unresolved { faults, .. } => send_unresolved(alloc, faults, options.json, out),
         }
     }
 
     fn read_faults(&self) -> &[ReadFault] {
         match self {
-            Outcome::Answered(_) => &[],
+            Outcome::Tabled(_) | Outcome::Bare { .. } => &[],
             Outcome::Unresolved { faults, .. } => faults,
         }
     }

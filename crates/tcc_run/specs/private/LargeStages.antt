@@ -1,5 +1,5 @@
 -- How the stages of a run follow one another.
-use Rattle.std.specs.Prelude.{ℕ, ◌≡◌, ◌≢◌, ◌⊎◌, Bool, List, [], take, unwrap_or, Option, None, Some, Result, Ok, Err}
+use Rattle.std.specs.Prelude.{ℕ, ◌≡◌, ◌≢◌, ◌⊎◌, Bool, false, List, [], take, unwrap_or, Option, None, Some, Result, Ok, Err}
 use Rattle.std.specs.Io.KnownBytes.{Appends}
 use Rattle.tcc_txn.specs.Finished.{KeepsLimits}
 use Rattle.tcc_txn.specs.Snapshots.{Sessions}
@@ -20,7 +20,8 @@ use Rattle.tcc_answer.specs.Claims.{certificate_of}
 use Rattle.tcc_answer.specs.declared.answer.Answer.{Answer}
 use Rattle.tcc_answer.specs.declared.answer.Answer.TheVariants as answer
 use Rattle.tcc_rules.specs.Asked.{AllHold}
-use Rattle.tcc_explain.specs.Explained.{IsAnswerOfHistory}
+use Rattle.tcc_explain.specs.Explained.{IsAnswerOfHistory, IsBareAnswer}
+use Rattle.tcc_explain.specs.Tabled.{with_tables}
 use Rattle.tcc_judge.specs.Claims.{links_claim_of}
 use Rattle.tcc_judge.specs.Verdicts.{cycle_rules}
 use Rattle.tcc_print.specs.Courses.{Contents, Gains, Said}
@@ -48,6 +49,10 @@ pub record IsFound (level : Level) (h : History) (a : Answer) (claim : LargeCert
 abbrev pub IsFoundOf : Level → History → Outcome → Type 0
 IsFoundOf level h o = (a : Answer) × (claim : LargeCertificate) × (o ≡ outcome.Large h a claim) × IsFound level h a claim
 
+-- the outcome is what is said of a history within the small limits, without tables
+abbrev pub IsBareOf : Level → History → Outcome → Type 0
+IsBareOf level h o = (a : Answer) × (o ≡ outcome.Bare h a) × IsBareAnswer (judged h level) a
+
 -- the claim of a cycle of more than four steps: with runs by which it keeps all rules, and for whose text there is room, or with none
 abbrev pub IsLongClaim : Level → History → List Link → LinksClaim → Type 0
 IsLongClaim level h links claim =
@@ -62,24 +67,33 @@ IsCycleClaim level h links claim =
 -- what is to be said of a snapshot at a level
 abbrev pub IsOutcome : Level → Sessions → Outcome → Type 0
 IsOutcome level s (outcome.Unresolved faults) = (read_faults s ≢ []) × (faults.items ≡ read_faults s)
-IsOutcome level s (outcome.Small a) = (read_faults s ≡ []) × KeepsLimits s × IsAnswerOfHistory (judged (history s) level) a
+IsOutcome level s (outcome.Tabled a) = (read_faults s ≡ []) × KeepsLimits s × IsAnswerOfHistory (judged (history s) level) a
+IsOutcome level s (outcome.Bare h a) = (read_faults s ≡ []) × KeepsLimits s × (h ≡ history s) × IsBareAnswer (judged h level) a
 IsOutcome level s (outcome.Large h a claim) = (read_faults s ≡ []) × (KeepsLimits s → ⊥) × (h ≡ history s) × IsFound level h a claim
+
+-- where a certificate is wanted, an answer within the small limits has its tables
+abbrev pub IsCertifiable : Bool → Outcome → Type 0
+IsCertifiable is_certified (outcome.Bare h a) = is_certified ≡ false
+IsCertifiable is_certified o = Unit {0}
 
 -- how it goes out, and how a run ends whose last answer it is
 abbrev pub outcome_text : Bool → Outcome → List ℕ
 outcome_text json (outcome.Unresolved faults) = unresolved json faults.items
-outcome_text json (outcome.Small a) = answered json a
+outcome_text json (outcome.Tabled a) = answered json a
+outcome_text json (outcome.Bare h a) = answered json a
 outcome_text json (outcome.Large h a claim) = answered json a
 
 abbrev pub outcome_status : ℕ → Outcome → Status
 outcome_status required (outcome.Unresolved faults) = ReadFaults
-outcome_status required (outcome.Small a) = answer_status required a
+outcome_status required (outcome.Tabled a) = answer_status required a
+outcome_status required (outcome.Bare h a) = answer_status required a
 outcome_status required (outcome.Large h a claim) = answer_status required a
 
--- the text of its certificate, where it is an answer
+-- the text of its certificate, where it is an answer: with the tables that the history gives it where nobody worked them out
 abbrev pub outcome_certificate : Outcome → Option (List ℕ)
 outcome_certificate (outcome.Unresolved faults) = None
-outcome_certificate (outcome.Small a) = Some (certificate_text (certificate_of a))
+outcome_certificate (outcome.Tabled a) = Some (certificate_text (certificate_of a))
+outcome_certificate (outcome.Bare h a) = Some (certificate_text (certificate_of (with_tables h a)))
 outcome_certificate (outcome.Large h a claim) = Some (large_certificate_text claim)
 
 abbrev pub outcome_said : Options → Outcome → Said
@@ -96,7 +110,8 @@ answer_links (answer.Anomaly a) = Some a.links
 
 abbrev pub outcome_links : Outcome → Option (List Link)
 outcome_links (outcome.Unresolved faults) = None
-outcome_links (outcome.Small a) = answer_links a
+outcome_links (outcome.Tabled a) = answer_links a
+outcome_links (outcome.Bare h a) = answer_links a
 outcome_links (outcome.Large h a claim) = answer_links a
 
 -- the course of a run

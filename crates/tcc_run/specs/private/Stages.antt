@@ -1,5 +1,5 @@
 -- How the stages of a run follow one another.
-use Rattle.std.specs.Prelude.{ℕ, ◌≡◌, ◌≢◌, ◌⊎◌, Bool, List, [], option_map, unwrap_or, Option, None, Some, IfSome}
+use Rattle.std.specs.Prelude.{ℕ, ◌≡◌, ◌≢◌, ◌⊎◌, Bool, false, List, [], option_map, unwrap_or, Option, None, Some, IfSome}
 use Rattle.tcc_txn.specs.Nested.{IsNested}
 use Rattle.tcc_txn.specs.Snapshots.{Sessions}
 use Rattle.tcc_txn.specs.declared.limits.Limits.TheVariants.{Small}
@@ -10,8 +10,9 @@ use Rattle.tcc_answer.specs.Claims.{certificate_of}
 use Rattle.tcc_answer.specs.Answers.{LabelledCycle}
 use Rattle.tcc_answer.specs.declared.answer.Answer.{Answer}
 use Rattle.tcc_answer.specs.declared.answer.Answer.TheVariants as answer
-use Rattle.tcc_explain.specs.Explained.{IsAnswerOfSnapshot}
+use Rattle.tcc_explain.specs.Explained.{IsAnswerOfSnapshot, IsBareAnswer}
 use Rattle.tcc_explain.specs.Next.{IsAnomalyOf}
+use Rattle.tcc_explain.specs.Tabled.{with_tables}
 use Rattle.tcc_graph.specs.Levels.{judged}
 use Rattle.tcc_print.specs.Courses.{Contents, Gains, Said}
 use Rattle.tcc_print.specs.Saying.{Course}
@@ -27,20 +28,24 @@ use Rattle.tcc_reads.specs.Sources.{history}
 
 -- ---- one answer
 
--- what is to be said of a snapshot at a level: its first answer where all its reads have sources, else all its read faults
+-- what is to be said of a snapshot at a level: its first answer where all its reads have sources, be it without tables; else all its
+-- read faults
 abbrev pub IsOutcome : Level → Sessions → Outcome → Type 0
-IsOutcome level s (outcome.Answered a) = IsAnswerOfSnapshot s level a
+IsOutcome level s (outcome.Tabled a) = IsAnswerOfSnapshot s level a
+IsOutcome level s (outcome.Bare h a) = (read_faults s ≡ []) × (h ≡ history s) × IsBareAnswer (judged h level) a
 IsOutcome level s (outcome.Unresolved faults earlier) = (read_faults s ≢ []) × (faults.items ≡ read_faults s)
 
--- the answer; none where there are read faults in its place
+-- the answer, with the tables that the history gives it where nobody worked them out; none where there are read faults in its place
 abbrev pub answer_in : Outcome → Option Answer
-answer_in (outcome.Answered a) = Some a
+answer_in (outcome.Tabled a) = Some a
+answer_in (outcome.Bare h a) = Some (with_tables h a)
 answer_in (outcome.Unresolved faults earlier) = None
 
--- the last anomaly, of this answer or of one before read faults; none where there was none
+-- the last anomaly, of this answer or of one before read faults, by which the next tables are searched; none where there was none
 abbrev pub anomaly_in : Outcome → Option LabelledCycle
-anomaly_in (outcome.Answered (answer.Commit c)) = None
-anomaly_in (outcome.Answered (answer.Anomaly a)) = Some a
+anomaly_in (outcome.Tabled (answer.Commit c)) = None
+anomaly_in (outcome.Tabled (answer.Anomaly a)) = Some a
+anomaly_in (outcome.Bare h a) = None
 anomaly_in (outcome.Unresolved faults earlier) = earlier
 
 -- an anomaly of a resolved snapshot that this one continues, whatever its tables
@@ -55,13 +60,19 @@ HasEarlier level s o = IfSome (anomaly_in o) (IsEarlier level s)
 abbrev pub Follows : Level → Sessions → Last Outcome → Type 0
 Follows level s last = HasEarlier level s last.outcome
 
+-- where a certificate is wanted, an answer has its tables
+abbrev pub IsCertifiable : Bool → Outcome → Type 0
+IsCertifiable is_certified (outcome.Bare h a) = is_certified ≡ false
+IsCertifiable is_certified o = Unit {0}
+
 -- the text of a certificate, where there is an answer
 abbrev pub certificate_kept : Option Answer → Option (List ℕ)
 certificate_kept kept = option_map (λ a. certificate_text (certificate_of a)) kept
 
 -- how it goes out, and how a run ends whose last answer it is
 abbrev pub outcome_text : Bool → Outcome → List ℕ
-outcome_text json (outcome.Answered a) = answered json a
+outcome_text json (outcome.Tabled a) = answered json a
+outcome_text json (outcome.Bare h a) = answered json a
 outcome_text json (outcome.Unresolved faults earlier) = unresolved json faults.items
 
 abbrev pub outcome_said : Options → Outcome → Said
@@ -78,9 +89,16 @@ course options =
 
 -- ---- the certificate
 
+-- the certificate that is kept went into the file, if one is given; nothing where none is kept
+abbrev pub GainsKept : Option Answer → Contents → Contents → Type 0
+GainsKept kept file file' = Gains file file' (unwrap_or (certificate_kept kept) [])
+
+-- one is kept, a file is given for it, and a part of it went there, from its front
+abbrev pub GainsKeptPart : Option Answer → Contents → Contents → Type 0
+GainsKeptPart kept file file' = (text : List ℕ) × (certificate_kept kept ≡ Some text) × GainsPart file file' text
+
 -- nothing more is said, and the file gets the certificate that is kept; or a write to it fails, which is said
 abbrev pub Concludes : Options → Option Answer → Option (List ℕ) → Option (List ℕ) → Contents → Contents → ℕ → Type 0
 Concludes options kept before after file file' code =
-    ((after ≡ before) × Gains file file' (unwrap_or (certificate_kept kept) []) × (code ≡ code_of (last_status options.required kept)))
-    ⊎ (((text : List ℕ) × (certificate_kept kept ≡ Some text) × GainsPart file file' text)
-    × Prints before after (device_line options.json) Device code)
+    ((after ≡ before) × GainsKept kept file file' × (code ≡ code_of (last_status options.required kept)))
+    ⊎ (GainsKeptPart kept file file' × Prints before after (device_line options.json) Device code)

@@ -1,6 +1,6 @@
 //! The certificate of what was said last: in version 2 within the small limits, in version 3 past them.
-ghost use Rattle.std.specs.Prelude.{option_map};
-ghost use Rattle.tcc_run.specs.private.LargeStages.{SendsCertificate, WritesCertificate, outcome_certificate, outcome_said};
+ghost use Rattle.std.specs.Prelude.{is_some, option_map, true};
+ghost use Rattle.tcc_run.specs.private.LargeStages.{IsCertifiable, SendsCertificate, WritesCertificate, outcome_certificate, outcome_said};
 
 use crate::large::outcome::Outcome;
 use std::io::Write;
@@ -10,11 +10,13 @@ use tcc_print::printing::print_device;
 
 /// Writes the certificate of what is said.
 fn send_certificate<C: Write>(outcome: &Outcome, file: &mut C) -> Result<(), CertWriteFault>
+    requires { IsCertifiable true outcome.now }
     ensures { SendsCertificate (outcome_certificate outcome.now) result (C.contents file.old) (C.contents file.new) }
 {
     match outcome {
         Outcome::Unresolved(_) => Ok(()),
-        Outcome::Small(answer) => answer.write_certificate(file),
+        Outcome::Tabled(answer) => answer.write_certificate(file),
+        Outcome::Bare { .. } => unreachable!(),
         Outcome::Large { claim, .. } => write_large(claim, file),
     }
 }
@@ -27,6 +29,7 @@ pub(crate) fn write_certificate<W: Write, C: Write>(
     certificate: &mut Option<C>,
     out: &mut W,
 ) -> Result<(), u8>
+    requires { IsCertifiable (is_some certificate.old) outcome.now }
     ensures { WritesCertificate options.now (outcome_said options.now outcome.now) result (W.contents out.old) (W.contents out.new)
         (option_map C.contents certificate.old) (option_map C.contents certificate.new) }
 {

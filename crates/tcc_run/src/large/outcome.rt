@@ -1,20 +1,20 @@
 //! What is said of a snapshot: its first answer, or all its read faults.
-ghost use Rattle.std.specs.Prelude.{◌≡◌, ℕ, IfOk, option_map};
-ghost use Rattle.tcc_reads.specs.History.{History};
-ghost use Rattle.tcc_graph.specs.{Labels.labels_of, Levels.judged, Orders.IsFirstOrder, Ties.IsFirstCycle};
-ghost use Rattle.tcc_answer.specs.declared.answer.Answer.TheVariants as answer;
+ghost use Rattle.std.specs.Prelude.{◌≡◌, ◌↔◌, ℕ, IfOk, IsTrue, option_map};
+ghost use Rattle.tcc_txn.specs.Finished.{KeepsLimits};
+ghost use Rattle.tcc_graph.specs.{Levels.judged, Orders.IsFirstOrder, Ties.IsFirstCycle};
+ghost use Rattle.tcc_answering.specs.Firsts.{IsFirst};
 ghost use Rattle.tcc_print.specs.Saying.{IsTold};
-ghost use Rattle.tcc_run.specs.LargeRuns.{bare_cycle, bare_order};
-ghost use Rattle.tcc_run.specs.private.LargeStages.{IsFoundOf, course, outcome_links, outcome_status};
+ghost use Rattle.tcc_run.specs.private.LargeStages.{IsBareOf, IsCertifiable, IsFoundOf, course, outcome_links, outcome_status};
 
+use crate::bare::{bare_answer, cycle_answer, order_answer};
 use crate::large::claims::cycle_claim;
 use crate::large::room::has_order_room;
 use std::alloc::Global;
 use std::io::Write;
 use std::thread::Threads;
-use tcc_answer::{Anomaly, Answer, CappedRows, Commit, Labels};
-use tcc_answering::{Answered, First, answer_of, steps_of};
-use tcc_cert::{LargeCertificate, Links, Numbers, Table, order_claim};
+use tcc_answer::{Answer, Labels};
+use tcc_answering::{Answered, First, answer};
+use tcc_cert::{LargeCertificate, order_claim};
 use tcc_explain::Gate;
 use tcc_graph::{LargeGraph, Level, Link};
 use tcc_order::laws::order_or_cycle;
@@ -22,15 +22,20 @@ use tcc_print::printing::{send_answer, send_unresolved};
 use tcc_print::status::answer_status;
 use tcc_print::{Options, RunContext, Statement, Status};
 use tcc_reads::ReadFault;
-use tcc_txn::{LargeSnapshot, NoMemory};
+use tcc_txn::{LargeSnapshot, MAX_SESSIONS, MAX_TRANSACTIONS, NoMemory};
 
 /// What is said of a snapshot.
 #[derive(Drop)]
 pub(crate) enum Outcome {
     /// All its read faults.
     Unresolved(Vec<ReadFault>),
-    /// Within the small limits: its first answer.
-    Small(Answer),
+    /// Within the small limits, where its certificate is wanted: its first answer with the tables of that.
+    Tabled(Answer),
+    /// Within them, where none is wanted: its graph, whose history has the tables, and its first answer without them.
+    Bare {
+        graph: LargeGraph,
+        answer: Answer,
+    },
     /// Past them: its graph, its first answer, without the tables of a small one, and what its certificate claims.
     Large {
         graph: LargeGraph,
@@ -39,39 +44,13 @@ pub(crate) enum Outcome {
     },
 }
 
-/// The order of a large history as an answer without clocks.
-fn order_answer(
-    alloc: Global,
-    graph: &LargeGraph,
-    level: Level,
-    order: Vec<u32>,
-    labels: Labels,
-) -> Answer
-    ensures { labels ≡ labels_of graph.now → result ≡ answer.Commit (bare_order level graph.now order.items) }
+/// Whether a snapshot keeps the small limits.
+fn is_small(snapshot: &LargeSnapshot) -> bool
+    ensures { IsTrue result ↔ KeepsLimits snapshot.now }
 {
-    let sessions = graph.sessions().len() as u32;
-    let clocks = Table::new(Vec::new(alloc));
-    Answer::Commit(Commit::new(level, Numbers::new(order), sessions, clocks, labels))
-}
-
-/// A cycle of a large history as an answer without distances.
-fn cycle_answer(
-    alloc: Global,
-    level: Level,
-    links: Vec<Link>,
-    labels: Labels,
-) -> Result<Answer, NoMemory>
-    ensures { (h : History) → labels ≡ labels_of h → IfOk result (λ a. a ≡ answer.Anomaly (bare_cycle level h links.items)) }
-{
-    let steps = steps_of(&links)?;
-    Ok(Answer::Anomaly(Anomaly::new(
-        level,
-        Links::new(links),
-        steps,
-        CappedRows::empty(alloc),
-        CappedRows::empty(alloc),
-        labels,
-    )))
+    let sessions = snapshot.sessions() as usize;
+    let transactions = snapshot.transactions();
+    sessions <= MAX_SESSIONS && transactions <= MAX_TRANSACTIONS
 }
 
 /// The order to judge by, if it is wanted.
@@ -80,6 +59,19 @@ fn kept_if(is_wanted: bool, order: Option<Vec<u32>>) -> Option<Vec<u32>> {
 }
 
 impl Outcome {
+    /// What is said of a history by its first answer, without a claim.
+    fn of_small(
+        alloc: Global,
+        level: Level,
+        graph: LargeGraph,
+        first: First,
+    ) -> Result<Outcome, NoMemory>
+        ensures { IsFirst (judged graph level) first → IfOk result (IsBareOf level graph) }
+    {
+        let answer = bare_answer(alloc, &graph, level, first)?;
+        Ok(Outcome::Bare { graph, answer })
+    }
+
     /// What is said of a history by its first commit order.
     fn of_order(
         alloc: Global,
@@ -122,31 +114,48 @@ impl Outcome {
         })
     }
 
-    /// What is to be said of a snapshot; a small one is searched by so many workers. Where its certificate isn't wanted, the judge isn't
+    /// What is said of a history by its first answer, with what its certificate claims. That may be judged by an order.
+    fn of_large(
+        alloc: Global,
+        level: Level,
+        graph: LargeGraph,
+        first: First,
+        order: &Option<Vec<u32>>,
+    ) -> Result<Outcome, NoMemory>
+        ensures { IsFirst (judged graph level) first → IfOk result (IsFoundOf level graph) }
+    {
+        match first {
+            First::Order(placed) => Outcome::of_order(alloc, level, graph, placed),
+            First::Cycle(links) => Outcome::of_cycle(alloc, level, graph, links, order),
+        }
+    }
+
+    /// What is to be said of a snapshot. Where its certificate isn't wanted, a small one gets no tables, and of another the judge isn't
     /// asked whether a cycle of more than four steps is a least one.
     pub(crate) fn of<T: Threads + Sync, G: Gate>(
         run: &RunContext<T, G>,
         snapshot: &LargeSnapshot,
         is_certified: bool,
     ) -> Result<Outcome, NoMemory>
-        ensures { IfOk result (IsTold (course run.now.options.now) snapshot.now) }
+        ensures told { IfOk result (IsTold (course run.now.options.now) snapshot.now) }
+        ensures certifiable { IfOk result (IsCertifiable is_certified) }
     {
         let (alloc, level) = (run.alloc, run.options.level);
-        let answered = answer_of(run, snapshot, level)?;
+        let answered = answer(run, snapshot, level, is_certified)?;
         match answered {
             Answered::Unresolved(faults) => Ok(Outcome::Unresolved(faults)),
-            Answered::Small(answer) => Ok(Outcome::Small(answer)),
-            Answered::Large {
+            Answered::Tabled(answer) => Ok(Outcome::Tabled(answer)),
+            Answered::Bare {
                 graph,
                 first,
                 order,
-            } => match first {
-                First::Order(order) => Outcome::of_order(alloc, level, graph, order),
-                First::Cycle(links) => {
-                    let order = kept_if(is_certified, order);
-                    Outcome::of_cycle(alloc, level, graph, links, &order)
+            } => {
+                if is_small(snapshot) {
+                    return Outcome::of_small(alloc, level, graph, first);
                 }
-            },
+                let order = kept_if(is_certified, order);
+                Outcome::of_large(alloc, level, graph, first, &order)
+            }
         }
     }
 
@@ -156,9 +165,9 @@ impl Outcome {
     {
         match self {
             Outcome::Unresolved(_) => Status::ReadFaults,
-            Outcome::Small(answer) | Outcome::Large { answer, .. } => {
-                answer_status(answer, required)
-            }
+            Outcome::Tabled(answer)
+            | Outcome::Bare { answer, .. }
+            | Outcome::Large { answer, .. } => answer_status(answer, required),
         }
     }
 
@@ -167,7 +176,11 @@ impl Outcome {
         ensures { option_map (λ links. links.now) result ≡ outcome_links self.now }
     {
         match self {
-            Outcome::Small(Answer::Anomaly(anomaly))
+            Outcome::Tabled(Answer::Anomaly(anomaly))
+            | Outcome::Bare {
+                answer: Answer::Anomaly(anomaly),
+                ..
+            }
             | Outcome::Large {
                 answer: Answer::Anomaly(anomaly),
                 ..
@@ -180,7 +193,11 @@ impl Outcome {
     pub(crate) fn into_answer(self) -> Option<Answer> {
         match self {
             Outcome::Unresolved(_) => None,
-            Outcome::Small(answer) => Some(answer),
+            Outcome::Tabled(answer) => Some(answer),
+            Outcome::Bare { graph, answer } => {
+                drop(graph);
+                Some(answer)
+            }
             Outcome::Large { graph, answer, .. } => {
                 drop(graph);
                 Some(answer)
@@ -199,9 +216,9 @@ impl Statement for Outcome {
         let json = options.json;
         match self {
             Outcome::Unresolved(faults) => send_unresolved(alloc, faults, json, out),
-            Outcome::Small(answer) | Outcome::Large { answer, .. } => {
-                send_answer(alloc, answer, json, out)
-            }
+            Outcome::Tabled(answer)
+            | Outcome::Bare { answer, .. }
+            | Outcome::Large { answer, .. } => send_answer(alloc, answer, json, out),
         }
     }
 

@@ -1,10 +1,10 @@
 //! From the bytes of records to their answers with `--large`: at each seal, and at the end.
-ghost use Rattle.std.specs.Prelude.{◌≡◌, ℕ, List, [], None, Some, IfErr, IfOk, IfSome, MatchResult, OnOk, option_map};
+ghost use Rattle.std.specs.Prelude.{◌≡◌, ℕ, List, [], None, Some, IfErr, IfOk, IfSome, MatchResult, OnOk, is_some, option_map};
 ghost use Rattle.tcc_rows.specs.{Ahead.fault_met, Answers.Answers, Answers.answers_to, Lines.Record, Reached.IsWithin, declared.rows.Item.Item};
 ghost use Rattle.tcc_rows.specs.Recordings.{FailsBehind, IsRecording, TakesMoment, after_items};
 ghost use Rattle.tcc_txn.specs.declared.limits.Limits.TheVariants.{Large};
 ghost use Rattle.tcc_run.specs.LargeRuns.{IsLargeRun, answers_of, finished, records_of};
-ghost use Rattle.tcc_run.specs.private.LargeStages.{Concludes, IsOutcome, SendsSlice, WritesFiles, WritesSlice, course, outcome_links, outcome_said};
+ghost use Rattle.tcc_run.specs.private.LargeStages.{Concludes, IsCertifiable, IsOutcome, SendsSlice, WritesFiles, WritesSlice, course, outcome_links, outcome_said};
 ghost use Rattle.tcc_print.specs.{Saying.IsTold, Saying.SaysAt, private.Courses.AllAnswered, private.Courses.EndsEarly};
 
 use crate::large::certifying::write_certificate;
@@ -29,7 +29,8 @@ pub(crate) fn decide<T: Threads + Sync, G: Watcher>(
     snapshot: &LargeSnapshot,
     is_certified: bool,
 ) -> Result<Outcome, NoMemory>
-    ensures { IfOk result (IsTold (course run.now.options.now) snapshot.now) }
+    ensures told { IfOk result (IsTold (course run.now.options.now) snapshot.now) }
+    ensures certifiable { IfOk result (IsCertifiable is_certified) }
 {
     run.gate.begin(Stage::Deciding);
     let decided = Outcome::of(run, snapshot, is_certified);
@@ -48,7 +49,9 @@ fn say<T: Threads + Sync, W: Write, N: Write, G: Watcher>(
     out: &mut W,
     notes: &mut N,
 ) -> Result<Last<Outcome>, u8>
-    ensures { SaysAt (course run.now.options.now) moment snapshot.now last (W.contents out.old) (W.contents out.new) result }
+    requires { IfSome last (λ last. IsCertifiable is_certified last.outcome) }
+    ensures certifiable { IfOk result (λ last. IsCertifiable is_certified last.outcome) }
+    ensures said { SaysAt (course run.now.options.now) moment snapshot.now last (W.contents out.old) (W.contents out.new) result }
 {
     match again(last, snapshot.transactions()) {
         Ok(last) => say_again(run, moment, snapshot, last, out, notes),
@@ -91,6 +94,7 @@ fn answer_all<R: Read + Drop, T: Threads + Sync, W: Write, N: Write, G: Watcher>
     out: &mut W,
     notes: &mut N,
 ) -> Result<Last<Outcome>, u8>
+    ensures certifiable { IfOk result (λ last. IsCertifiable is_certified last.outcome) }
     ensures answers { (bytes : List ℕ) → IsRecording Large R.remaining recording.old [] (answers_of bytes) → IsWithin R.remaining recording.old.rows (records_of bytes)
         → fault_met recording.old.rows ≡ None
         → MatchResult result (AllAnswered (course run.now.options.now) bytes (W.contents out.old) (W.contents out.new))
@@ -186,6 +190,7 @@ fn write_files<T, W: Write, C: Write, S: Write, N: Write, G: Watcher>(
     out: &mut W,
     notes: &mut N,
 ) -> Result<(), u8>
+    requires { IsCertifiable (is_some certificate.old) outcome.now }
     ensures { IsOutcome run.now.options.now.level snapshot.now outcome.now
         → WritesFiles run.now.options.now snapshot.now (outcome_said run.now.options.now outcome.now) result (W.contents out.old) (W.contents out.new)
         (record { certificate = option_map C.contents certificate.old; slice = option_map S.contents slice.old })
@@ -206,6 +211,7 @@ fn conclude<T, W: Write, C: Write, S: Write, N: Write, G: Watcher>(
     out: &mut W,
     notes: &mut N,
 ) -> u8
+    requires { IsCertifiable (is_some certificate.old) last.outcome }
     ensures { IsOutcome run.now.options.now.level snapshot.now last.outcome
         → Concludes run.now.options.now snapshot.now (outcome_said run.now.options.now last.outcome) (W.contents out.old) (W.contents out.new)
         (record { certificate = option_map C.contents certificate.old; slice = option_map S.contents slice.old })

@@ -75,8 +75,8 @@ fn text_anew(
     text_of(alloc, snapshot, &graph, level, links)
 }
 
-/// The records of the slice of a snapshot by the links of what was said of it: cut from the graph that was decided of, past the
-/// small limits.
+/// The records of the slice of a snapshot by the links of what was said of it: cut from the graph that was decided of, where it is
+/// there.
 pub(crate) fn slice_text(
     alloc: Global,
     snapshot: &LargeSnapshot,
@@ -88,7 +88,8 @@ pub(crate) fn slice_text(
         → IfOk result (λ made. IsSliceMade level snapshot.now links.now (option_map (λ text. text.items) made)) }
 {
     match outcome {
+        Outcome::Bare { graph, .. } => text_of(alloc, snapshot, graph, level, links),
         Outcome::Large { graph, .. } => text_of(alloc, snapshot, graph, level, links),
-        Outcome::Small(_) | Outcome::Unresolved(_) => text_anew(alloc, snapshot, level, links),
+        Outcome::Tabled(_) | Outcome::Unresolved(_) => text_anew(alloc, snapshot, level, links),
     }
 }

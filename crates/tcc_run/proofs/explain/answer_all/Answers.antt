@@ -14,6 +14,7 @@ moments-init g c = record {
       (g.W.Write.contents c.args.out.now) recording;
   within = λ records within. within;
   earlier = tt;
+  certifiable = tt;
   going = λ none. none;
 }
 
@@ -23,29 +24,30 @@ moments-preserved g c = record {
       c.snapshot.result.now c.snapshot.ensures.finished _ c.in-Seal.is c.in_ok-said-in-Ok.said c.in_ok-said-in-Ok.ensures.said;
   within = λ records within. c.in-Ok.ensures.within records (c.moments.invariant.within records within);
   earlier = subst (λ s. Follows c.args.run.now.options.now.level s c.in_ok-said-in-Ok.said) c.snapshot.ensures.value c.in_ok-said-in-Ok.ensures.earlier;
+  certifiable = c.in_ok-said-in-Ok.ensures.certifiable;
   going = λ none. c.in-Ok.ensures.goes_on;
 }
 
-pub returns-in_err-said-in-Ok : goal.returns-in_err-said-in-Ok
-returns-in_err-said-in-Ok g c text recording within fresh =
+pub returns-in_err-said-in-Ok-clause-answers : goal.returns-in_err-said-in-Ok-clause-answers
+returns-in_err-said-in-Ok-clause-answers g c text recording within fresh =
     ends-there (c.moments.invariant.way text recording) c.advance.new.self c.in-Ok.moment c.in-Ok.ensures.moment
     c.snapshot.result.now c.snapshot.ensures.finished _ c.from_residual.result c.in_err-said-in-Ok.field-0.0 c.from_residual.ensures.1
     c.in_err-said-in-Ok.ensures.said
 
-pub returns-in-End : goal.returns-in-End
-returns-in-End g c text recording within fresh =
+pub returns-in-End-clause-answers : goal.returns-in-End-clause-answers
+returns-in-End-clause-answers g c text recording within fresh =
     has-ended (c.moments.invariant.way text recording) c.advance.new.self c.in-Ok.moment c.in-Ok.ensures.moment
     c.snapshot.result.now c.snapshot.ensures.finished _ c.in-End.is c.in_ok-said-in-Ok.said c.in_ok-said-in-Ok.ensures.said
 
-pub returns-in-Err : goal.returns-in-Err
-returns-in-Err g c text recording within fresh =
+pub returns-in-Err-clause-answers : goal.returns-in-Err-clause-answers
+returns-in-Err-clause-answers g c text recording within fresh =
     ends-fault g.R.Read.remaining (course c.args.run.now.options.now) text
     c.moments.recording c.advance.new.self _ _ c.moments.last (c.moments.invariant.way text recording)
     c.in-Err.fault _ c.stop.result c.in-Err.ensures.moment (c.moments.invariant.within (records_of text) within)
     (c.in-Err.ensures.failed (c.moments.invariant.going fresh)) c.stop.ensures.printed
 
-pub returns : goal.returns
-returns g c text recording within fresh =
+pub returns-clause-answers : goal.returns-clause-answers
+returns-clause-answers g c text recording within fresh =
     wants_memory g.R.Read.remaining (course c.args.run.now.options.now) text
     c.moments.recording c.moments.recording _ _ c.moments.last (c.moments.invariant.way text recording) _
     c.print_endless.result c.print_endless.ensures

@@ -1,5 +1,5 @@
--- the snapshots at the seals so far were answered, the other items are ahead, and an anomaly that was answered is one of a
--- snapshot that went on
+-- the snapshots at the seals so far were answered, the other items are ahead, an anomaly that was answered is one of a snapshot that
+-- went on, and what was said last has its tables, where a certificate is wanted
 use Rattle.std.proofs.Common.{◌≡◌, ℕ, List, [], None}
 use Rattle.std.specs.Prelude.{IfSome}
 use Rattle.tcc_rows.specs.Ahead.{fault_met}
@@ -9,7 +9,7 @@ use Rattle.tcc_rows.specs.Reached.{IsWithin}
 use Rattle.tcc_rows.specs.Recordings.{IsRecording}
 use Rattle.tcc_txn.specs.declared.limits.Limits.TheVariants.{Small}
 use Rattle.tcc_print.proofs.Courses.{HasAnswered}
-use Rattle.tcc_run.specs.private.Stages.{Follows, course}
+use Rattle.tcc_run.specs.private.Stages.{Follows, IsCertifiable, course}
 use Rattle.tcc_run.proofs.explain.answer_all.Given as goal
 
 abbrev pub invariant-moments : goal.invariant-moments
@@ -18,5 +18,6 @@ invariant-moments g l = record {
       → HasAnswered g.R.Read.remaining (course l.run.options.now) text l.recording (g.W.Write.contents l.initial.out) (g.W.Write.contents l.out) l.last;
   within : (records : List Record) → IsWithin g.R.Read.remaining l.initial.recording.rows records → IsWithin g.R.Read.remaining l.recording.rows records;
   earlier : IfSome l.last (Follows l.run.options.now.level l.recording.snapshot);
+  certifiable : IfSome l.last (λ last. IsCertifiable l.is_certified last.outcome);
   going : fault_met l.initial.recording.rows ≡ None → fault_met l.recording.rows ≡ None;
 }

@@ -3,4 +3,4 @@ use Rattle.tcc_run.proofs.large.explained.explain_large_snapshot.Goals as goal
 
 pub returns : goal.returns
 returns g c =
-    (outcome_said c.args.run.now.options.now c.in_ok-outcome.outcome, c.in_ok-outcome.ensures.0, c.in_ok-text_of.ensures, c.status.ensures)
+    (outcome_said c.args.run.now.options.now c.in_ok-outcome.outcome, c.in_ok-outcome.ensures.told.0, c.in_ok-text_of.ensures, c.status.ensures)

@@ -10,14 +10,16 @@ moments-init g c = record {
   way = λ text recording. none-answered g.R.Read.remaining (course c.args.run.now.options.now) text c.args.recording.now
       (g.W.Write.contents c.args.out.now) recording;
   within = λ records within. within;
+  certifiable = tt;
   going = λ none. none;
 }
 
 pub moments-preserved : goal.moments-preserved
 moments-preserved g c = record {
   way = λ text recording. goes-on (c.moments.invariant.way text recording) c.read_on.new.recording c.in-Ok.moment c.in-Ok.ensures.moment
-      c.snapshot.result.now c.snapshot.ensures.finished _ c.in-Seal.is c.in_ok-said-in-Ok.said c.in_ok-said-in-Ok.ensures;
+      c.snapshot.result.now c.snapshot.ensures.finished _ c.in-Seal.is c.in_ok-said-in-Ok.said c.in_ok-said-in-Ok.ensures.said;
   within = λ records within. c.in-Ok.ensures.within records (c.moments.invariant.within records within);
+  certifiable = c.in_ok-said-in-Ok.ensures.certifiable;
   going = λ none. c.in-Ok.ensures.goes_on;
 }
 
@@ -25,12 +27,12 @@ pub returns-in_err-said-in-Ok-clause-answers : goal.returns-in_err-said-in-Ok-cl
 returns-in_err-said-in-Ok-clause-answers g c text recording within fresh =
     ends-there (c.moments.invariant.way text recording) c.read_on.new.recording c.in-Ok.moment c.in-Ok.ensures.moment
     c.snapshot.result.now c.snapshot.ensures.finished _ c.from_residual.result c.in_err-said-in-Ok.field-0.0 c.from_residual.ensures.1
-    c.in_err-said-in-Ok.ensures
+    c.in_err-said-in-Ok.ensures.said
 
 pub returns-in-End-clause-answers : goal.returns-in-End-clause-answers
 returns-in-End-clause-answers g c text recording within fresh =
     has-ended (c.moments.invariant.way text recording) c.read_on.new.recording c.in-Ok.moment c.in-Ok.ensures.moment
-    c.snapshot.result.now c.snapshot.ensures.finished _ c.in-End.is c.in_ok-said-in-Ok.said c.in_ok-said-in-Ok.ensures
+    c.snapshot.result.now c.snapshot.ensures.finished _ c.in-End.is c.in_ok-said-in-Ok.said c.in_ok-said-in-Ok.ensures.said
 
 pub returns-in-End-clause-finished : goal.returns-in-End-clause-finished
 returns-in-End-clause-finished g c text recording =

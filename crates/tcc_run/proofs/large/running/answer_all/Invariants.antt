@@ -1,5 +1,7 @@
--- the snapshots at the seals so far were answered, and the other items are ahead
+-- the snapshots at the seals so far were answered, the other items are ahead, and what was said last has its tables, where a
+-- certificate is wanted
 use Rattle.std.proofs.Common.{◌≡◌, ℕ, List, [], None}
+use Rattle.std.specs.Prelude.{IfSome}
 use Rattle.tcc_rows.specs.Ahead.{fault_met}
 use Rattle.tcc_rows.specs.Lines.{Record}
 use Rattle.tcc_rows.specs.Reached.{IsWithin}
@@ -7,7 +9,7 @@ use Rattle.tcc_rows.specs.Recordings.{IsRecording}
 use Rattle.tcc_txn.specs.declared.limits.Limits.TheVariants.{Large}
 use Rattle.tcc_run.specs.LargeRuns.{answers_of}
 use Rattle.tcc_print.proofs.Courses.{HasAnswered}
-use Rattle.tcc_run.specs.private.LargeStages.{course}
+use Rattle.tcc_run.specs.private.LargeStages.{IsCertifiable, course}
 use Rattle.tcc_run.proofs.large.running.answer_all.Given as goal
 
 abbrev pub invariant-moments : goal.invariant-moments
@@ -15,5 +17,6 @@ invariant-moments g l = record {
   way : (text : List ℕ) → IsRecording Large g.R.Read.remaining l.initial.recording [] (answers_of text)
       → HasAnswered g.R.Read.remaining (course l.run.options.now) text l.recording (g.W.Write.contents l.initial.out) (g.W.Write.contents l.out) l.last;
   within : (records : List Record) → IsWithin g.R.Read.remaining l.initial.recording.rows records → IsWithin g.R.Read.remaining l.recording.rows records;
+  certifiable : IfSome l.last (λ last. IsCertifiable l.is_certified last.outcome);
   going : fault_met l.initial.recording.rows ≡ None → fault_met l.recording.rows ≡ None;
 }

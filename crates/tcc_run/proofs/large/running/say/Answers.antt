@@ -5,13 +5,13 @@ use Rattle.tcc_print.proofs.Saying.{says_at, says_still}
 use Rattle.tcc_run.specs.private.LargeStages.{course}
 use Rattle.tcc_run.proofs.large.running.say.Goals as goal
 
-pub returns-in-Ok : goal.returns-in-Ok
-returns-in-Ok g c =
+pub returns-in-Ok-clause-said : goal.returns-in-Ok-clause-said
+returns-in-Ok-clause-said g c =
     says_still (course c.args.run.now.options.now) c.args.moment c.args.snapshot.now c.args.last c.in-Ok.last _ _ c.say_again.result c.in-Ok.ensures.0
     (c.say_again.ensures.said (c.in-Ok.ensures.1 ∙ c.transactions.ensures.value))
 
-pub returns-in-Err : goal.returns-in-Err
-returns-in-Err g c =
+pub returns-in-Err-clause-said : goal.returns-in-Err-clause-said
+returns-in-Err-clause-said g c =
     says_at (course c.args.run.now.options.now) c.args.moment c.args.snapshot.now c.args.last _ _ c.say_anew.result
     (subst (λ n. IfSome c.args.last (λ last. last.transactions ≢ n)) c.transactions.ensures.value c.in-Err.ensures.1)
-    (c.say_anew.ensures.said c.decide-decided.ensures)
+    (c.say_anew.ensures.said c.decide-decided.ensures.told)

@@ -3,10 +3,10 @@ use Rattle.tcc_reads.specs.Refusals.{IsRefusal}
 use Rattle.tcc_run.specs.declared.outcome.Outcome.TheVariants as outcome
 use Rattle.tcc_run.proofs.Earlier.{own_earlier}
 use Rattle.tcc_run.proofs.Runs.{told}
-use Rattle.tcc_run.proofs.outcome.Outcome.of.Goals as goal
+use Rattle.tcc_run.proofs.outcome.tabled.Goals as goal
 
 pub returns-in-Ok-clause-told : goal.returns-in-Ok-clause-told
-returns-in-Ok-clause-told g c = told c.args.run.now.options.now c.args.snapshot.now (outcome.Answered c.in-Ok.answer) c.in-Ok.ensures
+returns-in-Ok-clause-told g c = told c.args.run.now.options.now c.args.snapshot.now (outcome.Tabled c.in-Ok.answer) c.in-Ok.ensures
 
 pub returns-in-Ok-clause-earlier : goal.returns-in-Ok-clause-earlier
 returns-in-Ok-clause-earlier g c = own_earlier c.args.run.now.options.now.level c.args.snapshot.now c.in-Ok.answer c.in-Ok.ensures.0 c.in-Ok.ensures.1
