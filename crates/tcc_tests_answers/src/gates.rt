@@ -108,34 +108,47 @@ fn histories_that_go_on(rt: HostRuntime) {
     }
 }
 
-/// And by a run.
+/// A run by two workers, which answers as the history has it.
+fn run(rt: &(impl Threads + Abort + Sync), alloc: Global, file: Option<Vec<u8>>, gate: &Holding) {
+    let options = Options {
+        level: Level::Causal,
+        workers: workers_of(rt, 2),
+        json: false,
+        required: 0,
+    };
+    let mut file = file;
+    let mut out = Vec::new(alloc);
+    let code = run_explain(
+        rt,
+        alloc,
+        TWICE.as_bytes(),
+        &mut out,
+        &mut file,
+        &mut io::sink(),
+        options,
+        gate,
+    );
+    assert_eq!(rt; code, 1);
+    assert_eq!(rt; out.as_slice(), OWN_TEXT.as_bytes());
+}
+
+/// And by a run whose certificate is wanted.
 #[test]
 fn runs(rt: HostRuntime) {
     let alloc = rt.alloc();
     for until in [2, STARTS] {
-        let options = Options {
-            level: Level::Causal,
-            workers: workers_of(&rt, 2),
-            json: false,
-            required: 0,
-        };
         let gate = Holding::new(until);
-        let mut out = Vec::new(alloc);
-        let mut file: Option<Vec<u8>> = None;
-        let code = run_explain(
-            &rt,
-            alloc,
-            TWICE.as_bytes(),
-            &mut out,
-            &mut file,
-            &mut io::sink(),
-            options,
-            &gate,
-        );
-        assert_eq!(&rt; code, 1);
-        assert_eq!(&rt; out.as_slice(), OWN_TEXT.as_bytes());
+        run(&rt, alloc, Some(Vec::new(alloc)), &gate);
         gate.assert_met(&rt);
     }
+}
+
+/// Where none is wanted, nobody searches.
+#[test]
+fn runs_without_a_certificate(rt: HostRuntime) {
+    let gate = Holding::new(2);
+    run(&rt, rt.alloc(), None, &gate);
+    assert_eq!(&rt; gate.entered.load(Ordering::SeqCst), 0);
 }
 
 /// The answer for a book with the same history.
