@@ -1,9 +1,10 @@
-//! Distances, prices and reasons, orders, decisions of large histories, seeds and single searches, the bound, and the machine of
-//! all interleavings.
+//! Distances, prices and reasons, orders, decisions of large histories and what their finder finds, seeds and single searches, the
+//! bound, and the machine of all interleavings.
 mod bound;
 mod core_seeds;
 mod core_steps;
 mod derive;
+mod finder;
 mod histories;
 mod large;
 mod near;
