@@ -160,6 +160,23 @@ def walked(links: int, sessions: int) -> Transactions:
         yield "c", ["r,x%d,%d" % (n, (n + 1) % links + 1)]
 
 
+def windowed(writes: int, steps: int, empty: int) -> Transactions:
+    """The first and the last of many transactions of session a write x, and z, who observed the last by a chain of sessions, reads the first
+    value. So the one least cycle has so many steps, and its link back leads over all that is between the two. Beside them there are empty
+    sessions."""
+    for n in range(empty):
+        yield "e%d" % n, []
+    yield "a", ["w,x,1"]
+    for _ in range(writes - 2):
+        yield "a", []
+    yield "a", ["w,x,2", "w,p0,1"]
+    # a pair of session a, a read by each of the chain and by z, and the read of x
+    chain = steps - 3
+    for n in range(chain):
+        yield "c%d" % n, ["r,p%d,1" % n, "w,p%d,1" % (n + 1)]
+    yield "z", ["r,p%d,1" % chain, "r,x,1"]
+
+
 def stale_beside(stale: int, keys: int, empty: int) -> Transactions:
     """Session a reads old values of some keys that it overwrote; each transaction that it read from has many other keys, which b
     reads after many empty transactions."""
@@ -281,6 +298,7 @@ def hard() -> Iterator[Hard]:
     yield Hard("gathered", large, records_of(gathered(4000, 30000)), "consistent: 64016 transactions, 4002 sessions\n")
     yield Hard("gathered, one stale", large, records_of(gathered(4000, 15000, again=1)), "anomaly: 4 steps, overwritten-read\n")
     yield Hard("ring", large, records_of(ring(1000, 64, 20000)), "anomaly: 3003 steps, ")
+    yield Hard("windowed", large, records_of(windowed(4000, 60, 62)), "anomaly: 60 steps, overwritten-read\n")
     yield Hard("stale beside", large, records_of(stale_beside(64, 255, 40000)), "anomaly: 3 steps, ")
     yield Hard("circling", large, records_of(circling(4095, 100)), "anomaly: 2 steps, cyclic-causality\n")
     yield Hard("circling at atomic", small, records_of(circling(4095, 100)), "anomaly: 2 steps, cyclic-causality\n")
@@ -292,6 +310,8 @@ def hard() -> Iterator[Hard]:
     yield Hard("surveyed: a session each", survey, records_of(each_its_own(60000)), "0 contradicted reads of 59999, 0 faults\n")
     yield Hard("surveyed: known by a chain", survey, records_of(known_by_chain(40000, 40000)),
                "contradicted c/2 op 1 x 1: knew of b/1, causal chain\n")
+    yield Hard("surveyed: known by a chain, small", ["survey"], records_of(known_by_chain(2040, 2040)),
+               "contradicted c/2 op 1 x 1: knew of b/1, causal chain\n")
     yield Hard("a session each", large, records_of(each_its_own(60000)), "consistent: 60000 transactions, 60000 sessions\n")
 
 
@@ -299,6 +319,7 @@ def hard_to_check() -> Iterator[Tuple[str, str]]:
     """Histories whose answers are hard to check, by their names."""
     yield "a session each", records_of(each_its_own(60000))
     yield "written by many", records_of(written_by_many(4000, 8000))
+    yield "long walks", records_of(walked(260, 260))
 
 
 def claims(size: int) -> Iterator[Claimed]:

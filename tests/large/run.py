@@ -3,7 +3,7 @@
 gives one, of at least as many steps. It has as many where the answer calls it a least one, which it has to be up to four steps, and
 wherever a least one has three at most.
 
-    run.py [--tcc PATH] [--stages PATH] [--kinds KIND ..] [--sizes N ..]
+    run.py [--tcc PATH] [--stages PATH] [--kinds KIND ..] [--sizes N ..] [--count N] [--seed N]
 
 The histories are those of bench/histories.py, by default of 255 and 1,023 transactions, each at both levels. `tcc_bench_stages` decides
 them as large ones (`large-answer`). The line before the last says of how many anomalies the cycle found has as few steps
@@ -12,17 +12,24 @@ as the least: of those sizes it has to be all, of others it may be fewer.
 `tcc explain --large` is given each history with an anomaly too, with so many sessions more that it is a large one. They neither read
 nor write, so it has to say the same, link for link.
 
+So it has to of random histories of two to eight sessions, beside 65 sessions whose transactions were aborted. What it prints has to be
+the same, byte for byte, but for the count of sessions. Enough of these histories have to be anomalies, and some of them of five steps
+or more.
+
 Each difference is one line; the last line is `N passed, M failed`.
 """
 import argparse
 import json
 import pathlib
+import random
 import subprocess
 import sys
 import tempfile
 
 TOP = pathlib.Path(__file__).resolve().parent.parent.parent
-sys.path.insert(0, str(TOP / "bench"))
+sys.path[:0] = [str(TOP / "bench"), str(TOP / "tests")]
+import drawn  # noqa: E402
+from compared import first_difference  # noqa: E402
 from histories import KINDS, text_of  # noqa: E402
 
 LEVELS = ("causal", "atomic")
@@ -32,6 +39,10 @@ LEAST_SIZES = (255, 1023)
 # So many sessions are past the small limits, whatever others there are. Up to so many steps what is decided is the first anomaly.
 MORE_SESSIONS = 65
 FIRST_STEPS = 3
+# So many random histories take some 20 seconds. Each is judged at both levels: of these answers one part has to be anomalies, and
+# another part anomalies of at least so many steps.
+COUNT = 2000
+ANOMALIES, DEAR, DEAR_STEPS = 0.5, 0.01, 5
 
 
 def printed(words, history):
@@ -60,9 +71,44 @@ def small_answer(tcc, history, level):
     return "cycle", answer["steps"], text
 
 
-def with_more_sessions(records):
+def with_more_sessions(records, end="commit"):
     """The same records, and after them those of sessions that neither read nor write."""
-    return records + "".join("zzz%02d,begin\nzzz%02d,commit\n" % (number, number) for number in range(MORE_SESSIONS))
+    return records + "".join("zzz%02d,begin\nzzz%02d,%s\n" % (number, number, end) for number in range(MORE_SESSIONS))
+
+
+def answered(tcc, words, level, records):
+    """The status and what `tcc explain` prints as JSON for these records."""
+    run = subprocess.run([tcc, "explain", "--json", "--level", level, *words], input=records.encode(), stdout=subprocess.PIPE, timeout=SECONDS)
+    return run.returncode, run.stdout
+
+
+def random_differences(tcc, count, seed):
+    """Of random histories, each at both levels: the name, the steps of an anomaly or 0, and what is wrong or None. Aborted transactions
+    are in no order and in no link, so of a large history only the count of sessions differs."""
+    dice = random.Random(seed)
+    for number in range(count):
+        draw = (drawn.history_of, drawn.late_history)[number % 2]
+        history = draw(dice, dice.randrange(2, 9), dice.randrange(4, 41))
+        records, sessions = drawn.text_of(history), len({one.session for one in history})
+        for level in LEVELS:
+            status, small = answered(tcc, [], level, records)
+            got, large = answered(tcc, ["--large"], level, with_more_sessions(records, "abort"))
+            wanted = small.replace(b'"sessions":%d,' % sessions, b'"sessions":%d,' % (sessions + MORE_SESSIONS))
+            wrong = first_difference("answer", wanted, large) or (None if status == got else "status %d, and %d as a large one" % (status, got))
+            steps = json.loads(small)["steps"] if status == 1 else 0
+            yield "random history %d at %s" % (number, level), steps, wrong if status in (0, 1) else "status %d" % status
+
+
+def random_outcomes(tcc, count, seed):
+    """The same by name, with what is wrong or None. After all comes whether there were enough anomalies among them."""
+    found = []
+    for name, steps, wrong in random_differences(tcc, count, seed):
+        found.append(steps)
+        yield name, wrong
+    anomalies, dear = sum(steps > 0 for steps in found), sum(steps >= DEAR_STEPS for steps in found)
+    enough = anomalies >= int(ANOMALIES * len(found)) and dear >= int(DEAR * len(found))
+    few = "%d anomalies in %d answers, %d of them of %d steps or more" % (anomalies, len(found), dear, DEAR_STEPS)
+    yield "random histories", None if enough else few
 
 
 def large_answer(stages, history, level):
@@ -94,6 +140,8 @@ def main():
     ask.add_argument("--stages", default=str(TOP / "crates/tcc_bench_stages/out/tcc_bench_stages"), help="the same of its stages")
     ask.add_argument("--kinds", nargs="+", choices=list(KINDS), default=list(KINDS), metavar="KIND", help="these alone")
     ask.add_argument("--sizes", nargs="+", type=int, default=list(LEAST_SIZES), metavar="N", help="so many transactions")
+    ask.add_argument("--count", type=int, default=COUNT, metavar="N", help="so many random histories")
+    ask.add_argument("--seed", type=int, default=1, metavar="N", help="of these")
     asked = ask.parse_args()
     passed = failed = anomalies = least = firsts = 0
     with tempfile.TemporaryDirectory() as folder:
@@ -120,6 +168,10 @@ def main():
                     passed, failed = passed + (not wrong), failed + bool(wrong)
                     if wrong:
                         print("%s-%d at %s: %s" % (kind, size, level, wrong))
+    for name, wrong in random_outcomes(asked.tcc, asked.count, asked.seed):
+        passed, failed = passed + (not wrong), failed + bool(wrong)
+        if wrong:
+            print("%s: %s" % (name, wrong))
     print("%d of %d anomalies have as few steps as the least, %d are the first in a large history too" % (least, anomalies, firsts))
     print("%d passed, %d failed" % (passed, failed))
     return 1 if failed else 0

@@ -34,6 +34,13 @@ BEGUN = 1 << 20  # bytes: a program that has read so many is at its work
 TURN, BETWEEN = 0.3, 0.05  # seconds: a run shows what it does after a quarter of one
 LINE = re.compile(rb"(reading records|reading the certificate|tracing reads|deciding|surveying|cutting a slice|judging)(?:, (\d+) %)?, (\d+) s\r")
 ONE = b"a,begin\na,w,x,1\na,commit\n"
+STALE = ONE + b"a,begin\na,r,x,0\na,commit\n"
+STALE_READ = b"""anomaly: 3 steps, stale-initial-read
+session init -> a/1
+derived a/1 -> init by x, read by a/2
+  session a/1 -> a/2
+  against init -> a/2 by x
+"""
 CONSISTENT = b"consistent: 1 transactions, 1 sessions\norder: init a/1\n"
 NOTHING_FOUND = b"0 contradicted reads of 0, 0 faults\nno read is contradicted, which is no answer: ask tcc explain\n"
 
@@ -193,6 +200,19 @@ def surveyed(words):
     return first_difference("screen", NOTHING_FOUND, screen_after(text))
 
 
+def sliced(words):
+    """What is wrong where there are many records to cut a slice from, or None: that this is shown. The records are within the small
+    limits, and a million of their operations are of no use to the anomaly."""
+    with tempfile.TemporaryDirectory() as made:
+        history, piece = pathlib.Path(made) / "history", pathlib.Path(made) / "piece"
+        history.write_bytes((b"b,begin\n" + 256 * b"b,r,k,0\n" + b"b,commit\n") * 4000 + STALE)
+        text, status = held_up([*words, "--slice", piece, history])
+        kept = piece.read_bytes()
+    if status != 1 or "cutting a slice" not in stages_in(text):
+        return "status %d, shown %s" % (status, shown(text))
+    return first_difference("screen", STALE_READ, screen_after(text)) or first_difference("slice", STALE, kept)
+
+
 def shared(sessions, rounds, keys):
     """Records of a history in which each session writes keys that others write and read: so each block of sessions has writers that may
     contradict a read, though none does. Before them there are aborted transactions, which take a while to read."""
@@ -335,6 +355,7 @@ def outcomes(tcc):
     yield "a long run at no terminal", elsewhere(words)
     yield "a long run of typed records", typed(words)
     yield "a long decision", decided(words)
+    yield "a long cutting of a slice", sliced(words)
     survey = [tcc, "survey", "--large"]
     yield "a long reading of a survey", wrong_with(survey, [b"", ONE], 0, NOTHING_FOUND, reading)
     yield "a long survey", surveyed(survey)

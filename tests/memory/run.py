@@ -73,7 +73,8 @@ EXAMPLES = TOP / "examples"
 STALE, FORK = EXAMPLES / "stale-read.csv", EXAMPLES / "long-fork.csv"
 STALE_CERTIFICATE = EXAMPLES / "stale-read.certificate"
 FORK_ORDER = b"consistent: 4 transactions, 4 sessions\norder: init a/1 b/1 c/1 d/1\n"
-SEALED_ORDER = b"consistent: 2 transactions, 1 sessions\norder: init a/1 a/2\n"
+SEALED_FIRST = b"consistent: 2 transactions, 1 sessions\n"
+SEALED_ORDER = SEALED_FIRST + b"order: init a/1 a/2\n"
 SEALED_CYCLE = b"""anomaly: 4 steps, stale-initial-read
 session init -> a/1
 derived a/1 -> init by x, read by b/1
@@ -100,8 +101,45 @@ end
 """
 LARGE_ORDER = b"tcc-certificate 3 causal\norder 5 4 4\n0 1\n1 1\n2 1\n3 1\nend\n"
 LARGE_CYCLE = b"tcc-certificate 3 causal\ncycle 3 2 3\nS 0 1\nD 1 0 x 2 1\nS 1 2\nleast 0\nend\n"
-# More sessions than a small history has, all but one of aborted transactions alone.
-PAST = STALE.read_bytes() + b"".join(b"s%d,begin\ns%d,abort\n" % (number, number) for number in range(64))
+# More sessions than a small history has, all but a few of aborted transactions alone.
+ABORTED = b"".join(b"s%d,begin\ns%d,abort\n" % (number, number) for number in range(64))
+PAST = STALE.read_bytes() + ABORTED
+# A stale read that is known by a walk of three steps, in so many sessions.
+FIVE = b"""a,begin
+a,w,x,1
+a,commit
+b,begin
+b,r,x,1
+b,w,y,1
+b,commit
+c,begin
+c,r,y,1
+c,commit
+c,begin
+c,r,x,0
+c,commit
+""" + ABORTED
+FIVE_STEPS = b"""anomaly: 5 steps, stale-initial-read
+session init -> a/1
+derived a/1 -> init by x, read by c/2
+  reads a/1 -> b/1 by x
+  reads b/1 -> c/1 by y
+  session c/1 -> c/2
+  against init -> c/2 by x
+"""
+FIVE_CERTIFICATE = b"""tcc-certificate 3 causal
+cycle 5 2 5
+S 0 1
+D 1 0 x 4 3
+R 1 2 x
+R 2 3 y
+S 3 4
+least 3
+0 1
+1 1
+2 2
+end
+"""
 SURVEYED = [b"contradicted a/2 op 1 x 0: knew of a/1, read your writes\n", b"read your writes: 1\n", b"1 contradicted reads of 1, 0 faults\n"]
 SURVEYED_FAULTS = [b"unresolved: 2 faults\nAborted b/1 op 1 x 1\nThinAir b/1 op 2 z 7\n", b"0 contradicted reads of 0, 2 faults\n"]
 SURVEYED_JSON = [b'{"contradicted":"a/2","key":"x","name":"read your writes","op":1,"value":0,"writer":"a/1"}\n',
@@ -131,7 +169,7 @@ FULL_FAULTS = b'{"answer":"unresolved","faults":[\
 FULL_ROW = b'{"answer":"none","fault":{"answer":"row","kind":"UnknownWord","row":1},"large":LARGE,"level":"causal","limits":LIMITS,\
 "status":3,"version":"0.1.0"}'
 FILES = {"certificate": FORK_CERTIFICATE, "two-stale-reads": TWO_STALE_READS, "large-order": LARGE_ORDER, "large-cycle": LARGE_CYCLE,
-         "past": PAST}
+         "past": PAST, "five": FIVE, "five-certificate": FIVE_CERTIFICATE}
 # The file of standard input, or none; the words after `tcc`, the answers, and the status. `@NAME` is one of these files.
 ANSWERS = [
     (STALE, ["explain"], STALE_READ, 1),
@@ -158,6 +196,12 @@ ANSWERS = [
     (None, ["check", "--large", FORK, "@large-cycle"], b"rejected: rule 1 at 0 0\n", 7),
     # after the answer its certificate takes memory, in whose place the line may come
     ("@past", ["explain", "--large", "--certificate", "/dev/null"], [STALE_READ, b""], 1),
+    # a least cycle that is looked for among the walks, its slice, its certificate, and the check of that
+    ("@five", ["explain", "--large"], FIVE_STEPS, 1),
+    ("@five", ["explain", "--large", "--slice", "/dev/null"], [FIVE_STEPS, b""], 1),
+    ("@five", ["explain", "--large", "--certificate", "/dev/null"], [FIVE_STEPS, b""], 1),
+    (None, ["check", "--large", "@five", "@five-certificate"], b"accepted: cycle, 5 steps\n", 0),
+    (EXAMPLES / "sealed.csv", ["watch"], [SEALED_FIRST, SEALED_CYCLE], 1),
     (STALE, ["survey"], SURVEYED, 1),
     (EXAMPLES / "aborted-read.csv", ["survey", "--large"], SURVEYED_FAULTS, 2),
     (STALE, ["survey", "--json"], SURVEYED_JSON, 1),
