@@ -47,7 +47,7 @@ HELD = {
     "README.md": ("up to {MAX_SESSIONS} sessions and {MAX_TRANSACTIONS} transactions, or {LARGE_SESSIONS} and 16 million with `--large`",),
     "docs/GUIDE.md": (
         "more than {MAX_SESSIONS} sessions or {MAX_TRANSACTIONS} transactions",
-        "lets N threads search or order, 1 to {MAX_WORKERS}."),
+        "search for a small certificate, 1 to {MAX_WORKERS}."),
     "recipes/README.md": (
         "takes {MAX_SESSIONS} sessions and {MAX_TRANSACTIONS} transactions, aborted ones counted, and `tcc explain --large` "
         "{LARGE_SESSIONS} and {LARGE_TRANSACTIONS}",),
@@ -66,7 +66,7 @@ HELD = {
         "TooManySessions at a {LARGE_SESSIONS+1}th session, TooManyTransactions at transaction {LARGE_TRANSACTIONS+1}, TooManyKeys "
         "at a {LARGE_KEYS+1}th key, TooManySeals at `seal` number {LARGE_SEALS+1}, and Read after {LARGE_INPUT_BYTES} bytes",
         "but a {MAX_SEALS+1}th is TooManySeals"),
-    "docs/tcc.1": ("names: 1 to {MAX_NAME_BYTES} bytes", "N threads, 1 to {MAX_WORKERS}, search"),
+    "docs/tcc.1": ("names: 1 to {MAX_NAME_BYTES} bytes", "N threads, 1 to {MAX_WORKERS}, order"),
     "docs/HEADLINE.md": ("`Workers`, a type of 1 to {MAX_WORKERS}",),
     "docs/GLOSSARY.md": ("without `--large`: {MAX_SESSIONS} sessions, {MAX_TRANSACTIONS} transactions,",),
     "docs/MODEL.md": ("more than {MAX_TRANSACTIONS} transactions, or those of more than {MAX_SESSIONS} sessions",),
