@@ -1,3 +1,4 @@
+pub mod Faulty
 pub mod FramedTexts
 pub mod NoFloats
 pub mod Noting

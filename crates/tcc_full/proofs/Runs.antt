@@ -17,9 +17,9 @@ use Rattle.tcc_rows.specs.Lines.{Record}
 use Rattle.tcc_rows.specs.Recordings.{IsRecorded}
 use Rattle.tcc_rows.specs.declared.fault.RowFault.{RowFault}
 use Rattle.tcc_full.specs.declared.objects.Asked.{Asked}
-use Rattle.tcc_answering.specs.Answered.{IsAnswered}
+use Rattle.tcc_full.specs.declared.finding.Found.{Found}
+use Rattle.tcc_full.specs.FullAnswer.{IsFound}
 use Rattle.tcc_full.specs.Runs.{IsFullRun, TellsFault, TellsFound, TellsMemory, finished, within}
-use Rattle.tcc_answering.specs.declared.answering.Answered.{Answered}
 
 -- the records are told to have a fault
 pub stopped : (asked : Asked) (required : ℕ) (bytes : List ℕ) (fault : RowFault) (before after : Option (List ℕ)) (code : ℕ)
@@ -29,8 +29,8 @@ stopped asked required bytes fault before after code is (inl tells) = inr (inl (
 stopped asked required bytes fault before after code is (inr memory) = inr (inr memory)
 
 -- what is found for all that they finish is reported
-pub told : (asked : Asked) (required : ℕ) (bytes : List ℕ) (s : Sessions) (found : Answered) (before after : Option (List ℕ)) (code : ℕ)
-    → IsRecorded asked.limits bytes (Ok s) → IsAnswered asked.level s found
+pub told : (asked : Asked) (required : ℕ) (bytes : List ℕ) (s : Sessions) (found : Found) (before after : Option (List ℕ)) (code : ℕ)
+    → IsRecorded asked.limits bytes (Ok s) → IsFound asked.level s found
     → TellsFound asked required (within asked.limits bytes) s found before after code ⊎ TellsMemory asked before after code
     → IsFullRun asked required bytes before after code
 told asked required bytes s found before after code whole is (inl tells) =
@@ -38,7 +38,7 @@ told asked required bytes s found before after code whole is (inl tells) =
       whole.0,
       (
         found,
-        subst (λ (s : Sessions). IsAnswered asked.level s found) whole.1 is,
+        subst (λ (s : Sessions). IsFound asked.level s found) whole.1 is,
         subst (λ (s : Sessions). TellsFound asked required (within asked.limits bytes) s found before after code) whole.1 tells,
       ),
     )
@@ -75,9 +75,9 @@ module _ (asked : Asked) (some others : List ℕ) (same : marked (most_bytes ask
   pub run_alike : (required : ℕ) (before after : Option (List ℕ)) (code : ℕ) → within asked.limits some ≡ within asked.limits others
       → IsFullRun asked required some before after code → IsFullRun asked required others before after code
   run_alike required before after code cut (inl tells) =
-      inl (subst (λ (all : Answers). (all.fault ≡ None) × ((found : Answered) × IsAnswered asked.level (finished_in all.items) found
+      inl (subst (λ (all : Answers). (all.fault ≡ None) × ((found : Found) × IsFound asked.level (finished_in all.items) found
       × TellsFound asked required (within asked.limits others) (finished_in all.items) found before after code)) answers_alike
-      (subst (λ (text : List ℕ). ((answers_within asked.limits some).fault ≡ None) × ((found : Answered) × IsAnswered asked.level (finished asked.limits some) found
+      (subst (λ (text : List ℕ). ((answers_within asked.limits some).fault ≡ None) × ((found : Found) × IsFound asked.level (finished asked.limits some) found
       × TellsFound asked required text (finished asked.limits some) found before after code)) cut tells))
   run_alike required before after code cut (inr (inl stops)) = inr (inl (stops.0, recorded_alike stops.0 stops.1, stops.2))
   run_alike required before after code cut (inr (inr memory)) = inr (inr memory)

@@ -16,9 +16,8 @@ use Rattle.tcc_full.specs.Objects.{ended_json, none_json}
 use Rattle.tcc_full.specs.Rows.{HasRowsOf}
 use Rattle.tcc_full.specs.declared.objects.Asked.{Asked}
 use Rattle.tcc_full.specs.declared.rows.OperationRows.{OperationRows}
-use Rattle.tcc_answering.specs.Answered.{IsAnswered}
-use Rattle.tcc_answering.specs.declared.answering.Answered.{Answered}
-use Rattle.tcc_full.specs.FullAnswer.{found_json, found_status, records_by}
+use Rattle.tcc_full.specs.declared.finding.Found.{Found}
+use Rattle.tcc_full.specs.FullAnswer.{IsFound, found_json, found_status, records_by}
 
 -- what the records finish by their end, whatever they seal
 abbrev pub finished : Limits → List ℕ → Sessions
@@ -29,7 +28,7 @@ abbrev pub within : Limits → List ℕ → List ℕ
 within limits bytes = take (most_bytes limits) bytes
 
 -- what is found for a snapshot is written, with the rows of the operations in a text
-abbrev pub TellsFound : Asked → ℕ → List ℕ → Sessions → Answered → Option (List ℕ) → Option (List ℕ) → ℕ → Type 0
+abbrev pub TellsFound : Asked → ℕ → List ℕ → Sessions → Found → Option (List ℕ) → Option (List ℕ) → ℕ → Type 0
 TellsFound asked required text s found before after code =
     (rows : OperationRows) × HasRowsOf text rows
     × Prints before after (json_line (found_json asked required (records_by s rows) found)) (found_status required found) code
@@ -38,7 +37,7 @@ TellsFound asked required text s found before after code =
 abbrev pub TellsAll : Asked → ℕ → List ℕ → Option (List ℕ) → Option (List ℕ) → ℕ → Type 0
 TellsAll asked required bytes before after code =
     ((answers_within asked.limits bytes).fault ≡ None)
-    × ((found : Answered) × IsAnswered asked.level (finished asked.limits bytes) found
+    × ((found : Found) × IsFound asked.level (finished asked.limits bytes) found
     × TellsFound asked required (within asked.limits bytes) (finished asked.limits bytes) found before after code)
 
 -- the fault of the records is written, or that of a reader that failed after lawful ones

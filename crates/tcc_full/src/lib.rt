@@ -2,6 +2,7 @@
 //! records that it speaks of, and the status that the run ends with. Nothing here knows about command lines or files.
 #![tactic(auto)]
 
+mod finding;
 mod framing;
 mod links;
 mod lookup;

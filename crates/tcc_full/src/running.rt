@@ -1,17 +1,16 @@
 //! From the bytes of records to all that is reported of their answer.
-ghost use Rattle.std.specs.Prelude.{◌≡◌, ◌++◌, ℕ, Err, IfOk, IfSome, MatchResult, Ok};
+ghost use Rattle.std.specs.Prelude.{◌≡◌, ◌++◌, ℕ, Err, IfSome, MatchResult, Ok};
 ghost use Rattle.tcc_rows.specs.Recordings.{IsRecorded};
-ghost use Rattle.tcc_answering.specs.Answered.{IsAnswered};
 ghost use Rattle.tcc_full.specs.{Runs.IsFullRun, private.Notes.AreNotesOf};
 
+use crate::finding::{Found, find};
 use crate::objects::Asked;
 use crate::reading::{Failed, within};
 use crate::telling::{tell_fault, tell_found, tell_memory};
 use std::alloc::Global;
 use std::io::{ErrorKind, Read, Write};
 use std::thread::Threads;
-use tcc_answer::Answer;
-use tcc_answering::{Answered, First, answer_of, small_answer};
+use tcc_answering::{AnsweredBounds, First};
 use tcc_explain::Gate;
 use tcc_print::RunContext;
 use tcc_print::notes::{note_order, note_reads};
@@ -23,48 +22,43 @@ use tcc_verdict::recorded;
 fn note<B: Bounds, N: Write>(
     alloc: Global,
     snapshot: &SnapshotWithin<B>,
-    found: &Answered,
+    found: &Found,
     required: u32,
     notes: &mut N,
 )
     ensures { AreNotesOf required snapshot.now found.now (N.contents notes.old) (N.contents notes.new) }
 {
     match found {
-        Answered::Small(Answer::Commit(commit)) => {
-            note_order(alloc, commit.order(), required, notes);
+        Found::Unresolved(faults) => {
+            note_reads(alloc, snapshot, faults, notes);
         }
-        Answered::Large {
+        Found::Resolved {
             first: First::Order(order),
             ..
         } => {
             note_order(alloc, order, required, notes);
         }
-        Answered::Small(Answer::Anomaly(_))
-        | Answered::Large {
+        Found::Resolved {
             first: First::Cycle(_),
             ..
         } => {}
-        Answered::Unresolved(faults) => {
-            note_reads(alloc, snapshot, faults, notes);
-        }
     }
 }
 
-/// Tells what was found for all that the records of a text finish, with the rows of its operations.
-fn say<T: Threads + Sync, G: Gate, B: Bounds, W: Write, N: Write>(
+/// Tells what is found for all that the records of a text finish, with the rows of its operations.
+fn say<T: Threads + Sync, G: Gate, B: AnsweredBounds, W: Write, N: Write>(
     run: &RunContext<T, G>,
     asked: &Asked,
     text: &[u8],
     snapshot: &SnapshotWithin<B>,
-    found: Result<Answered, NoMemory>,
     out: &mut W,
     notes: &mut N,
 ) -> u8
-    ensures { IsRecorded asked.now.limits text.now (Ok snapshot.now) → IfOk found (IsAnswered asked.now.level snapshot.now)
+    ensures { IsRecorded asked.now.limits text.now (Ok snapshot.now)
         → IsFullRun asked.now run.now.options.now.required text.now (W.contents out.old) (W.contents out.new) result }
 {
     let text = within(text, asked.limits);
-    match found {
+    match find(run, snapshot, asked.level) {
         Ok(found) => {
             let code = tell_found(run, asked, text, snapshot, &found, out);
             note(run.alloc, snapshot, &found, run.options.required, notes);
@@ -89,15 +83,11 @@ fn run_lawful<T: Threads + Sync, G: Gate, W: Write, N: Write>(
     match asked.limits {
         Limits::Small => {
             let recording: Recording<&[u8]> = recorded(run.alloc, text, notes)?;
-            let snapshot = recording.snapshot();
-            let found = small_answer(run, snapshot, asked.level);
-            Ok(say(run, asked, text, snapshot, found, out, notes))
+            Ok(say(run, asked, text, recording.snapshot(), out, notes))
         }
         Limits::Large => {
             let recording: LargeRecording<&[u8]> = recorded(run.alloc, text, notes)?;
-            let snapshot = recording.snapshot();
-            let found = answer_of(run, snapshot, asked.level);
-            Ok(say(run, asked, text, snapshot, found, out, notes))
+            Ok(say(run, asked, text, recording.snapshot(), out, notes))
         }
     }
 }

@@ -1,17 +1,19 @@
 //! What is reported of a snapshot, or why nothing was judged, and the number that the run then ends with.
 ghost use Rattle.std.specs.Prelude.{◌≡◌, ◌⊎◌, IfOk, true, false};
+ghost use Rattle.tcc_reads.specs.Traced.{traced_history};
 ghost use Rattle.tcc_answer.specs.Json.{json_line};
 ghost use Rattle.tcc_full.specs.{Records.records_of, Rows.HasRowsOf, declared.rows.OperationRows.OperationRows};
-ghost use Rattle.tcc_full.specs.FullAnswer.{first_json, found_json, found_status, order_json, records_by};
+ghost use Rattle.tcc_full.specs.FullAnswer.{IsFound, first_json, found_json, found_status, order_json, records_by, records_with};
 ghost use Rattle.tcc_full.specs.Runs.{TellsDevice, TellsFault, TellsFound, TellsMemory};
 
+use crate::finding::Found;
 use crate::lookup::Lookup;
 use crate::objects::{Asked, Report, ended_line, row_line};
 use crate::rows::operation_rows;
 use std::alloc::Global;
 use std::io::Write;
-use tcc_answer::{Answer, Labels};
-use tcc_answering::{Answered, First};
+use tcc_answer::Labels;
+use tcc_answering::First;
 use tcc_graph::LargeGraph;
 use tcc_print::printing::{print_memory, print_text};
 use tcc_print::status::{order_status, row_status};
@@ -31,7 +33,7 @@ fn order_line<B: Bounds>(
     report.consistent_line(order, order_status(order, required))
 }
 
-/// The line of a first answer past the small limits, where so many transactions are required of an order.
+/// The line of a first answer, where so many transactions are required of an order.
 fn first_line<B: Bounds>(
     report: &Report<B>,
     required: u32,
@@ -45,60 +47,55 @@ fn first_line<B: Bounds>(
     }
 }
 
-/// The line of what is answered, where so many transactions are required of an order.
+/// The line of what is found, where so many transactions are required of an order.
 fn found_line<B: Bounds>(
     report: &Report<B>,
     required: u32,
-    found: &Answered,
+    found: &Found,
 ) -> Result<Vec<u8>, NoMemory>
     ensures { IfOk result (λ line. line.items ≡ json_line (found_json report.now.asked.now required (records_of report.now.lookup.now) found.now)) }
 {
     match found {
-        Answered::Small(Answer::Commit(commit)) => order_line(report, required, commit.order()),
-        Answered::Small(Answer::Anomaly(anomaly)) => report.anomaly_line(anomaly.links()),
-        Answered::Large { first, .. } => first_line(report, required, first),
-        Answered::Unresolved(faults) => report.unresolved_line(faults),
+        Found::Unresolved(faults) => report.unresolved_line(faults),
+        Found::Resolved { first, .. } => first_line(report, required, first),
     }
 }
 
 /// How a run ends that tells what is found.
-pub(crate) fn found_status(found: &Answered, required: u32) -> Status
+pub(crate) fn found_status(found: &Found, required: u32) -> Status
     ensures { result ≡ found_status required found.now }
 {
     match found {
-        Answered::Small(Answer::Commit(commit)) => order_status(commit.order(), required),
-        Answered::Large {
+        Found::Unresolved(_) => Status::ReadFaults,
+        Found::Resolved {
             first: First::Order(order),
             ..
         } => order_status(order, required),
-        Answered::Small(Answer::Anomaly(_))
-        | Answered::Large {
+        Found::Resolved {
             first: First::Cycle(_),
             ..
         } => Status::Anomaly,
-        Answered::Unresolved(_) => Status::ReadFaults,
     }
 }
 
-/// The line of what is found for a snapshot, with the rows of the operations in a text.
-fn told_line<T, G, B: Bounds>(
+/// The line of what is found for a snapshot, by a graph, with the rows of the operations in a text.
+fn line_by<T, G, B: Bounds>(
     run: &RunContext<T, G>,
     asked: &Asked,
     text: &[u8],
     snapshot: &SnapshotWithin<B>,
-    found: &Answered,
+    graph: &LargeGraph,
+    found: &Found,
 ) -> Result<Vec<u8>, NoMemory>
     ensures { IfOk result (λ line. (rows : OperationRows) × HasRowsOf text.now rows
-        × (line.items ≡ json_line (found_json asked.now run.now.options.now.required (records_by snapshot.now rows) found.now))) }
+        × (line.items ≡ json_line (found_json asked.now run.now.options.now.required (records_with snapshot.now graph.now rows) found.now))) }
 {
     let alloc = run.alloc;
     let rows = operation_rows(alloc, text)?;
-    let Traced { history, .. } = resolve_traced(alloc, snapshot)?;
-    let graph = LargeGraph::build(alloc, history)?;
-    let labels = Labels::of_large(alloc, &graph)?;
+    let labels = Labels::of_large(alloc, graph)?;
     let lookup = Lookup {
         snapshot,
-        graph: &graph,
+        graph,
         labels: &labels,
         rows: &rows,
     };
@@ -108,6 +105,39 @@ fn told_line<T, G, B: Bounds>(
         lookup: &lookup,
     };
     found_line(&report, run.options.required, found)
+}
+
+/// The graph of a snapshot, of which each read that can't be traced is left out.
+fn traced_graph<B: Bounds>(
+    alloc: Global,
+    snapshot: &SnapshotWithin<B>,
+) -> Result<LargeGraph, NoMemory>
+    ensures { IfOk result (λ graph. graph ≡ traced_history snapshot.now) }
+{
+    let Traced { history, .. } = resolve_traced(alloc, snapshot)?;
+    LargeGraph::build(alloc, history)
+}
+
+/// The line of what is found for a snapshot, with the rows of the operations in a text.
+fn told_line<T, G, B: Bounds>(
+    run: &RunContext<T, G>,
+    asked: &Asked,
+    text: &[u8],
+    snapshot: &SnapshotWithin<B>,
+    found: &Found,
+) -> Result<Vec<u8>, NoMemory>
+    requires { IsFound asked.now.level snapshot.now found.now }
+    ensures { IfOk result (λ line. (rows : OperationRows) × HasRowsOf text.now rows
+        × (line.items ≡ json_line (found_json asked.now run.now.options.now.required (records_by snapshot.now rows) found.now))) }
+{
+    match found {
+        Found::Unresolved(_) => {
+            // Of its transactions only the number is reported, and no read changes that.
+            let graph = traced_graph(run.alloc, snapshot)?;
+            line_by(run, asked, text, snapshot, &graph, found)
+        }
+        Found::Resolved { graph, .. } => line_by(run, asked, text, snapshot, graph, found),
+    }
 }
 
 /// Tells that memory is out.
@@ -126,9 +156,10 @@ pub(crate) fn tell_found<T, G, B: Bounds, W: Write>(
     asked: &Asked,
     text: &[u8],
     snapshot: &SnapshotWithin<B>,
-    found: &Answered,
+    found: &Found,
     out: &mut W,
 ) -> u8
+    requires { IsFound asked.now.level snapshot.now found.now }
     ensures { TellsFound asked.now run.now.options.now.required text.now snapshot.now found.now (W.contents out.old) (W.contents out.new) result
         ⊎ TellsMemory asked.now (W.contents out.old) (W.contents out.new) result }
 {

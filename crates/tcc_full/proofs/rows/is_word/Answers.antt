@@ -1,7 +1,7 @@
 use Rattle.std.proofs.Common.{◌≡◌, rules, sym, ◌∙◌}
 use Rattle.csv.specs.Records.{fields_of}
 use Rattle.tcc_txn.specs.Bytes.{same}
-use Rattle.tcc_full.proofs.Noting.{by_word, not_two, wordless}
+use Rattle.tcc_full.proofs.Noting.{by_word, wordless}
 use Rattle.tcc_full.proofs.rows.is_word.Goals as goal
 
 pub returns-in-Some : goal.returns-in-Some

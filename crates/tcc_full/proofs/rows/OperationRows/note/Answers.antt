@@ -1,7 +1,7 @@
 use Rattle.std.proofs.Common.{sym, ap, ◌∙◌}
 use Rattle.csv.specs.Records.{fields_of}
 use Rattle.tcc_full.specs.Rows.{rows_in}
-use Rattle.tcc_full.proofs.Noting.{fieldless, nameless, noted_begin, noted_none, noted_operation, noted_unknown, on_ok}
+use Rattle.tcc_full.proofs.Noting.{fieldless, nameless, noted_begin, noted_operation, noted_unknown, on_ok}
 use Rattle.tcc_full.proofs.rows.OperationRows.note.Goals as goal
 
 pub returns-in_default : goal.returns-in_default
