@@ -1,5 +1,5 @@
 -- How the stages of a run follow one another.
-use Rattle.std.specs.Prelude.{ℕ, ◌≡◌, ◌≢◌, ◌⊎◌, Bool, false, List, [], take, unwrap_or, Option, None, Some, Result, Ok, Err}
+use Rattle.std.specs.Prelude.{ℕ, ◌≡◌, ◌≢◌, ◌⊎◌, Bool, false, true, List, [], take, unwrap_or, Option, None, Some, Result, Ok, Err}
 use Rattle.std.specs.Io.KnownBytes.{Appends}
 use Rattle.tcc_txn.specs.Finished.{KeepsLimits}
 use Rattle.tcc_txn.specs.Snapshots.{Sessions}
@@ -71,10 +71,12 @@ IsOutcome level s (outcome.Tabled a) = (read_faults s ≡ []) × KeepsLimits s �
 IsOutcome level s (outcome.Bare h a) = (read_faults s ≡ []) × KeepsLimits s × (h ≡ history s) × IsBareAnswer (judged h level) a
 IsOutcome level s (outcome.Large h a claim) = (read_faults s ≡ []) × (KeepsLimits s → ⊥) × (h ≡ history s) × IsFound level h a claim
 
--- where a certificate is wanted, an answer within the small limits has its tables
+-- within the small limits an answer has its tables where a certificate is wanted, and only there
 abbrev pub IsCertifiable : Bool → Outcome → Type 0
+IsCertifiable is_certified (outcome.Unresolved faults) = Unit {0}
+IsCertifiable is_certified (outcome.Tabled a) = is_certified ≡ true
 IsCertifiable is_certified (outcome.Bare h a) = is_certified ≡ false
-IsCertifiable is_certified o = Unit {0}
+IsCertifiable is_certified (outcome.Large h a claim) = Unit {0}
 
 -- how it goes out, and how a run ends whose last answer it is
 abbrev pub outcome_text : Bool → Outcome → List ℕ

@@ -1,5 +1,5 @@
 -- How the stages of a run follow one another.
-use Rattle.std.specs.Prelude.{ℕ, ◌≡◌, ◌≢◌, ◌⊎◌, Bool, false, List, [], option_map, unwrap_or, Option, None, Some, IfSome}
+use Rattle.std.specs.Prelude.{ℕ, ◌≡◌, ◌≢◌, ◌⊎◌, Bool, false, true, List, [], option_map, unwrap_or, Option, None, Some, IfSome}
 use Rattle.tcc_txn.specs.Nested.{IsNested}
 use Rattle.tcc_txn.specs.Snapshots.{Sessions}
 use Rattle.tcc_txn.specs.declared.limits.Limits.TheVariants.{Small}
@@ -60,10 +60,11 @@ HasEarlier level s o = IfSome (anomaly_in o) (IsEarlier level s)
 abbrev pub Follows : Level → Sessions → Last Outcome → Type 0
 Follows level s last = HasEarlier level s last.outcome
 
--- where a certificate is wanted, an answer has its tables
+-- an answer has its tables where a certificate is wanted, and only there
 abbrev pub IsCertifiable : Bool → Outcome → Type 0
+IsCertifiable is_certified (outcome.Tabled a) = is_certified ≡ true
 IsCertifiable is_certified (outcome.Bare h a) = is_certified ≡ false
-IsCertifiable is_certified o = Unit {0}
+IsCertifiable is_certified (outcome.Unresolved faults earlier) = Unit {0}
 
 -- the text of a certificate, where there is an answer
 abbrev pub certificate_kept : Option Answer → Option (List ℕ)

@@ -130,8 +130,8 @@ impl Outcome {
         }
     }
 
-    /// What is to be said of a snapshot. Where its certificate isn't wanted, a small one gets no tables, and of another the judge isn't
-    /// asked whether a cycle of more than four steps is a least one.
+    /// What is to be said of a snapshot. Where its certificate isn't wanted, a small one gets no tables. Of another the judge isn't asked
+    /// then whether a cycle of more than four steps is a least one.
     pub(crate) fn of<T: Threads + Sync, G: Gate>(
         run: &RunContext<T, G>,
         snapshot: &LargeSnapshot,

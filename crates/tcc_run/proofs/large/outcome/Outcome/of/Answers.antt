@@ -38,6 +38,9 @@ returns-else-is_small-clause-told g c =
     (λ outcome found. told c.args.run.now.options.now s outcome (large_outcome level s c.in-Bare.graph outcome answered.0 (λ keeps. false≢true (sym c.if-is_small.false ∙ c.is_small.ensures.1 keeps)) answered.2 found))
     (c.of_large.ensures answered.3)
 
+pub returns-in-Tabled-clause-certifiable : goal.returns-in-Tabled-clause-certifiable
+returns-in-Tabled-clause-certifiable g c = (rw c.in-Tabled.is at c.in_ok-answered.ensures).2
+
 -- no certificate is wanted of a small snapshot that has no tables
 pub returns-then-is_small-clause-certifiable : goal.returns-then-is_small-clause-certifiable
 returns-then-is_small-clause-certifiable g c =
