@@ -1,15 +1,15 @@
-//! How many steps the cycle has that is decided of histories in which the finder has to look in more than one way. No contract says how
-//! few it finds: that cycle is judged, and the first of the least ones is looked for then, up to so many steps. So a finder that looks
-//! less far makes that search longer, which these counts show. They were worked out by hand, and are the least: one that leaves out
-//! any of its ways comes to more.
+//! How many steps the cycle has that is decided of histories in which the finder has to look in more than one way. No contract says
+//! how few it finds. Its cycle is judged, and then the first of the least ones is looked for, up to so many steps. So a finder that
+//! looks less far makes that search longer, which these counts show. They were worked out by hand, and no cycle has fewer. A finder
+//! that leaves out one of its ways comes to more.
 use crate::tests::histories::graph_of;
 use std::alloc::Global;
 use std::process::Abort;
 use tcc_graph::{Level, steps_of};
 use tcc_large::decide;
 
-/// A circle of five reads, at the lower numbers, and one of four. Of that three reads lead on behind the one that is tried:
-/// as many as stay below five.
+/// A circle of five reads, at the lower numbers, and one of four. Beside the read that is tried the second has three more,
+/// as many as stay below five steps.
 const ROUNDS: &str = "a,begin\na,r,t,1\na,w,p,1\na,commit\nb,begin\nb,r,p,1\nb,w,q,1\nb,commit\n\
     c,begin\nc,r,q,1\nc,w,r,1\nc,commit\nd,begin\nd,r,r,1\nd,w,s,1\nd,commit\n\
     e,begin\ne,r,s,1\ne,w,t,1\ne,commit\nm,begin\nm,r,x,1\nm,w,u,1\nm,commit\n\
@@ -23,17 +23,17 @@ const FAR_PAIRS: &str =
     b,begin\nb,r,x,1\nb,r,m,1\nb,commit\nb,begin\nb,commit\nb,begin\nb,commit\nb,begin\nb,w,y,1\nb,commit\n\
     c,begin\nc,r,k,1\nc,w,l,1\nc,commit\nd,begin\nd,r,l,1\nd,w,m,1\nd,commit\n";
 
-/// f/1 reads the initial x and y. To it four steps lead from a/1, which wrote x, and from b/2, the last of its session to
-/// write y and another key. From b/1, which wrote y too, three do: so a cycle through `init` has five steps, and six by the
-/// others.
+/// f/1 reads the initial x and y. Four steps lead to it from a/1, which wrote x. From b/2, the last of its session to write
+/// y, it is four too, but three from b/1. So a cycle through `init` has five steps, and six by the others. Another key of
+/// b/2 comes before y.
 const INIT: &str = "a,begin\na,w,x,1\na,w,p,1\na,commit\nb,begin\nb,w,y,1\nb,w,q,1\nb,commit\n\
     b,begin\nb,w,y,2\nb,w,r,1\nb,commit\nc,begin\nc,r,p,1\nc,r,r,1\nc,w,s,1\nc,commit\n\
     d,begin\nd,r,s,1\nd,w,t,1\nd,commit\ne,begin\ne,r,t,1\ne,w,u,1\ne,commit\n\
     f,begin\nf,r,u,1\nf,r,w,1\nf,r,x,0\nf,r,y,0\nf,commit\ng,begin\ng,r,q,1\ng,w,v,1\ng,commit\n\
     h,begin\nh,r,v,1\nh,w,w,1\nh,commit\n";
 
-/// An old x is read from a/1. To its readers five steps lead from a/2 and from a/4, the last to write x; from a/3 four lead
-/// to the second of the readers.
+/// An old x is read from a/1. Five steps lead to its readers from a/2, and from a/4, the last to write x. From a/3 four
+/// lead to the second reader.
 const LATER_WRITERS: &str =
     "a,begin\na,w,x,1\na,commit\na,begin\na,w,x,2\na,commit\na,begin\na,w,x,3\na,w,k,1\na,commit\n\
     a,begin\na,w,x,4\na,w,l,1\na,commit\nb,begin\nb,r,k,1\nb,w,m,1\nb,commit\nc,begin\nc,r,m,1\nc,commit\n\
@@ -42,7 +42,7 @@ const LATER_WRITERS: &str =
     h,begin\nh,r,n,1\nh,r,x,1\nh,commit\n";
 
 /// y/1 reads from r/1 what p/1 and p/2 overwrote. Two steps lead to it from p/1, and four from p/2, the last of its
-/// session. From r/1 two reads lead to p/1: over p/2 the circle has eight steps, and past it five.
+/// session. From r/1 two reads lead to p/1. Over p/2 the circle has eight steps, and past it five.
 const SHORTCUT: &str =
     "p,begin\np,r,m,1\np,w,x,1\np,w,b,1\np,commit\np,begin\np,w,x,2\np,w,c,1\np,commit\n\
     r,begin\nr,w,x,3\nr,w,k,1\nr,commit\ns,begin\ns,r,k,1\ns,w,m,1\ns,commit\n\
@@ -50,8 +50,8 @@ const SHORTCUT: &str =
     v,begin\nv,r,e,1\nv,w,f,1\nv,commit\nw,begin\nw,r,f,1\nw,w,g,1\nw,commit\n\
     y,begin\ny,r,d,1\ny,r,g,1\ny,r,x,3\ny,commit\n";
 
-/// c/1 reads from a/1 what b/1 and b/2 overwrote; it reads from b/1 too, and three steps lead to it from b/2. From a/1
-/// fewest links lead to b/2 over z/1, with seven steps in all. By two reads it comes to b/1, with four.
+/// c/1 reads from a/1 what b/1 and b/2 overwrote. It reads from b/1 too, and three steps lead to it from b/2. From a/1
+/// fewest links lead to b/2 over z/1, with seven steps in all. By two reads a/1 comes to b/1, with four.
 const CLOSING_BY_A_SOURCE: &str =
     "a,begin\na,w,x,1\na,w,k,1\na,commit\nb,begin\nb,r,m,1\nb,w,x,2\nb,w,l,1\nb,commit\n\
     b,begin\nb,w,x,3\nb,w,n,1\nb,w,y,1\nb,commit\nc,begin\nc,r,l,1\nc,r,p,1\nc,r,x,1\nc,commit\n\
@@ -59,16 +59,16 @@ const CLOSING_BY_A_SOURCE: &str =
     n,begin\nn,r,n,1\nn,w,o,1\nn,commit\no,begin\no,r,o,1\no,w,p,1\no,commit\n\
     z,begin\nz,r,k,1\nz,w,y,2\nz,w,z,1\nz,commit\n";
 
-/// c/1 and b/4 read from a/1 what b/5 and b/3 overwrote. Three steps lead from b/5 to c/1, and b/2 reads from a/1: six
-/// steps over b/5, and four over b/3, the last of its session before b/4 to write x.
+/// c/1 and b/4 read an old x from a/1. Three steps lead to c/1 from b/5, the last to write x. Before b/4 that is b/3. As
+/// b/2 reads from a/1, there are six steps over b/5, and four over b/3.
 const CLOSING_BY_ITS_OWN: &str =
     "a,begin\na,w,x,1\na,w,k,1\na,commit\nb,begin\nb,w,x,2\nb,commit\nb,begin\nb,r,k,1\nb,commit\n\
     b,begin\nb,w,x,3\nb,commit\nb,begin\nb,r,x,1\nb,commit\nb,begin\nb,w,x,4\nb,w,l,1\nb,commit\n\
     c,begin\nc,r,n,1\nc,r,x,1\nc,commit\nd,begin\nd,r,l,1\nd,w,m,1\nd,commit\n\
     e,begin\ne,r,m,1\ne,w,n,1\ne,commit\n";
 
-/// a/1 and b/1 have to come before each other, by what c/1 and d/1 read: four steps. So do a/2 before b/1 and b/2 before
-/// a/1, by links of four steps each, which are the ones kept. Over z/1 the circle has seven steps.
+/// a/1 and b/1 have to come before each other, by what c/1 and d/1 read: four steps. The links that are kept are longer:
+/// from a/2 to b/1 and from b/2 to a/1, of four steps each. Over z/1 the circle has seven steps.
 const TWO_CLOSINGS: &str =
     "a,begin\na,w,x,1\na,w,y,1\na,w,i,1\na,w,k,1\na,commit\na,begin\na,w,y,2\na,w,l,1\na,commit\n\
     b,begin\nb,w,x,2\nb,w,y,3\nb,w,j,1\nb,commit\nb,begin\nb,w,x,3\nb,w,m,1\nb,w,u,1\nb,commit\n\
@@ -77,8 +77,8 @@ const TWO_CLOSINGS: &str =
     p,begin\np,r,o,1\np,w,p,1\np,commit\nq,begin\nq,r,l,1\nq,w,n,1\nq,commit\n\
     r,begin\nr,r,n,1\nr,w,q,1\nr,commit\nz,begin\nz,r,i,1\nz,w,u,2\nz,w,z,1\nz,commit\n";
 
-/// A read from a/1 to b/1, with a link of six steps back; and links between p/1 and q/1. One of them has three steps. The
-/// other has two, by the later of two keys and the later of its readers, and three by others.
+/// A read from a/1 to b/1, with a link of six steps back; and links between p/1 and q/1. One of these has three steps. The
+/// other has two, by the later of two keys and the later of its readers. By others it has three.
 const KEYS_AND_READERS: &str =
     "a,begin\na,w,x,1\na,commit\nb,begin\nb,r,x,1\nb,w,x,2\nb,w,k,1\nb,commit\n\
     c,begin\nc,r,k,1\nc,w,l,1\nc,commit\nd,begin\nd,r,l,1\nd,w,m,1\nd,commit\n\
@@ -107,7 +107,7 @@ const WALK_OF_TWO: &str =
     r,begin\nr,w,v,2\nr,w,w,2\nr,w,k,1\nr,commit\ns,begin\ns,r,m,1\ns,w,n,1\ns,commit\n\
     t,begin\nt,r,n,1\nt,r,w,2\nt,commit\n";
 
-/// How many steps the cycle has that is decided of these records at a level, if there is one.
+/// How many steps the cycle decided of these records at a level has, if there is one.
 fn steps_decided(rt: &impl Abort, alloc: Global, records: &str, level: Level) -> Option<usize> {
     let graph = graph_of(rt, alloc, records);
     let (decision, _order) = decide(alloc, &graph, level).expect(rt, "no memory");
@@ -117,7 +117,7 @@ fn steps_decided(rt: &impl Abort, alloc: Global, records: &str, level: Level) ->
     }
 }
 
-/// At each level the cycle has so many steps, which is as few as any has.
+/// At each level the cycle has so many steps. No other has fewer.
 #[test]
 fn steps_found(rt: HostRuntime) {
     let alloc = rt.alloc();
