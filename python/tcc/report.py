@@ -66,6 +66,7 @@ MOST_LISTED = 1000  # steps that are listed
 MOST_SAID = 3  # faults of a kind that lists show by themselves
 SEEN = 360  # of a narrow picture, in a window of 400
 WIDE, NARROW = Size(236, 13, 86, 66, 950, 150), Size(170, 11, 34, 30, 350, 104, 5)
+ACCEPTED_CYCLE = re.compile(r"accepted: cycle, (\d+) steps")
 STOP = re.compile("^stop-")
 OUT_OF_ORDER, DIVERGENT = "versions out of order", "divergent writes"
 ABOUT = {
@@ -408,7 +409,7 @@ def list_plainly(told: Findings, work: Work) -> None:
 
 def searches(certificate: pathlib.Path, check: str) -> bool:
     """Whether the check of a certificate had to search: past four steps version 3 has no tables by which no cycle has fewer."""
-    cycle = re.fullmatch(r"accepted: cycle, (\d+) steps", check)
+    cycle = ACCEPTED_CYCLE.fullmatch(check)
     if cycle is None or int(cycle[1]) <= 4:
         return False
     with certificate.open(encoding="ascii", errors="replace") as file:
