@@ -202,11 +202,12 @@ def surveyed(words):
 
 def sliced(words):
     """What is wrong where there are many records to cut a slice from, or None: that this is shown. The records are within the small
-    limits, and a million of their operations are of no use to the anomaly."""
+    limits, and a million of their operations are of no use to the anomaly. An answer with the tables of a certificate has no graph: so
+    for the slice they are all resolved once more."""
     with tempfile.TemporaryDirectory() as made:
-        history, piece = pathlib.Path(made) / "history", pathlib.Path(made) / "piece"
+        history, certificate, piece = (pathlib.Path(made) / name for name in ("history", "certificate", "piece"))
         history.write_bytes((b"b,begin\n" + 256 * b"b,r,k,0\n" + b"b,commit\n") * 4000 + STALE)
-        text, status = held_up([*words, "--slice", piece, history])
+        text, status = held_up([*words, "--certificate", certificate, "--slice", piece, history])
         kept = piece.read_bytes()
     if status != 1 or "cutting a slice" not in stages_in(text):
         return "status %d, shown %s" % (status, shown(text))
