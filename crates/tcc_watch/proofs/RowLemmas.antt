@@ -7,7 +7,7 @@ use Rattle.std.proofs.lemmas.List.{get_or_default, get_or-set_same, get_or-set_o
 use Rattle.tcc_bits.proofs.Lists.{nothing_in, one_of_taken, still_taken, last_taken}
 use Rattle.tcc_graph.specs.Tables.{row_of}
 use Rattle.tcc_watch.specs.declared.at.At.{At}
-use Rattle.tcc_watch.specs.private.Rows.{last_in, IsLastOver, IsRaisedRow, AreRising, IsFirstWith, IsRaisedBetween, AreRaised}
+use Rattle.tcc_watch.specs.private.Rows.{last_in, GoesTo, IsLastOver, IsRaisedRow, AreRising, IsFirstWith, IsRaisedBetween, AreRaised}
 
 -- a 0 at the end changes nothing
 pub push_zero : (xs : List ℕ) (k : ℕ) → slice_index (xs ++ 0 ∷ []) k ≡ slice_index xs k
@@ -98,18 +98,10 @@ module _ (row : List ℕ) (old now : List (List ℕ)) (numbers : List ℕ) (firs
         ∙ before.others u (λ i low high inside same. apart i low (omega (arith, high)) inside same);
   }
 
--- what a loop over indices that ends where it should, or never began, has raised
-pub between_end : (row : List ℕ) (old new : List (List ℕ)) (numbers : List ℕ) (first index end : ℕ) → first ≤ index → end ≤ index → index ≤ max first end
-    → IsRaisedBetween row old new numbers first index → IsRaisedBetween row old new numbers first end
-between_end row old new numbers first index end from past order between = record {
-  long = between.long;
-  raised = λ i session low high inside. between.raised i session low (omega (arith, high, past)) inside;
-  others = λ v apart. between.others v (λ i low high inside same. apart i low (omega (arith, low, high, past, order)) inside same);
-}
-
--- where the first that go to a and to b are known, those between are the ones that are raised
+-- where those from an index on go to b, it is enough to raise those before it from the first that goes to a
 module _ (a b : At) (row : List ℕ) (old new : List (List ℕ)) (numbers : List ℕ) (first end : ℕ) (rising : AreRising old numbers)
-    (with_a : IsFirstWith old numbers a first) (with_b : IsFirstWith old numbers b end) (between : IsRaisedBetween row old new numbers first end) where
+    (with_a : IsFirstWith old numbers a first) (past : (i : ℕ) → end ≤ i → i < length numbers → GoesTo b (row_of old (slice_index numbers i)))
+    (between : IsRaisedBetween row old new numbers first end) where
   same_row : (i : ℕ) → i < length numbers → (i < first) ⊎ (end ≤ i) → row_of new (slice_index numbers i) ≡ row_of old (slice_index numbers i)
   same_row i inside out = between.others (slice_index numbers i)
       (λ k low high within same. apart out k low high (apart_of numbers rising.ascending k i within inside same))
@@ -121,7 +113,7 @@ module _ (a b : At) (row : List ℕ) (old new : List (List ℕ)) (numbers : List
   each : (i : ℕ) → i < length numbers → (i < first) ⊎ (first ≤ i) → (i < end) ⊎ (end ≤ i)
       → IsRaisedRow a b row (row_of old (slice_index numbers i)) (row_of new (slice_index numbers i))
   each i inside (inl less) e = inl (same_row i inside (inl less), inl (with_a.before i less))
-  each i inside (inr from) (inr more) = inl (same_row i inside (inr more), inr (with_b.from i more inside))
+  each i inside (inr from) (inr more) = inl (same_row i inside (inr more), inr (past i more inside))
   each i inside (inr from) (inl to) = inr (with_a.from i from inside, λ session. between.raised i session from to inside)
 
   pub are_raised : AreRaised a b row old new numbers
@@ -130,3 +122,14 @@ module _ (a b : At) (row : List ℕ) (old new : List (List ℕ)) (numbers : List
     each = λ i inside. each i inside (cases_lt i first) (cases_lt i end);
     others = λ v apart. between.others v (λ i low high inside same. apart (i, inside, get_or_default numbers i v 0 inside ∙ same));
   }
+
+-- where one that isn't raised yet goes to b now, so do it and those after it before any is raised
+pub all_past : (b : At) (row : List ℕ) (old now : List (List ℕ)) (numbers : List ℕ) (first index : ℕ) → AreRising old numbers → index < length numbers
+    → IsRaisedBetween row old now numbers first index → GoesTo b (row_of now (slice_index numbers index)) → (i : ℕ) → index ≤ i → i < length numbers
+    → GoesTo b (row_of old (slice_index numbers i))
+all_past b row old now numbers first index rising within between goes i from inside =
+    let not_yet : row_of now (slice_index numbers index) ≡ row_of old (slice_index numbers index)
+    = between.others (slice_index numbers index)
+    (λ k low high there same. absurd (omega (arith, high, apart_of numbers rising.ascending k index there within same))) in
+    let same = ap (λ (r : List ℕ). slice_index r b.session) not_yet in
+    omega (arith, goes, same, rising.further index i b.session from inside)

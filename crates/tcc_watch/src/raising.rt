@@ -1,5 +1,5 @@
 //! One link more in rows that say what has to stand before what: the row of its end, and those of all behind that, go as far as the
-//! row of its start. In a session these are neighbours, which two galloping searches find, since what is behind a new link
+//! row of its start. In a session these are neighbours, of which a galloping search finds the first, since what is behind a new link
 //! is near the end of each session. For S sessions of N transactions that takes O(S log N) steps at most, and S for each row that is
 //! raised.
 ghost use Rattle.std.specs.Prelude.{OnOk};
@@ -42,9 +42,10 @@ fn raise_session(
     requires { AreRising rows.old numbers.now }
     ensures { OnOk result (AreRaised a b row.now rows.old rows.new numbers.now) }
 {
-    let first = first_with(rows, numbers, a);
-    let end = first_with(rows, numbers, b);
-    for index in first..end {
+    for index in first_with(rows, numbers, a)..numbers.len() {
+        if rows[numbers[index] as usize].goes_to(b) {
+            return Ok(());
+        }
         rows[numbers[index] as usize].raise(row)?;
     }
     Ok(())
