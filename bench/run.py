@@ -5,8 +5,8 @@
 
 A line for each history has medians of milliseconds by `tcc_bench_stages`. First comes what csv alone needs for the records, reading
 them, and reading them into a snapshot. Then come, each without the stages before it, resolving the snapshot, building its graph,
-and looking for the order. So do distances and prices, of which `tcc explain` has need only where there is no order. At last comes
-the rest of `tcc explain`, which is the search, the tables and the text, and the whole of it, with its peak memory. Where a kind has
+and looking for the order. So do distances and prices, of which `tcc explain --certificate` has need only where there is no order. At last comes
+its rest, which is the search, the tables, the text and the certificate, and the whole of it, with its peak memory. Where a kind has
 several sizes, a line below each but the first says by how much each cell is greater than that of the size before. All programs take
 turns. Builds what isn't built. Peak memory is never below that of this script, about 15 MB.
 """
@@ -68,7 +68,7 @@ def row(programs, history, runs, answer):
             seconds.append(seconds_of(programs["tcc_bench_stages"], stage, history, answer))
             if stage == "csv":
                 records = int(answer.read_text())
-        explained.append(measured([programs["tcc"], "explain"], history, answer))
+        explained.append(measured([programs["tcc"], "explain", "--certificate", os.devnull], history, answer))
     with open(answer) as text:
         first = text.readline().strip()
     alone, rows, snapshot, resolve, graph, order, near, derive = map(statistics.median, times)
