@@ -35,20 +35,7 @@ EXAMPLES = TOP / "examples"
 STALE, FORK, CONFLICT, CROSSED = ((EXAMPLES / (name + ".csv")).read_text()
                                   for name in ("stale-read", "long-fork", "conflicting-writes", "causality-cycle"))
 # What a/1 writes reaches c/1 by way of b/1, and c/2 reads the initial value: a walk of three steps, and 20 lines.
-RELAYED = """a,begin
-a,w,x,1
-a,commit
-b,begin
-b,r,x,1
-b,w,y,1
-b,commit
-c,begin
-c,r,y,1
-c,commit
-c,begin
-c,r,x,0
-c,commit
-"""
+RELAYED = (EXAMPLES / "causal-chain-missed.csv").read_text()
 # Records, the level of the answer, and the version of the certificate.
 ASKED = [
     (STALE, "causal", 1),

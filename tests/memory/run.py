@@ -105,20 +105,7 @@ LARGE_CYCLE = b"tcc-certificate 3 causal\ncycle 3 2 3\nS 0 1\nD 1 0 x 2 1\nS 1 2
 ABORTED = b"".join(b"s%d,begin\ns%d,abort\n" % (number, number) for number in range(64))
 PAST = STALE.read_bytes() + ABORTED
 # A stale read that is known by a walk of three steps, in so many sessions.
-FIVE = b"""a,begin
-a,w,x,1
-a,commit
-b,begin
-b,r,x,1
-b,w,y,1
-b,commit
-c,begin
-c,r,y,1
-c,commit
-c,begin
-c,r,x,0
-c,commit
-""" + ABORTED
+FIVE = (EXAMPLES / "causal-chain-missed.csv").read_bytes() + ABORTED
 FIVE_STEPS = b"""anomaly: 5 steps, stale-initial-read
 session init -> a/1
 derived a/1 -> init by x, read by c/2

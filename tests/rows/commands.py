@@ -26,7 +26,7 @@ from options import CYCLE, HISTORIES, LINKS, MANY, STALE, History, Wanted, empty
 SECONDS = 120
 LEVELS = ("causal", "atomic")
 # c has observed a's write by way of b, and then reads the initial value.
-CHAIN = "a,begin\na,w,x,1\na,commit\nb,begin\nb,r,x,1\nb,w,y,1\nb,commit\nc,begin\nc,r,y,1\nc,commit\nc,begin\nc,r,x,0\nc,commit\n"
+CHAIN = (TOP / "examples/causal-chain-missed.csv").read_text()
 CHAIN_LINES = """session init -> a/1
 derived a/1 -> init by x, read by c/2
   reads a/1 -> b/1 by x
